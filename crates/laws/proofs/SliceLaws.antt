@@ -1,0 +1,23 @@
+-- Parts of a list by their places: what `lib.Seq` lacks. Assumes nothing.
+use Prim.Native.Nat.{ℕ, _+_, _≤_}
+use native.Mathlib.Omega.{arith}
+use mathlib.Core.Path.{_≡_, sym, _∙_, ap}
+use mathlib.Core.List.{List, [], _++_}
+use lib.ListN.{length, take, drop, length-take, drop-of-length-le}
+use lib.Seq.{slice, take-add, take-take, drop-at, drop-drop}
+
+-- nothing stands between a place and one not after it
+pub slice-none : (f t : ℕ) (l : List ℕ) → t ≤ f → slice f t l ≡ []
+slice-none f t l h = let k : length (take t l) ≤ f = omega (arith, length-take t l) in drop-of-length-le (take t l) k
+
+-- the first n of a part
+pub take-slice : (f t n : ℕ) (l : List ℕ) → f + n ≤ t → t ≤ length l → take n (slice f t l) ≡ slice f (f + n) l
+take-slice f t n l h k =
+    let e : take (f + n) l ≡ take f (take t l) ++ take n (drop f (take t l)) =
+    sym (take-take (f + n) t l h) ∙ take-add f n (take t l) in
+    let lf : length (take f (take t l)) ≡ f = omega (arith, length-take f (take t l), length-take t l) in
+    sym (ap (drop f) e ∙ drop-at (take f (take t l)) _ f lf)
+
+-- the rest of a part
+pub drop-slice : (f t n : ℕ) (l : List ℕ) → drop n (slice f t l) ≡ slice (f + n) t l
+drop-slice f t n l = drop-drop n f (take t l)

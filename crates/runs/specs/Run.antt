@@ -1,0 +1,93 @@
+-- The values of a list field as a run of varints, each against the old list's value at its place, or against what an absent one counts
+-- as. 01: "A scalar's delta is against the previous value", "List elements count as 0 where the reference has none."
+use Prim.Native.Nat.{ℕ, zero, suc, _+_}
+use mathlib.Core.Bool.{cond}
+use mathlib.Core.Path.{_≡_}
+use mathlib.Core.List.{List, [], _∷_, _++_}
+use lib.Dec.{leb}
+use lib.ListN.{length, drop}
+use lib.Seq.{sets, slice}
+use Rattle.wire.specs.declared.form.Row.{Row}
+use Rattle.wire.specs.declared.varint.Got.{Got}
+use Rattle.wire.specs.declared.varint.Got.the-variants.{Value, Cut}
+use Rattle.wire.specs.declared.zigzag.Coding.{Coding}
+use Rattle.wire.specs.declared.zigzag.Coded.{Coded}
+use Rattle.wire.specs.declared.zigzag.Coded.the-variants.{Number}
+use Rattle.wire.specs.declared.zigzag.Coded.the-variants.{TooWide as Wide}
+use Rattle.wire.specs.declared.zigzag.Reached.{Reached}
+use Rattle.wire.specs.declared.zigzag.Reached.the-variants.{To}
+use Rattle.wire.specs.declared.zigzag.Reached.the-variants.{Outside as Beyond}
+use Rattle.wire.specs.Varint.{readF, encode, sizeOf}
+use Rattle.wire.specs.Zigzag.{codeOf, reached}
+use Rattle.runs.specs.declared.Fill.{Fill}
+use Rattle.runs.specs.declared.Fill.the-variants.{Done, Misfit, Outside}
+use Rattle.runs.specs.declared.Measured.{Measured}
+use Rattle.runs.specs.declared.Measured.the-variants.{Bytes, TooWide}
+
+-- the first of the old values that are left, or what an absent one counts as; and those after it
+abbrev pub first : ℕ → List ℕ → ℕ
+first base [] = base
+first base (x ∷ xs) = x
+
+abbrev pub rest : List ℕ → List ℕ
+rest [] = []
+rest (x ∷ xs) = xs
+
+-- how reading went, and the values that were read before it ended
+pub record Filled : Type 0 where
+  pub answer : Fill
+  pub values : List ℕ
+
+abbrev pub stop : Fill → Filled
+stop a = record { answer = a; values = [] }
+
+abbrev pub more : ℕ → Filled → Filled
+more v f = record { answer = f .answer; values = v ∷ f .values }
+
+abbrev pub onGot : Got → (ℕ → ℕ → Filled) → Filled
+onGot (Value z k) f = f z k
+onGot Cut f = stop Misfit
+
+abbrev pub onReached : Reached → (ℕ → Filled) → Filled
+onReached (To v) f = f v
+onReached Beyond f = stop Outside
+
+-- the bytes have to end with the last number
+abbrev pub ended : List ℕ → Fill
+ended [] = Done
+ended (b ∷ s) = Misfit
+
+module _ (F : List Row) (coding : Coding) (base bound : ℕ) where
+  -- n values off the front of the bytes s
+  unfoldable pub filled : ℕ → List ℕ → List ℕ → Filled
+  filled zero old s = stop (ended s)
+  filled (suc n) old s =
+      onGot (readF F s) (λ z k. onReached (reached coding (first base old) bound z) (λ v. more v (filled n (rest old) (drop k s))))
+
+  -- n values that fill the bytes from the place at to the place end
+  unfoldable pub filledAt : ℕ → List ℕ → List ℕ → ℕ → ℕ → Filled
+  filledAt n old s at end = cond (leb end (length s)) (filled n old (slice at end s)) (stop Misfit)
+
+-- a call answered r, and left what it read from the place `to` on
+pub record FilledAs (f : Filled) (before : List ℕ) (to : ℕ) (r : Fill) (after : List ℕ) : Type 0 where
+  pub answered : r ≡ f .answer
+  pub stored : after ≡ sets before to (f .values)
+
+abbrev pub onCoded : {A : Type 0} → Coded → (ℕ → A) → A → A
+onCoded (Number z) f w = f z
+onCoded Wide f w = w
+
+abbrev pub plus : ℕ → Measured → Measured
+plus k (Bytes n) = Bytes (k + n)
+plus k TooWide = TooWide
+
+module _ (F : List Row) (coding : Coding) (base : ℕ) where
+  -- the bytes of the run for the new list, up to a number too wide
+  unfoldable pub runOf : List ℕ → List ℕ → List ℕ
+  runOf old [] = []
+  runOf old (v ∷ vs) = onCoded (codeOf F coding (first base old) v) (λ z. encode F z ++ runOf (rest old) vs) []
+
+  -- how many they are, or that a number is too wide
+  unfoldable pub measured : List ℕ → List ℕ → Measured
+  measured old [] = Bytes 0
+  measured old (v ∷ vs) = onCoded (codeOf F coding (first base old) v) (λ z. plus (sizeOf F z) (measured (rest old) vs)) TooWide
