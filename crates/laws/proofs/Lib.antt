@@ -4,5 +4,7 @@ pub mod StoreLaws
 pub mod BytesLaws
 pub mod WriteLaws
 pub mod GateLaws
+pub mod LadderLaws
+pub mod TestLaws
 pub mod WalkLaws
 pub mod ByLengthLaws

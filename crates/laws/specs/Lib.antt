@@ -1,5 +1,7 @@
 pub mod Bytes
 pub mod Writes
 pub mod Gate
+pub mod Ladder
+pub mod Tests
 pub mod Walk
 pub mod ByLength

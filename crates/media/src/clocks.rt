@@ -51,10 +51,10 @@ impl TrackTicks {
 
 impl NtpUnits {
     // The number on the wire for this time as a distance from another.
-    pub fn distance(self, form: Form, from: NtpUnits) -> Coded
-        ensures { λ r. ⌜ r ≡ codeOf (rows form) Coding.Delta (from .0) (self .0) ⌝ }
+    pub fn distance(self, form: Form, since: NtpUnits) -> Coded
+        ensures { λ r. ⌜ r ≡ codeOf (rows form) Coding.Delta (since .0) (self .0) ⌝ }
     {
-        wire::zigzag::code(form, Coding::Delta, from.0, self.0)
+        wire::zigzag::code(form, Coding::Delta, since.0, self.0)
     }
 
     // The time that a number on the wire gives as a distance from this one.

@@ -1,0 +1,5 @@
+pub mod OldLaws
+pub mod RunLaws
+pub mod FillLoop
+pub mod MeasureLoop
+pub mod PutLoop

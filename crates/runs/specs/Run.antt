@@ -8,19 +8,14 @@ use lib.Dec.{leb}
 use lib.ListN.{length, drop}
 use lib.Seq.{sets, slice}
 use Rattle.wire.specs.declared.form.Row.{Row}
-use Rattle.wire.specs.declared.varint.Got.{Got}
-use Rattle.wire.specs.declared.varint.Got.the-variants.{Value, Cut}
 use Rattle.wire.specs.declared.zigzag.Coding.{Coding}
 use Rattle.wire.specs.declared.zigzag.Coded.{Coded}
 use Rattle.wire.specs.declared.zigzag.Coded.the-variants.{Number}
 use Rattle.wire.specs.declared.zigzag.Coded.the-variants.{TooWide as Wide}
-use Rattle.wire.specs.declared.zigzag.Reached.{Reached}
-use Rattle.wire.specs.declared.zigzag.Reached.the-variants.{To}
-use Rattle.wire.specs.declared.zigzag.Reached.the-variants.{Outside as Beyond}
-use Rattle.wire.specs.Varint.{readF, encode, sizeOf}
-use Rattle.wire.specs.Zigzag.{codeOf, reached}
-use Rattle.runs.specs.declared.Fill.{Fill}
-use Rattle.runs.specs.declared.Fill.the-variants.{Done, Misfit, Outside}
+use Rattle.wire.specs.Varint.{readF, onGot, encode, sizeOf}
+use Rattle.wire.specs.Zigzag.{codeOf, reached, onReached}
+use Rattle.runs.specs.declared.Outcome.{Outcome}
+use Rattle.runs.specs.declared.Outcome.the-variants.{Done, Misfit, Outside}
 use Rattle.runs.specs.declared.Measured.{Measured}
 use Rattle.runs.specs.declared.Measured.the-variants.{Bytes, TooWide}
 
@@ -35,25 +30,17 @@ rest (x ∷ xs) = xs
 
 -- how reading went, and the values that were read before it ended
 pub record Filled : Type 0 where
-  pub answer : Fill
+  pub answer : Outcome
   pub values : List ℕ
 
-abbrev pub stop : Fill → Filled
+abbrev pub stop : Outcome → Filled
 stop a = record { answer = a; values = [] }
 
 abbrev pub more : ℕ → Filled → Filled
 more v f = record { answer = f .answer; values = v ∷ f .values }
 
-abbrev pub onGot : Got → (ℕ → ℕ → Filled) → Filled
-onGot (Value z k) f = f z k
-onGot Cut f = stop Misfit
-
-abbrev pub onReached : Reached → (ℕ → Filled) → Filled
-onReached (To v) f = f v
-onReached Beyond f = stop Outside
-
 -- the bytes have to end with the last number
-abbrev pub ended : List ℕ → Fill
+abbrev pub ended : List ℕ → Outcome
 ended [] = Done
 ended (b ∷ s) = Misfit
 
@@ -62,14 +49,16 @@ module _ (F : List Row) (coding : Coding) (base bound : ℕ) where
   unfoldable pub filled : ℕ → List ℕ → List ℕ → Filled
   filled zero old s = stop (ended s)
   filled (suc n) old s =
-      onGot (readF F s) (λ z k. onReached (reached coding (first base old) bound z) (λ v. more v (filled n (rest old) (drop k s))))
+      onGot (readF F s)
+      (λ z k. onReached (reached coding (first base old) bound z) (λ v. more v (filled n (rest old) (drop k s))) (stop Outside))
+      (stop Misfit)
 
   -- n values that fill the bytes from the place at to the place end
   unfoldable pub filledAt : ℕ → List ℕ → List ℕ → ℕ → ℕ → Filled
   filledAt n old s at end = cond (leb end (length s)) (filled n old (slice at end s)) (stop Misfit)
 
 -- a call answered r, and left what it read from the place `to` on
-pub record FilledAs (f : Filled) (before : List ℕ) (to : ℕ) (r : Fill) (after : List ℕ) : Type 0 where
+pub record FilledAs (f : Filled) (before : List ℕ) (to : ℕ) (r : Outcome) (after : List ℕ) : Type 0 where
   pub answered : r ≡ f .answer
   pub stored : after ≡ sets before to (f .values)
 

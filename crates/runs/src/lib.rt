@@ -13,7 +13,7 @@ use wire::zigzag::Coding;
 use wire::zigzag::Reached;
 
 // How reading a run went: as many numbers as were wanted fill its bytes and each value is in range, or what came in the way first.
-pub enum Fill {
+pub enum Outcome {
     Done,
     Misfit,
     Outside,
@@ -45,32 +45,32 @@ pub fn fill(
     out: &mut [u64],
     to: usize,
     n: usize,
-) -> Fill
+) -> Outcome
     requires { ⌜ to + n ≤ length (now out) ⌝ }
     ensures { λ r. ⌜ FilledAs (filledAt (rows form) coding base bound n (now (old .entry)) (now (s .entry)) at end) (now (out .entry)) to r (now (out .exit)) ⌝ }
 {
     if s.len() < end {
-        return Fill::Misfit;
+        return Outcome::Misfit;
     }
     let mut p = at;
     let mut i = 0;
     while i < n {
         let g = wire::varint::read(form, s, p, end);
         let Got::Value(z, next) = g else {
-            return Fill::Misfit;
+            return Outcome::Misfit;
         };
         let t = wire::zigzag::reach(coding, old_at(old, i, base), bound, z);
         let Reached::To(v) = t else {
-            return Fill::Outside;
+            return Outcome::Outside;
         };
         out[to + i] = v;
         p = next;
         i += 1;
     }
     if p < end {
-        return Fill::Misfit;
+        return Outcome::Misfit;
     }
-    Fill::Done
+    Outcome::Done
 }
 
 // The bytes of the run for the new list.

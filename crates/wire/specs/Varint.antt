@@ -32,6 +32,11 @@ unfoldable pub readF : List Row → List ℕ → Got
 readF F [] = Cut
 readF F (b ∷ s) = onFound (byFirst F b) (λ r. readIn r b s) Cut
 
+-- what is said of a value and its bytes, or else
+abbrev pub onGot : {A : Type 0} → Got → (ℕ → ℕ → A) → A → A
+onGot (Value v k) f z = f v k
+onGot Cut f z = z
+
 -- a count of bytes from a place becomes the place after them
 abbrev pub shift : ℕ → Got → Got
 shift at (Value v k) = Value v (at + k)

@@ -43,3 +43,8 @@ ranged bound (negsuc m) = Outside
 unfoldable pub reached : Coding → ℕ → ℕ → ℕ → Reached
 reached Plain old bound z = ranged bound (pos z)
 reached Delta old bound z = ranged bound (pos old +ℤ unzigzag z)
+
+-- what is said of a value that was reached, or else
+abbrev pub onReached : {A : Type 0} → Reached → (ℕ → A) → A → A
+onReached (To v) f z = f v
+onReached Outside f z = z

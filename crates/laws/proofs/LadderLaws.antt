@@ -1,0 +1,48 @@
+-- A ladder gives each number exactly when its rule says. Assumes nothing.
+use Prim.Native.Nat.{ℕ}
+use mathlib.Core.Path.{_≡_, refl, sym, _∙_, ap}
+use mathlib.Core.Logic.{_⊎_, inl, inr}
+use mathlib.Core.Bool.{Bool, true, false, false≢true}
+use mathlib.Core.List.{List, [], _∷_, _++_}
+use Rattle.laws.specs.Gate.{gate}
+use Rattle.laws.specs.Ladder.{Rung, _else_, ladder, Given}
+
+-- the number that a ladder gives
+abbrev pub numberOf : List Rung → ℕ
+numberOf rs = ladder rs (λ k. k) 0
+
+abbrev pub Rests : {A : Type 0} → List Rung → (ℕ → A) → A → A → Type 0
+Rests rs refuse done o = ladder rs refuse done ≡ o
+
+-- a rung whose test fails
+pub broken : {A : Type 0} (test : Bool) (n : ℕ) (rs : List Rung) (refuse : ℕ → A) (done : A) → test ≡ false → refuse n ≡ ladder ((test else n) ∷ rs) refuse done
+unfolding ladder gate
+broken test n rs refuse done e = rw e
+
+-- a rung whose test holds
+pub passed : {A : Type 0} (test : Bool) (n : ℕ) (rs : List Rung) (refuse : ℕ → A) (done : A) {o : A} → test ≡ true → o ≡ ladder rs refuse done → o ≡ ladder ((test else n) ∷ rs) refuse done
+unfolding ladder gate
+passed test n rs refuse done e h = rw e h
+
+-- no rung is left
+pub top : {A : Type 0} (refuse : ℕ → A) (done : A) → done ≡ ladder [] refuse done
+unfolding ladder
+top refuse done = refl
+
+-- the number is given exactly when its rule is broken and none before it
+pub given : (rs : List Rung) → Given (numberOf rs) rs
+unfolding ladder gate
+given [] = refl
+given (r ∷ rs) = go (r .test) refl (given rs)
+  where
+    go : (t : Bool) → r .test ≡ t → Given (ladder rs (λ k. k) 0) rs → ((r .test ≡ false) × (gate t (r .number) (ladder rs (λ k. k) 0) ≡ r .number)) ⊎ ((r .test ≡ true) × Given (gate t (r .number) (ladder rs (λ k. k) 0)) rs)
+    go true e g = inr (e, g)
+    go false e g = inl (e, refl)
+
+-- and no other number is
+pub given-one : (rs : List Rung) (j k : ℕ) → Given j rs → Given k rs → j ≡ k
+given-one [] j k p q = p ∙ sym q
+given-one (r ∷ rs) j k (inl p) (inl q) = p .1 ∙ sym (q .1)
+given-one (r ∷ rs) j k (inl p) (inr q) = absurd (false≢true (sym (p .0) ∙ q .0))
+given-one (r ∷ rs) j k (inr p) (inl q) = absurd (false≢true (sym (q .0) ∙ p .0))
+given-one (r ∷ rs) j k (inr p) (inr q) = given-one rs j k (p .1) (q .1)

@@ -1,0 +1,99 @@
+-- Laws of tests: a row of tests taken apart and put together, and what one number that collects bits says of all. Assumes nothing.
+use Prim.Native.Nat.{ℕ, zero, suc, _+_, _-_, _^_, _≤_, _<_}
+use native.Mathlib.Omega.{arith}
+use mathlib.Core.Path.{_≡_, refl, sym, _∙_, ap}
+use mathlib.Core.Bool.{Bool, true, false, false≢true, _&&_}
+use mathlib.Core.List.{List, [], _∷_, _++_}
+use borrow.Author.Tests.{eqb-true, eq-eqb, ne-eqb, eqb-false, leb-true, leb-false, le-leb, lt-leb}
+use lib.Dec.{eqb, leb}
+use lib.Bits.{bitOr, bitAnd, or-add-and, and-le-l, and-le-r, or-lt}
+use lib.ListN.{length, replicate}
+use Rattle.laws.specs.Tests.{_and_, allZero, allLe, allBits, sum}
+
+-- both halves of a row of tests that holds
+pub left : (a b : Bool) → (a and b) ≡ true → a ≡ true
+unfolding _and_
+left true b e = refl
+left false b e = e
+
+pub right : (a b : Bool) → (a and b) ≡ true → b ≡ true
+unfolding _and_
+right true b e = e
+right false b e = absurd (false≢true e)
+
+pub both : (a b : Bool) → a ≡ true → b ≡ true → (a and b) ≡ true
+unfolding _and_
+both a b p q = rw (p, q)
+
+-- a row of tests is what code makes of it
+pub and-is : (a b : Bool) → (a and b) ≡ (a && b)
+unfolding _and_
+and-is true b = refl
+and-is false b = refl
+
+pub and-assoc : (a b c : Bool) → ((a and b) and c) ≡ (a and (b and c))
+unfolding _and_
+and-assoc true b c = refl
+and-assoc false b c = refl
+
+-- two tests that hold together are the same test
+pub same-test : (a b : Bool) → (a ≡ true → b ≡ true) → (b ≡ true → a ≡ true) → a ≡ b
+same-test true b p q = sym (p refl)
+same-test false true p q = q refl
+same-test false false p q = refl
+
+pub allZero-append : (xs ys : List ℕ) → allZero (xs ++ ys) ≡ (allZero xs and allZero ys)
+unfolding allZero _and_
+allZero-append [] ys = refl
+allZero-append (x ∷ xs) ys = ap (λ (b : Bool). eqb x 0 and b) (allZero-append xs ys) ∙ sym (and-assoc (eqb x 0) (allZero xs) (allZero ys))
+
+pub allZero-zeros : (n : ℕ) → allZero (replicate n 0) ≡ true
+unfolding allZero _and_
+allZero-zeros zero = refl
+allZero-zeros (suc n) = allZero-zeros n
+
+-- a list all of whose numbers are 0 is known by its length
+pub zeros-are : (s : List ℕ) → allZero s ≡ true → s ≡ replicate (length s) 0
+unfolding allZero
+zeros-are [] e = refl
+zeros-are (x ∷ s) e = λ j. eqb-true x 0 (left _ _ e) j ∷ zeros-are s (right _ _ e) j
+
+or-zero : (a b : ℕ) → eqb (bitOr a b) 0 ≡ (eqb a 0 and eqb b 0)
+or-zero a b =
+    same-test _ _
+    (λ e.
+    let z : bitOr a b ≡ 0 = eqb-true _ _ e in
+    let p : a ≡ 0 = omega (arith, or-add-and a b, and-le-r a b) in
+    let q : b ≡ 0 = omega (arith, or-add-and a b, and-le-l a b) in
+    both _ _ (eq-eqb a 0 p) (eq-eqb b 0 q))
+    (λ e.
+    let p : a ≡ 0 = eqb-true a 0 (left _ _ e) in
+    let q : b ≡ 0 = eqb-true b 0 (right _ _ e) in
+    eq-eqb (bitOr a b) 0 (omega (arith, or-add-and a b)))
+
+-- the collected bits are 0 just where every number is
+pub bits-zero : (s : List ℕ) → eqb (allBits s) 0 ≡ allZero s
+unfolding allBits allZero
+bits-zero [] = refl
+bits-zero (x ∷ s) = or-zero x (allBits s) ∙ ap (λ (b : Bool). eqb x 0 and b) (bits-zero s)
+
+or-le : (k a b : ℕ) → leb (bitOr a b) (2 ^ k - 1) ≡ (leb a (2 ^ k - 1) and leb b (2 ^ k - 1))
+or-le k a b =
+    same-test _ _
+    (λ e.
+    let z : bitOr a b ≤ 2 ^ k - 1 = leb-true _ _ e in
+    both _ _ (le-leb a (2 ^ k - 1) (omega (arith, or-add-and a b, and-le-r a b))) (le-leb b (2 ^ k - 1) (omega (arith, or-add-and a b, and-le-l a b))))
+    (λ e.
+    let p : a ≤ 2 ^ k - 1 = leb-true _ _ (left _ _ e) in
+    let q : b ≤ 2 ^ k - 1 = leb-true _ _ (right _ _ e) in
+    let o : 1 ≤ 2 ^ k = one-le in
+    le-leb (bitOr a b) (2 ^ k - 1) (omega (arith, or-lt k a b (omega arith) (omega arith))))
+  where
+    one-le : 1 ≤ 2 ^ k
+    one-le = lib.Pow.pow-pos k
+
+-- the collected bits are within a bound of ones just where every number is
+pub bits-le : (k : ℕ) (s : List ℕ) → leb (allBits s) (2 ^ k - 1) ≡ allLe (2 ^ k - 1) s
+unfolding allBits allLe
+bits-le k [] = le-leb 0 (2 ^ k - 1) (omega arith)
+bits-le k (x ∷ s) = or-le k x (allBits s) ∙ ap (λ (b : Bool). leb x (2 ^ k - 1) and b) (bits-le k s)

@@ -1,0 +1,31 @@
+-- Tests of numbers, of lists of them, and rows of tests.
+use Prim.Native.Nat.{ℕ, _+_}
+use mathlib.Core.Bool.{Bool, true, false}
+use mathlib.Core.List.{List, [], _∷_}
+use lib.Dec.{eqb, leb}
+use lib.Bits.{bitOr}
+
+-- both tests hold: a conjunction that stays shut, so that a law can take a long row of tests apart
+infixr 40 _and_
+unfoldable pub _and_ : Bool → Bool → Bool
+true and b = b
+false and b = false
+
+-- every number is 0
+unfoldable pub allZero : List ℕ → Bool
+allZero [] = true
+allZero (x ∷ xs) = eqb x 0 and allZero xs
+
+-- every number is at most the bound
+unfoldable pub allLe : ℕ → List ℕ → Bool
+allLe bound [] = true
+allLe bound (x ∷ xs) = leb x bound and allLe bound xs
+
+-- the bits that are set in one number or another
+unfoldable pub allBits : List ℕ → ℕ
+allBits [] = 0
+allBits (x ∷ xs) = bitOr x (allBits xs)
+
+unfoldable pub sum : List ℕ → ℕ
+sum [] = 0
+sum (x ∷ xs) = x + sum xs

@@ -1,0 +1,2 @@
+pub mod FlagLaws
+pub mod ClockLaws
