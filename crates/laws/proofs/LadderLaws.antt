@@ -11,9 +11,6 @@ use Rattle.laws.specs.Ladder.{Rung, _else_, ladder, Given}
 abbrev pub numberOf : List Rung → ℕ
 numberOf rs = ladder rs (λ k. k) 0
 
-abbrev pub Rests : {A : Type 0} → List Rung → (ℕ → A) → A → A → Type 0
-Rests rs refuse done o = ladder rs refuse done ≡ o
-
 -- a rung whose test fails
 pub broken : {A : Type 0} (test : Bool) (n : ℕ) (rs : List Rung) (refuse : ℕ → A) (done : A) → test ≡ false → refuse n ≡ ladder ((test else n) ∷ rs) refuse done
 unfolding ladder gate
@@ -46,3 +43,42 @@ given-one (r ∷ rs) j k (inl p) (inl q) = p .1 ∙ sym (q .1)
 given-one (r ∷ rs) j k (inl p) (inr q) = absurd (false≢true (sym (p .0) ∙ q .0))
 given-one (r ∷ rs) j k (inr p) (inl q) = absurd (false≢true (sym (q .0) ∙ p .0))
 given-one (r ∷ rs) j k (inr p) (inr q) = given-one rs j k (p .1) (q .1)
+
+-- every test of the ladder holds
+abbrev pub Hold : List Rung → Type 0
+Hold [] = Unit {0}
+Hold (r ∷ rs) = (r .test ≡ true) × Hold rs
+
+module _ {A : Type 0} (P : A → Type 0) (refuse : ℕ → A) where
+  -- P holds of each refusal that the ladder can give
+  abbrev pub Each : List Rung → Type 0
+  Each [] = Unit {0}
+  Each (r ∷ rs) = P (refuse (r .number)) × Each rs
+
+  -- what holds of each refusal, and of what is done where every test holds, holds of what the ladder gives
+  pub climbs : (rs : List Rung) (done : A) → Each rs → (Hold rs → P done) → P (ladder rs refuse done)
+  unfolding ladder gate
+  climbs [] done e d = d tt
+  climbs (r ∷ rs) done e d = go (r .test) refl (λ q. climbs rs done (e .1) (λ h. d (q, h)))
+    where
+      go : (b : Bool) → r .test ≡ b → (r .test ≡ true → P (ladder rs refuse done)) → P (gate b (refuse (r .number)) (ladder rs refuse done))
+      go true q k = k q
+      go false q k = e .0
+
+-- one ladder on top of another is one ladder
+pub ladder-append : {A : Type 0} (rs qs : List Rung) (refuse : ℕ → A) (done : A) → ladder (rs ++ qs) refuse done ≡ ladder rs refuse (ladder qs refuse done)
+unfolding ladder
+ladder-append [] qs refuse done = refl
+ladder-append (r ∷ rs) qs refuse done = ap (gate (r .test) (refuse (r .number))) (ladder-append rs qs refuse done)
+
+-- what is seen of an answer is the answer of the ladder as it is seen
+pub ladder-seen : {A B : Type 0} (h : A → B) (rs : List Rung) (refuse : ℕ → A) (done : A)
+    → h (ladder rs refuse done) ≡ ladder rs (λ k. h (refuse k)) (h done)
+unfolding ladder gate
+ladder-seen h [] refuse done = refl
+ladder-seen h (r ∷ rs) refuse done = go (r .test) (ladder-seen h rs refuse done)
+  where
+    go : (b : Bool) → h (ladder rs refuse done) ≡ ladder rs (λ k. h (refuse k)) (h done)
+        → h (gate b (refuse (r .number)) (ladder rs refuse done)) ≡ gate b (h (refuse (r .number))) (ladder rs (λ k. h (refuse k)) (h done))
+    go true e = e
+    go false e = refl

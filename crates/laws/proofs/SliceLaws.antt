@@ -4,7 +4,7 @@ use native.Mathlib.Omega.{arith}
 use mathlib.Core.Path.{_≡_, sym, _∙_, ap}
 use mathlib.Core.List.{List, [], _++_}
 use lib.ListN.{length, take, drop, length-take, drop-of-length-le}
-use lib.Seq.{slice, take-add, take-take, drop-at, drop-drop}
+use lib.Seq.{slice, take-add, take-take, take-all, drop-at, drop-drop}
 
 -- nothing stands between a place and one not after it
 pub slice-none : (f t : ℕ) (l : List ℕ) → t ≤ f → slice f t l ≡ []
@@ -21,3 +21,7 @@ take-slice f t n l h k =
 -- the rest of a part
 pub drop-slice : (f t n : ℕ) (l : List ℕ) → drop n (slice f t l) ≡ slice (f + n) t l
 drop-slice f t n l = drop-drop n f (take t l)
+
+-- a part that goes to the list's end
+pub slice-to-end : (f n : ℕ) (l : List ℕ) → length l ≡ n → slice f n l ≡ drop f l
+slice-to-end f n l e = ap (drop f) (take-all n l (omega arith))

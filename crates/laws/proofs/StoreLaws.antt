@@ -2,10 +2,11 @@
 use Prim.Native.Nat.{ℕ, zero, suc, _+_, _-_, _≤_, _<_}
 use native.Mathlib.Nat.{zero-add, suc-add, add-zero, add-suc}
 use native.Mathlib.Omega.{arith}
+use native.Mathlib.Numerals.{add-one}
 use mathlib.Core.Path.{_≡_, refl, sym, _∙_, ap}
-use mathlib.Core.List.{List, [], _∷_, _++_}
-use lib.ListN.{length, set, take, drop, take-append-drop, length-set}
-use lib.Seq.{sets, set-comm, set-append-left, length-take-le}
+use mathlib.Core.List.{List, [], _∷_, _++_, append-assoc}
+use lib.ListN.{length, set, take, drop, replicate, take-append-drop, length-set}
+use lib.Seq.{sets, set-comm, set-append-left, length-take-le, take-suc-set, drop-set-lt}
 use borrow.Rule.Slice.PartMut.{putMid, midOf, postOf, mid-len}
 
 -- a run after a run
@@ -50,3 +51,19 @@ put-sets a e xs vs h g l =
     let run : sets (A ++ (M ++ P)) (length A + 0) vs ≡ A ++ (sets M 0 vs ++ P) =
     sets-after vs A (M ++ P) 0 ∙ ap (λ (z : List ℕ). A ++ z) (sets-before vs M P 0 lm) in
     sym (ap (λ (z : List ℕ). sets z a vs) (sym whole) ∙ ap (λ (n : ℕ). sets (A ++ (M ++ P)) n vs) (sym la) ∙ run)
+
+-- the list s with 0 from the place i up to the place to
+abbrev pub cleared : List ℕ → ℕ → ℕ → List ℕ
+cleared s i to = take i s ++ (replicate (to - i) 0 ++ drop to s)
+
+-- a loop that stores 0: one store more, and none left
+pub clear-more : (s : List ℕ) (i to : ℕ) → i < to → to ≤ length s → cleared (set s i 0) (i + 1) to ≡ cleared s i to
+clear-more s i to h l =
+    let e : to - i ≡ suc (to - suc i) = omega arith in
+    let k : i < length s = omega arith in
+    rw (add-one, take-suc-set s i 0 k, drop-set-lt to s i 0 h, e) (append-assoc (take i s) (0 ∷ []) _)
+
+pub clear-end : (s : List ℕ) (i to : ℕ) → i ≡ to → cleared s i to ≡ s
+clear-end s i to q =
+    let e : to - i ≡ 0 = omega arith in
+    rw (e, q) (take-append-drop to s)

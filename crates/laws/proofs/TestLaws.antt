@@ -1,12 +1,13 @@
 -- Laws of tests: a row of tests taken apart and put together, and what one number that collects bits says of all. Assumes nothing.
-use Prim.Native.Nat.{ℕ, zero, suc, _+_, _-_, _^_, _≤_, _<_}
+use Prim.Native.Nat.{ℕ, zero, suc, _+_, _-_, _*_, _/_, _%_, _^_, _≤_, _<_, max}
 use native.Mathlib.Omega.{arith}
-use mathlib.Core.Path.{_≡_, refl, sym, _∙_, ap}
+use mathlib.Core.Path.{_≡_, refl, sym, _∙_, ap, ap₂}
 use mathlib.Core.Bool.{Bool, true, false, false≢true, _&&_}
 use mathlib.Core.List.{List, [], _∷_, _++_}
 use borrow.Author.Tests.{eqb-true, eq-eqb, ne-eqb, eqb-false, leb-true, leb-false, le-leb, lt-leb}
 use lib.Dec.{eqb, leb}
-use lib.Bits.{bitOr, bitAnd, or-add-and, and-le-l, and-le-r, or-lt}
+use lib.Arith.{bin-ind, digits-mod}
+use lib.Bits.{bitOr, bitAnd, or-add-and, and-le-l, and-le-r, or-lt, or-step, or-shr}
 use lib.ListN.{length, replicate}
 use Rattle.laws.specs.Tests.{_and_, allZero, allLe, allBits, sum}
 
@@ -35,6 +36,18 @@ pub and-assoc : (a b c : Bool) → ((a and b) and c) ≡ (a and (b and c))
 unfolding _and_
 and-assoc true b c = refl
 and-assoc false b c = refl
+
+-- a loop's test so far, one test more, and those that are left
+pub and-next : (a b c : Bool) → ((a && b) and c) ≡ (a and (b and c))
+unfolding _and_
+and-next true b c = refl
+and-next false b c = refl
+
+-- no test is left
+pub and-end : (a : Bool) → (a and true) ≡ a
+unfolding _and_
+and-end true = refl
+and-end false = refl
 
 -- two tests that hold together are the same test
 pub same-test : (a b : Bool) → (a ≡ true → b ≡ true) → (b ≡ true → a ≡ true) → a ≡ b
@@ -97,3 +110,22 @@ pub bits-le : (k : ℕ) (s : List ℕ) → leb (allBits s) (2 ^ k - 1) ≡ allLe
 unfolding allBits allLe
 bits-le k [] = le-leb 0 (2 ^ k - 1) (omega arith)
 bits-le k (x ∷ s) = or-le k x (allBits s) ∙ ap (λ (b : Bool). leb x (2 ^ k - 1) and b) (bits-le k s)
+
+-- the lowest bit of collected bits
+or-odd : (a b : ℕ) → bitOr a b % 2 ≡ max (a % 2) (b % 2)
+or-odd a b = ap (λ (n : ℕ). n % 2) (or-step a b) ∙ digits-mod (bitOr (a / 2) (b / 2)) (omega arith)
+
+-- the largest of three
+max-assoc : (a b c : ℕ) → max (max a b) c ≡ max a (max b c)
+max-assoc a b c = omega arith
+
+-- bits are collected in any grouping
+pub or-assoc : (a b c : ℕ) → bitOr (bitOr a b) c ≡ bitOr a (bitOr b c)
+or-assoc a =
+    bin-ind (λ (n : ℕ). (b c : ℕ) → bitOr (bitOr n b) c ≡ bitOr n (bitOr b c)) (λ b c. refl)
+    (λ n ih b c.
+    or-step (bitOr n b) c
+    ∙ ap₂ (λ (x y : ℕ). bitOr x (c / 2) * 2 + max y (c % 2)) (or-shr n b 1) (or-odd n b)
+    ∙ ap₂ (λ (x y : ℕ). x * 2 + y) (ih (b / 2) (c / 2)) (max-assoc (n % 2) (b % 2) (c % 2))
+    ∙ sym (or-step n (bitOr b c) ∙ ap₂ (λ (x y : ℕ). bitOr (n / 2) x * 2 + max (n % 2) y) (or-shr b c 1) (or-odd b c)))
+    a

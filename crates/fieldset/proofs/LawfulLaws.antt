@@ -1,0 +1,134 @@
+-- Lawful words: what code finds of them, and what is known of them. Assumes nothing.
+use Prim.Native.Nat.{ℕ, _+_, _-_, _/_, _^_, _≤_, _<_}
+use native.Mathlib.Omega.{arith}
+use mathlib.Core.Path.{_≡_, refl, sym, _∙_, ap}
+use mathlib.Core.Bool.{Bool, true, false, not, _&&_, _||_}
+use mathlib.Core.List.{List, [], _∷_}
+use borrow.Author.Tests.{leb-true, le-leb, lt-leb}
+use lib.Dec.{eqb, leb}
+use lib.ListN.{getD}
+use lib.Seq.{slice}
+use Rattle.laws.specs.Tests.{_and_, allZero, allLe, sum}
+use Rattle.laws.proofs.TestLaws.{left, right}
+use Rattle.laws.proofs.GateLaws.{failed, held}
+use Rattle.track.specs.declared.Track.{Track}
+use Rattle.fieldset.specs.declared.lines.Line.{Line}
+use Rattle.fieldset.specs.declared.lines.Measure.{Measure}
+use Rattle.fieldset.specs.declared.lawful.Tally.{Tally}
+use Rattle.fieldset.specs.Lines.{lines, spare, lineFor, wanted, bmdtAt, countAt}
+use Rattle.fieldset.specs.Lawful.{has, inUse, valuesOf, regionOk, regionsOk, saizOk, setRules, sameIvSize, measureOf, lawful, TallyOf}
+use Rattle.fieldset.proofs.LineLaws.{line-count, every, every-at}
+use Rattle.fieldset.proofs.TallyLaws.{saiz-is}
+
+-- the words of the subsample counts
+pub counts-are : (n : ℕ) (w : List ℕ) → valuesOf 11 n w ≡ slice 399 (399 + inUse (getD w 398 0) n) w
+unfolding valuesOf lineFor lines
+counts-are n w = refl
+
+-- id 16 is absent, or its value is the parameter
+iv-size-is : (t : Track) (w : List ℕ) → sameIvSize t w ≡ (eqb (getD w 979 0) 0 || eqb (getD w 980 0) (t .«iv_size»))
+unfolding sameIvSize has lineFor lines
+iv-size-is t w = go (eqb (getD w 979 0) 0)
+  where
+    go : (a : Bool) → (not (not a) || eqb (getD w 980 0) (t .«iv_size»)) ≡ (a || eqb (getD w 980 0) (t .«iv_size»))
+    go true = refl
+    go false = refl
+
+module _ (t : Track) (w : List ℕ) where
+  -- what code finds of words: too many samples
+  pub many-samples : 64 < getD w countAt 0 → false ≡ lawful t w
+  unfolding lawful _and_
+  many-samples h = rw (lt-leb (getD w countAt 0) 64 h)
+
+  module _ (few : getD w countAt 0 ≤ 64) (iv : t .«iv_size» ≤ 16) (u : ℕ) (eu : u ≡ inUse (getD w 398 0) (getD w countAt 0))
+      (c : Tally) (ec : TallyOf c ((253 - t .«iv_size») / 6) (slice 399 (399 + u) w)) where
+    -- the tallied words are the subsample counts
+    counted : slice 399 (399 + u) w ≡ valuesOf 11 (getD w countAt 0) w
+    counted = rw eu (sym (counts-are (getD w countAt 0) w))
+
+    -- their tally tests what `saiz` asks
+    tested : c .ok ≡ saizOk (t .«iv_size») (valuesOf 11 (getD w countAt 0) w)
+    tested = ec .within ∙ rw counted (sym (saiz-is (t .«iv_size») (valuesOf 11 (getD w countAt 0) w) (omega arith)))
+
+    -- too many subsamples in one sample
+    pub many-subsamples : not (c .ok) ≡ true → false ≡ lawful t w
+    unfolding lawful _and_
+    many-subsamples h = rw (le-leb (getD w countAt 0) 64 few, failed tested h)
+
+    -- and the tests that are left
+    pub lawful-rest : not (c .ok) ≡ false → (a b : Bool)
+        → a ≡ regionsOk (record { count = getD w countAt 0; ivs = t .«iv_size» / 8; sum = c .sum }) lines w → b ≡ setRules t (getD w countAt 0) w
+        → (leb (getD w bmdtAt 0) (2 ^ 62 - 1) && (leb (c .sum) 256 && (a && (b && (eqb (getD w 979 0) 0 || eqb (getD w 980 0) (t .«iv_size»))))))
+        ≡ lawful t w
+    unfolding lawful _and_
+    lawful-rest h a b ea eb =
+        let n : c .sum ≡ sum (valuesOf 11 (getD w countAt 0) w) = ec .total (held refl h) ∙ ap sum counted in
+        rw (ea, eb, n, le-leb (getD w countAt 0) 64 few, held tested h, iv-size-is t w)
+
+-- how many values of a line's field are in use
+abbrev pub usedOf : Measure → Line → List ℕ → ℕ
+usedOf m l w = inUse (getD w (l .place) 0) (wanted (l .want) m)
+
+-- what is known of a lawful region
+pub record Region (m : Measure) (l : Line) (w : List ℕ) : Type 0 where
+  pub room : usedOf m l w ≤ l .room
+  pub mark : getD w (l .place) 0 ≤ 1
+  pub values : allLe (l .bound) (slice (l .place + 1) (l .place + 1 + usedOf m l w) w) ≡ true
+  pub rest : allZero (slice (l .place + 1 + usedOf m l w) (l .place + 1 + l .room) w) ≡ true
+
+-- a lawful region, fact by fact
+pub region-facts : (m : Measure) (l : Line) (w : List ℕ) → regionOk m l w ≡ true → Region m l w
+unfolding regionOk
+region-facts m l w e =
+    let e₂ = right _ _ e in
+    let e₃ = right _ _ e₂ in
+    record {
+      room = leb-true _ _ (left _ _ e);
+      mark = leb-true _ _ (left _ _ e₂);
+      values = left _ _ e₃;
+      rest = right _ _ e₃;
+    }
+
+-- lawful regions are so one by one
+regions-every : (m : Measure) (ls : List Line) (w : List ℕ) → regionsOk m ls w ≡ every (λ l. regionOk m l w) ls
+unfolding regionsOk every
+regions-every m [] w = refl
+regions-every m (l ∷ ls) w = ap (λ (b : Bool). regionOk m l w and b) (regions-every m ls w)
+
+-- the region of the line with the number i
+pub region-at : (m : Measure) (w : List ℕ) (i : ℕ) → regionsOk m lines w ≡ true → i < 14 → regionOk m (getD lines i spare) w ≡ true
+region-at m w i e h =
+    every-at (λ l. regionOk m l w) lines i spare (sym (regions-every m lines w) ∙ e) (omega (arith, line-count))
+
+-- what is known of lawful words
+pub record Lawful (t : Track) (w : List ℕ) : Type 0 where
+  pub count : getD w countAt 0 ≤ 64
+  pub saiz : saizOk (t .«iv_size») (valuesOf 11 (getD w countAt 0) w) ≡ true
+  pub bmdt : getD w bmdtAt 0 ≤ 2 ^ 62 - 1
+  pub subsamples : sum (valuesOf 11 (getD w countAt 0) w) ≤ 256
+  pub regions : regionsOk (measureOf t w) lines w ≡ true
+  pub rules : setRules t (getD w countAt 0) w ≡ true
+  pub iv-size : sameIvSize t w ≡ true
+
+-- lawful words, fact by fact
+pub lawful-facts : (t : Track) (w : List ℕ) → lawful t w ≡ true → Lawful t w
+unfolding lawful
+lawful-facts t w e =
+    let e₂ = right _ _ e in
+    let e₃ = right _ _ e₂ in
+    let e₄ = right _ _ e₃ in
+    let e₅ = right _ _ e₄ in
+    let e₆ = right _ _ e₅ in
+    record {
+      count = leb-true _ _ (left _ _ e);
+      saiz = left _ _ e₂;
+      bmdt = leb-true _ _ (left _ _ e₃);
+      subsamples = leb-true _ _ (left _ _ e₄);
+      regions = left _ _ e₅;
+      rules = left _ _ e₆;
+      iv-size = right _ _ e₆;
+    }
+
+-- lawful words, region by region
+pub lawful-region : (t : Track) (w : List ℕ) (i : ℕ) → lawful t w ≡ true → i < 14 → Region (measureOf t w) (getD lines i spare) w
+lawful-region t w i e h = region-facts _ _ w (region-at (measureOf t w) w i (lawful-facts t w e .regions) h)

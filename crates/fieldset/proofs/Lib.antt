@@ -1,0 +1,5 @@
+pub mod ScanLaws
+pub mod LineLaws
+pub mod RegionLaws
+pub mod TallyLaws
+pub mod LawfulLaws

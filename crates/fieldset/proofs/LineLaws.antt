@@ -1,0 +1,139 @@
+-- The table of lines: what is computed over all of it, and what that says of each line. Assumes nothing.
+use Prim.Native.Nat.{ℕ, zero, suc, _+_, _-_, _^_, _≤_, _<_, zero-le}
+use native.Mathlib.Nat.{not-suc-le-zero, le-of-suc-le-suc}
+use native.Mathlib.Numerals.{add-one}
+use native.Mathlib.Omega.{arith}
+use mathlib.Core.Path.{_≡_, refl, sym, _∙_}
+use mathlib.Core.Bool.{Bool, true, false, false≢true, not, _||_}
+use mathlib.Core.List.{List, [], _∷_}
+use borrow.Author.Tests.{eqb-true, eq-eqb, leb-true}
+use lib.Dec.{eqb, leb}
+use lib.ListN.{length, getD, drop, drop-of-length-le, List·getD-eq-default}
+use lib.Seq.{drop-cons}
+use Rattle.laws.specs.Tests.{_and_}
+use Rattle.laws.proofs.TestLaws.{left, right}
+use Rattle.fieldset.specs.declared.lines.Want.{Want}
+use Rattle.fieldset.specs.declared.lines.Want.the-variants.{One, LessOne, Count, Ivs, Sum}
+use Rattle.fieldset.specs.declared.lines.Line.{Line}
+use Rattle.fieldset.specs.declared.lines.Measure.{Measure}
+use Rattle.fieldset.specs.Lines.{lines, spare, setLen, wanted}
+use Rattle.fieldset.specs.Lawful.{Shaped}
+
+-- a number is none of those below n, as the last arm of a match knows it
+abbrev pub None : ℕ → ℕ → Type 0
+None zero i = Unit {0}
+None (suc n) i = None n i × (i ≡ n → ⊥)
+
+-- and so it is n or more
+pub from-none : (n i : ℕ) → None n i → n ≤ i
+from-none zero i h = zero-le
+from-none (suc n) i h = let e : i ≡ n → ⊥ = h .1 in omega (arith, from-none n i (h .0))
+
+-- the lines of the table
+pub line-count : length lines ≡ 14
+unfolding lines
+line-count = refl
+
+-- a line under its number
+pub line-is : (k : ℕ) {i : ℕ} {r : Line} → i ≡ k → r ≡ getD lines k spare → r ≡ getD lines i spare
+line-is k e h = rw e h
+
+-- past the table
+pub line-past : (i : ℕ) {r : Line} → 14 ≤ i → r ≡ spare → r ≡ getD lines i spare
+line-past i h e = e ∙ sym (List·getD-eq-default lines spare {n = i} (omega (arith, line-count)))
+
+-- the line at a number and those after it
+pub line-here : (i : ℕ) → i < 14 → drop i lines ≡ getD lines i spare ∷ drop (i + 1) lines
+line-here i h = let k : i < length lines = omega (arith, line-count) in rw add-one (drop-cons lines i spare k)
+
+-- no line is left
+pub no-lines : (i : ℕ) → 14 ≤ i → drop i lines ≡ []
+no-lines i h = let k : length lines ≤ i = omega (arith, line-count) in drop-of-length-le lines k
+
+-- what is wanted is known under another name
+pub want-is : (v : Want) {w : Want} (m : Measure) → w ≡ v → wanted v m ≡ wanted w m
+want-is v m e = rw e
+
+-- a test that every line of a list passes
+unfoldable pub every : (Line → Bool) → List Line → Bool
+every p [] = true
+every p (l ∷ ls) = p l and every p ls
+
+-- what every line passes, the one at an index does
+pub every-at : (p : Line → Bool) (ls : List Line) (i : ℕ) (d : Line) → every p ls ≡ true → i < length ls → p (getD ls i d) ≡ true
+unfolding every
+every-at p [] i d e h = absurd (not-suc-le-zero h)
+every-at p (l ∷ ls) zero d e h = left _ _ e
+every-at p (l ∷ ls) (suc i) d e h = every-at p ls i d (right _ _ e) (le-of-suc-le-suc h)
+
+-- a row of at most k ones
+unfoldable ones : ℕ → ℕ → Bool
+ones zero b = eqb b 0
+ones (suc k) b = eqb b (2 ^ suc k - 1) || ones k b
+
+-- a number that is a row of ones
+record Ones (b : ℕ) : Type 0 where
+  bits : ℕ
+  same : b ≡ 2 ^ bits - 1
+
+-- a row of ones by its test
+ones-are : (k b : ℕ) → ones k b ≡ true → Ones b
+unfolding ones
+ones-are zero b e = record { bits = 0; same = eqb-true b 0 e }
+ones-are (suc k) b e = go (eqb b (2 ^ suc k - 1)) refl e (ones-are k b)
+  where
+    go : (t : Bool) → eqb b (2 ^ suc k - 1) ≡ t → (t || ones k b) ≡ true → (ones k b ≡ true → Ones b) → Ones b
+    go true q h less = record { bits = suc k; same = eqb-true b (2 ^ suc k - 1) q }
+    go false q h less = less h
+
+-- one value is wanted
+unfoldable isOne : Want → Bool
+isOne One = true
+isOne LessOne = false
+isOne Count = false
+isOne Ivs = false
+isOne Sum = false
+
+-- by its test
+one-is : (w : Want) → isOne w ≡ true → w ≡ One
+unfolding isOne
+one-is One e = refl
+one-is LessOne e = absurd (false≢true e)
+one-is Count e = absurd (false≢true e)
+one-is Ivs e = absurd (false≢true e)
+one-is Sum e = absurd (false≢true e)
+
+-- a line's shape as a test
+unfoldable keeps : ℕ → Line → Bool
+keeps n l = leb (l .place + 1 + l .room) n and ones 64 (l .bound) and (not (eqb (l .room) 1) || isOne (l .want))
+
+-- a line's shape by its test
+shape-of : (n : ℕ) (l : Line) → keeps n l ≡ true → Shaped l n
+unfolding keeps
+shape-of n l e =
+    let o : Ones (l .bound) = ones-are 64 (l .bound) (left _ _ (right _ _ e)) in
+    record {
+      inside = leb-true _ _ (left _ _ e);
+      bits = o .bits;
+      ones = o .same;
+      single = λ h. one-is (l .want) (rw (eq-eqb (l .room) 1 h) at (right _ _ (right _ _ e)));
+    }
+
+-- computed over the table
+all-keep : every (keeps setLen) lines ≡ true
+unfolding every keeps ones isOne lines _and_
+all-keep = refl
+
+-- every line's region lies in a set's words, and its bound is a row of ones
+pub shaped : (i : ℕ) → i < 14 → Shaped (getD lines i spare) setLen
+shaped i h = shape-of setLen (getD lines i spare) (every-at (keeps setLen) lines i spare all-keep (omega (arith, line-count)))
+
+-- regions that follow one another without a gap from a place up to an end
+unfoldable pub tiles : ℕ → List Line → ℕ → Bool
+tiles at [] end = eqb at end
+tiles at (l ∷ ls) end = eqb (l .place) at and tiles (at + 1 + l .room) ls end
+
+-- BMDT and the count take the first two words of a set, and the regions the others
+pub tiled : tiles 2 lines setLen ≡ true
+unfolding tiles lines _and_
+tiled = refl

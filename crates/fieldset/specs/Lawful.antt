@@ -1,0 +1,98 @@
+-- When words are those of a lawful set. 01: "A share is lawful if its numbers keep this page's rules and every place not in use is 0."
+use Prim.Native.Nat.{ℕ, suc, _+_, _-_, _*_, _/_, _^_, _≤_}
+use mathlib.Core.Path.{_≡_}
+use mathlib.Core.Bool.{Bool, true, cond, not, _&&_, _||_, Bool·beq}
+use mathlib.Core.List.{List, [], _∷_}
+use lib.Dec.{eqb, leb}
+use lib.ListN.{getD}
+use lib.Seq.{slice}
+use Rattle.laws.specs.Tests.{_and_, allZero, allLe, sum}
+use Rattle.track.specs.declared.Track.{Track}
+use Rattle.track.specs.Track.{none, cenc}
+use Rattle.fieldset.specs.declared.lines.Want.the-variants.{One}
+use Rattle.fieldset.specs.declared.lines.Line.{Line}
+use Rattle.fieldset.specs.declared.lines.Measure.{Measure}
+use Rattle.fieldset.specs.declared.lawful.Tally.{Tally}
+use Rattle.fieldset.specs.Lines.{lines, lineFor, wanted, bmdtAt, countAt}
+
+-- the field of an id stands
+unfoldable pub has : ℕ → List ℕ → Bool
+has id w = not (eqb (getD w (lineFor id lines .place) 0) 0)
+
+-- how many of a field's words are in use, by its mark
+unfoldable pub inUse : ℕ → ℕ → ℕ
+inUse mark k = cond (eqb mark 0) 0 k
+
+-- the first n values of a field that stands
+unfoldable pub valuesOf : ℕ → ℕ → List ℕ → List ℕ
+valuesOf id n w = let l = lineFor id lines in slice (l .place + 1) (l .place + 1 + inUse (getD w (l .place) 0) n) w
+
+module _ (m : Measure) where
+  -- a field's mark, its values, and the words of its region that it does not use
+  unfoldable pub regionOk : Line → List ℕ → Bool
+  regionOk l w =
+      let mark = getD w (l .place) 0 in
+      let used = inUse mark (wanted (l .want) m) in
+      let from = l .place + 1 in
+      leb used (l .room)
+      and leb mark 1
+      and allLe (l .bound) (slice from (from + used) w)
+      and allZero (slice (from + used) (from + l .room) w)
+
+  unfoldable pub regionsOk : List Line → List ℕ → Bool
+  regionsOk [] w = true
+  regionsOk (l ∷ ls) w = regionOk l w and regionsOk ls w
+
+-- 01: "`saiz` gives IV size plus, with subsamples, 2 + 6 x count, at most 255"
+unfoldable pub saizOk : ℕ → List ℕ → Bool
+saizOk iv [] = true
+saizOk iv (c ∷ cs) = leb (iv + (2 + 6 * c)) 255 and saizOk iv cs
+
+-- 01: "Resulting set, full or delta: with no samples no lists, 9 or 12; with one, neither 1 nor 6; never 1 with 6 or 7 with 12; 11, 13 and
+-- 15 together, only on protected tracks; 9 exactly on cenc with samples; with several and neither 1 nor 6, trex size not 0."
+unfoldable pub setRules : Track → ℕ → List ℕ → Bool
+setRules t n w =
+    (not (eqb n 0) || not (lists || (has 9 w || has 12 w)))
+    and (not (eqb n 1) || not (has 1 w || has 6 w))
+    and not (has 1 w && has 6 w)
+    and not (has 7 w && has 12 w)
+    and Bool·beq (has 11 w) (has 13 w)
+    and Bool·beq (has 13 w) (has 15 w)
+    and (not (has 11 w) || not (eqb (t .protection) none))
+    and Bool·beq (has 9 w) (eqb (t .protection) cenc && not (eqb n 0))
+    and (leb n 1 || ((has 1 w || has 6 w) || not (eqb (t .size) 0)))
+  where
+    lists : Bool
+    lists = has 1 w || (has 3 w || (has 5 w || (has 7 w || (has 11 w || (has 13 w || has 15 w)))))
+
+-- 01: "Id 16 if the IV size differs from the parameter; the receiver refuses a differing one, 15."
+unfoldable pub sameIvSize : Track → List ℕ → Bool
+sameIvSize t w = not (has 16 w) || eqb (getD w (lineFor 16 lines .place + 1) 0) (t .«iv_size»)
+
+abbrev pub measureOf : Track → List ℕ → Measure
+measureOf t w = record { count = getD w countAt 0; ivs = t .«iv_size» / 8; sum = sum (valuesOf 11 (getD w countAt 0) w) }
+
+-- 01: "Maxima: 64 samples and 256 subsamples a chunk", "BMDT, and any number on the wire, 2^62-1."
+unfoldable pub lawful : Track → List ℕ → Bool
+lawful t w =
+    let n = getD w countAt 0 in
+    leb n 64
+    and saizOk (t .«iv_size») (valuesOf 11 n w)
+    and leb (getD w bmdtAt 0) (2 ^ 62 - 1)
+    and leb (sum (valuesOf 11 n w)) 256
+    and regionsOk (measureOf t w) lines w
+    and setRules t n w
+    and sameIvSize t w
+
+-- a line whose region lies in a run of words of that length, whose bound is a row of ones, and which has one value where it has room for one
+pub record Shaped (l : Line) (length : ℕ) : Type 0 where
+  pub inside : l .place + 1 + l .room ≤ length
+  pub bits : ℕ
+  pub ones : l .bound ≡ 2 ^ bits - 1
+  pub single : l .room ≡ 1 → l .want ≡ One
+
+-- what a tally says of a list of words, of which there are at most 64
+pub record TallyOf (r : Tally) (most : ℕ) (s : List ℕ) : Type 0 where
+  pub within : r .ok ≡ allLe most s
+  pub total : r .ok ≡ true → r .sum ≡ sum s
+  pub small : r .sum ≤ 4096

@@ -1,0 +1,99 @@
+-- The set of moof fields as one run of words: BMDT, the sample count, and a region for each other field. A region is a mark, 1 where the
+-- field stands and else 0, its values, and zeros up to its room. Composition offsets (id 5) are kept with 2^31 added. An IV is kept as
+-- words of eight bytes, the highest byte first.
+use Prim.Native.Nat.{ℕ, suc, _+_, _-_, _*_, _≤_}
+use mathlib.Core.Bool.{Bool, cond, not}
+use mathlib.Core.List.{List, [], _∷_}
+use lib.Dec.{eqb}
+use lib.ListN.{getD}
+use Rattle.track.specs.declared.Track.{Track}
+use Rattle.fieldset.specs.declared.lines.Want.{Want}
+use Rattle.fieldset.specs.declared.lines.Want.the-variants.{One, LessOne, Count, Ivs, Sum}
+use Rattle.fieldset.specs.declared.lines.Absent.{Absent}
+use Rattle.fieldset.specs.declared.lines.Absent.the-variants.{Zero, Middle, Description, Duration, Size, Flags, IvSize}
+use Rattle.fieldset.specs.declared.lines.Line.{Line}
+use Rattle.fieldset.specs.declared.lines.Measure.{Measure}
+
+abbrev pub lineOf : ℕ → ℕ → ℕ → Want → ℕ → Absent → Line
+lineOf id place room want bound absent =
+    record { id = id; place = place; room = room; want = want; bound = bound; absent = absent }
+
+abbrev pub u5 : ℕ
+u5 = 31
+
+abbrev pub u8 : ℕ
+u8 = 0xff
+
+abbrev pub u16 : ℕ
+u16 = 0xffff
+
+abbrev pub u32 : ℕ
+u32 = 0xffff_ffff
+
+abbrev pub u64 : ℕ
+u64 = 0xffff_ffff_ffff_ffff
+
+-- Place, room, length, bound and absent value of each id. 01: "64 samples and 256 subsamples a chunk"; "Required: id 1, count less one; 3, 5,
+-- 7, 11, the count; 13, 15, the sum of 11."; "A value's range is that of its box field, after deltas; flags end at 31"; "if absent then, ids
+-- 2, 4, 6, 8 count as trex, 12 as 0 and 16 as the parameter. List elements count as 0 where the reference has none."
+unfoldable pub lines : List Line
+lines =
+    lineOf 1 2 63 LessOne u32 Zero
+    ∷ lineOf 2 66 1 One u32 Description
+    ∷ lineOf 3 68 64 Count u32 Zero
+    ∷ lineOf 4 133 1 One u32 Duration
+    ∷ lineOf 5 135 64 Count u32 Middle
+    ∷ lineOf 6 200 1 One u32 Size
+    ∷ lineOf 7 202 64 Count u5 Zero
+    ∷ lineOf 8 267 1 One u5 Flags
+    ∷ lineOf 9 269 128 Ivs u64 Zero
+    ∷ lineOf 11 398 64 Count u16 Zero
+    ∷ lineOf 12 463 1 One u5 Zero
+    ∷ lineOf 13 465 256 Sum u16 Zero
+    ∷ lineOf 15 722 256 Sum u32 Zero
+    ∷ lineOf 16 979 1 One u8 IvSize
+    ∷ []
+
+-- past the table's end
+abbrev pub spare : Line
+spare = lineOf 0 0 0 One 0 Zero
+
+-- the words of a set
+abbrev pub setLen : ℕ
+setLen = 981
+
+-- where BMDT and the sample count stand
+abbrev pub bmdtAt : ℕ
+bmdtAt = 0
+
+abbrev pub countAt : ℕ
+countAt = 1
+
+-- the line of an id
+unfoldable pub lineFor : ℕ → List Line → Line
+lineFor id [] = spare
+lineFor id (l ∷ ls) = cond (eqb (l .id) id) l (lineFor id ls)
+
+-- 01: "Required: id 1, count less one; 3, 5, 7, 11, the count; 13, 15, the sum of 11."
+unfoldable pub wanted : Want → Measure → ℕ
+wanted One m = 1
+wanted LessOne m = m .count - 1
+wanted Count m = m .count
+wanted Ivs m = m .count * m .ivs
+wanted Sum m = m .sum
+
+-- numbers that no product or sum of them passes 64 bits
+pub record Small (m : Measure) : Type 0 where
+  pub count : m .count ≤ 64
+  pub ivs : m .ivs ≤ 2
+  pub sum : m .sum ≤ 65536
+
+-- what an absent value counts as: 01: "if absent then, ids 2, 4, 6, 8 count as trex, 12 as 0 and 16 as the parameter"
+unfoldable pub absentValue : Track → Absent → ℕ
+absentValue t Zero = 0
+absentValue t Middle = 0x8000_0000
+absentValue t Description = t .description
+absentValue t Duration = t .duration
+absentValue t Size = t .size
+absentValue t Flags = t .flags
+absentValue t IvSize = t .«iv_size»

@@ -1,0 +1,5 @@
+pub mod ShareLaws
+pub mod CallLaws
+pub mod TableLaws
+pub mod Apart
+pub mod Lawful

@@ -1,0 +1,58 @@
+-- What the tests of a share's words come to. Assumes nothing.
+use Prim.Native.Nat.{ℕ, _+_, _-_, _≤_}
+use native.Mathlib.Omega.{arith}
+use mathlib.Core.Path.{_≡_, refl, sym, _∙_, ap}
+use mathlib.Core.Bool.{Bool, true, false, not, cond, _&&_}
+use mathlib.Core.List.{List, [], _∷_, _++_}
+use borrow.Author.Tests.{eq-eqb, ne-eqb}
+use borrow.Rule.Slice.PartAt.{part-to-end}
+use lib.Dec.{eqb}
+use lib.ListN.{length, getD, take, drop}
+use lib.Seq.{sets, sets-eq, slice}
+use Rattle.laws.specs.Tests.{_and_, allZero, allBits}
+use Rattle.laws.proofs.TestLaws.{bits-zero, and-is}
+use Rattle.laws.proofs.SliceLaws.{slice-to-end}
+use Rattle.track.specs.declared.Asked.{Asked}
+use Rattle.track.specs.declared.Track.{Track}
+use Rattle.track.specs.Track.{narrow}
+use Rattle.track.specs.Track.{lawful as lawfulTrack}
+use Rattle.fieldset.specs.Lawful.{lawful as lawfulSet}
+use Rattle.slots.specs.declared.share.Side.{Side}
+use Rattle.slots.specs.Share.{heldAt, prftAt, setAt, trackAt, acceptedAt, shareLen, askedOf, trackOf, paramWords, acceptedOk, prftOk, referenceOk, openOk, lawful}
+
+-- the words from a place to the end, folded
+folded : (from : ℕ) (s : List ℕ) (b : ℕ) → length s ≡ shareLen → b ≡ allBits (slice from shareLen s) → eqb b 0 ≡ allZero (drop from s)
+folded from s b l e = ap (λ (n : ℕ). eqb n 0) e ∙ bits-zero (slice from shareLen s) ∙ ap allZero (slice-to-end from shareLen s l)
+
+module _ (t : Track) (s : List ℕ) (l : length s ≡ shareLen) where
+  -- no reference is marked
+  pub none-held : (b : ℕ) → getD s heldAt 0 ≡ 0 → b ≡ allBits (slice prftAt shareLen s) → eqb b 0 ≡ referenceOk t s
+  unfolding referenceOk
+  none-held b e q = rw (eq-eqb _ _ e) (folded prftAt s b l q)
+
+  -- one is
+  pub one-held : (p q : Bool) → (getD s heldAt 0 ≡ 0 → ⊥) → p ≡ prftOk s → q ≡ lawfulSet t (take (length s - setAt) (drop setAt s))
+      → (eqb (getD s heldAt 0) 1 && (p && q)) ≡ referenceOk t s
+  unfolding referenceOk _and_
+  one-held p q e hp hq = rw (ne-eqb _ _ e, hp, hq, part-to-end s setAt)
+
+module _ (side : Side) (s : List ℕ) (l : length s ≡ shareLen) where
+  -- a closed share
+  pub closed : (b : ℕ) → getD s trackAt 0 ≡ 0 → b ≡ allBits (slice trackAt shareLen s) → eqb b 0 ≡ lawful side s
+  unfolding lawful
+  closed b e q = rw (eq-eqb _ _ e) (folded trackAt s b l q)
+
+  module _ (e : getD s trackAt 0 ≡ 0 → ⊥) where
+    -- an open share of bad parameters
+    pub bad-track : lawfulTrack (askedOf s) ≡ false → false ≡ lawful side s
+    unfolding lawful openOk _and_
+    bad-track h = rw (ne-eqb _ _ e, h)
+
+    -- an open share of good ones
+    pub good-track : (p q : Bool) → lawfulTrack (askedOf s) ≡ true → p ≡ acceptedOk side (getD s acceptedAt 0) → q ≡ referenceOk (trackOf s) s → (p && q) ≡ lawful side s
+    unfolding lawful openOk _and_
+    good-track p q h hp hq = rw (ne-eqb _ _ e, h, hp, hq)
+
+-- eight stores from the first word on
+pub eight-stored : (s : List ℕ) (a : Asked) → length s ≡ shareLen → sets s 0 (paramWords a) ≡ paramWords a ++ drop acceptedAt s
+eight-stored s a l = sets-eq (paramWords a) s 0 (omega arith)

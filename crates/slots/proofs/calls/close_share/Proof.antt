@@ -1,0 +1,49 @@
+-- `slots::calls::close_share` meets its contract: each return is a rung of the ladder, or its top. Assumes nothing.
+use mathlib.Core.Path.{_≡_}
+use denote.Ref.{now}
+use Rattle.laws.proofs.GateLaws.{failed, held}
+use Rattle.slots.proofs.CallLaws.{close-unlawful, close-closed, close-done}
+use borrow.Author.Needs.{needs}
+use Rattle.slots.proofs.calls.close_share.Statement.{statement}
+use Rattle.slots.proofs.calls.close_share.Tie as tie
+
+is-lawful-requires : tie.Need-is-lawful-requires
+is-lawful-requires c κs = search needs
+
+same-length : tie.Need-same-length
+same-length c = search needs
+
+returns : tie.Need-returns
+returns c = close-unlawful (c .before .before .before .before .args .side) _ (failed (c .before .is-lawful .ensures) (c .if1 .taken))
+
+slice-read-if2 : tie.Need-slice-read-if2
+slice-read-if2 c = search needs
+
+same-length-2 : tie.Need-same-length-2
+same-length-2 c = search needs
+
+returns-2 : tie.Need-returns-2
+returns-2 c = close-closed (c .before .before .before .before .before .before .args .side) _ (held (c .before .before .before .is-lawful .ensures) (c .before .before .if1 .left)) (c .if2 .taken)
+
+clear-requires : tie.Need-clear-requires
+clear-requires c κs = search needs
+
+same-length-3 : tie.Need-same-length-3
+same-length-3 c = search needs
+
+returns-3 : tie.Need-returns-3
+returns-3 c = let b = c .before .before .before .before .before .before .before .before .before .before in rw (c .before .before .clear .ensures) (close-done (b .args .side) _ (held (c .before .before .before .before .before .before .before .is-lawful .ensures) (c .before .before .before .before .before .before .if1 .left)) (b .pre) (c .before .before .before .before .if2 .left))
+
+pub close-share-spec : {M : Type 1} → statement M
+close-share-spec =
+    tie.close
+    (tie.spec
+    is-lawful-requires
+    same-length
+    returns
+    slice-read-if2
+    same-length-2
+    returns-2
+    clear-requires
+    same-length-3
+    returns-3)

@@ -1,0 +1,4 @@
+pub mod Share
+pub mod Table
+pub mod Calls
+pub mod Laws

@@ -1,0 +1,121 @@
+-- The words of a slot's share, and when they are lawful. From word 0 on: the eight parameters, the count of accepted objects, the mark of
+-- the reference, the mark of the current full object's `prft` with its four fields, and the set of moof fields.
+use Prim.Native.Nat.{ℕ, _+_}
+use mathlib.Core.Bool.{Bool, cond, not, _&&_, _||_}
+use mathlib.Core.List.{List, [], _∷_, _++_}
+use lib.Dec.{eqb, leb}
+use lib.ListN.{getD, take, drop, replicate}
+use lib.Seq.{slice}
+use Rattle.laws.specs.Tests.{_and_, allZero}
+use Rattle.track.specs.declared.Asked.{Asked}
+use Rattle.track.specs.declared.Track.{Track}
+use Rattle.track.specs.Track.{narrow}
+use Rattle.track.specs.Track.{lawful as lawfulTrack}
+use Rattle.fieldset.specs.Lawful.{lawful as lawfulSet}
+use Rattle.slots.specs.declared.share.Side.{Side}
+use Rattle.slots.specs.declared.share.Side.the-variants.{Encoder, Receiver}
+
+-- the places of the words
+abbrev pub trackAt : ℕ
+trackAt = 0
+
+abbrev pub acceptedAt : ℕ
+acceptedAt = 8
+
+abbrev pub heldAt : ℕ
+heldAt = 9
+
+abbrev pub prftAt : ℕ
+prftAt = 10
+
+abbrev pub ntpAt : ℕ
+ntpAt = 11
+
+abbrev pub mediaTimeAt : ℕ
+mediaTimeAt = 12
+
+abbrev pub versionAt : ℕ
+versionAt = 13
+
+abbrev pub prftFlagsAt : ℕ
+prftFlagsAt = 14
+
+abbrev pub setAt : ℕ
+setAt = 15
+
+abbrev pub shareLen : ℕ
+shareLen = 996
+
+abbrev pub u24 : ℕ
+u24 = 0xff_ffff
+
+abbrev pub u32 : ℕ
+u32 = 0xffff_ffff
+
+abbrev pub asked : ℕ → ℕ → ℕ → ℕ → ℕ → ℕ → ℕ → ℕ → Asked
+asked track timescale description duration size flags protection ivSize =
+    record {
+      track = track;
+      timescale = timescale;
+      description = description;
+      duration = duration;
+      size = size;
+      flags = flags;
+      protection = protection;
+      «iv_size» = ivSize;
+    }
+
+-- the parameters that a share's words have
+abbrev pub askedOf : List ℕ → Asked
+askedOf s = asked (getD s trackAt 0) (getD s 1 0) (getD s 2 0) (getD s 3 0) (getD s 4 0) (getD s 5 0) (getD s 6 0) (getD s 7 0)
+
+abbrev pub trackOf : List ℕ → Track
+trackOf s = narrow (askedOf s)
+
+-- the eight words of the parameters
+abbrev pub paramWords : Asked → List ℕ
+paramWords a = a .track ∷ a .timescale ∷ a .description ∷ a .duration ∷ a .size ∷ a .flags ∷ a .protection ∷ a .«iv_size» ∷ []
+
+-- 01: "`mfhd` counts accepted objects since opening from 1, 0 following 2^32-1": in the receiver's share; the encoder's has no use for it
+abbrev pub acceptedOk : Side → ℕ → Bool
+acceptedOk Encoder n = eqb n 0
+acceptedOk Receiver n = leb n u32
+
+-- the `prft` kept with the reference: none, and then nothing is stored of it; or one whose fields keep their ranges, the media time having 32
+-- bits in version 0
+unfoldable pub prftOk : List ℕ → Bool
+prftOk s =
+    (eqb (getD s prftAt 0) 0 && allZero (slice ntpAt setAt s))
+    || (eqb (getD s prftAt 0) 1
+    && (leb (getD s versionAt 0) 1
+    && ((eqb (getD s versionAt 0) 1 || leb (getD s mediaTimeAt 0) u32)
+    && leb (getD s prftFlagsAt 0) u24)))
+
+-- the reference: none, and then nothing is stored of it; or a lawful set with a lawful `prft`
+unfoldable pub referenceOk : Track → List ℕ → Bool
+referenceOk t s =
+    cond (eqb (getD s heldAt 0) 0) (allZero (drop prftAt s))
+    (eqb (getD s heldAt 0) 1 and prftOk s and lawfulSet t (drop setAt s))
+
+-- the words of an open share
+unfoldable pub openOk : Side → List ℕ → Bool
+openOk side s = lawfulTrack (askedOf s) and acceptedOk side (getD s acceptedAt 0) and referenceOk (trackOf s) s
+
+-- a slot is open exactly where its track_ID is not 0
+unfoldable pub isOpen : List ℕ → Bool
+isOpen s = not (eqb (getD s trackAt 0) 0)
+
+-- 01: "All zeros is fresh"; "A share is lawful if its numbers keep this page's rules and every place not in use is 0."
+unfoldable pub lawful : Side → List ℕ → Bool
+lawful side s = cond (eqb (getD s trackAt 0) 0) (allZero s) (openOk side s)
+
+abbrev pub fresh : List ℕ
+fresh = replicate shareLen 0
+
+-- a share that was just opened
+unfoldable pub opened : Asked → List ℕ
+opened a = paramWords a ++ replicate 988 0
+
+-- a share without its reference and all that belongs to it
+unfoldable pub dropped : List ℕ → List ℕ
+dropped s = take heldAt s ++ replicate 987 0

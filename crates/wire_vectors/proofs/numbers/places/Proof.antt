@@ -1,0 +1,54 @@
+-- `wire_vectors::numbers::places` is safe and ends: each of six places is passed once. Assumes nothing.
+use Prim.Native.Nat.{_≤_, _-_}
+use borrow.Author.Needs.{needs}
+use Rattle.wire_vectors.proofs.numbers.places.Statement.{statement}
+use Rattle.wire_vectors.proofs.numbers.places.Tie as tie
+
+abbrev Inv-loop : tie.InvT-loop
+Inv-loop at₀ at = at ≤ 6
+
+abbrev μ-loop : tie.MeasureT-loop
+μ-loop at₀ at = 6 - at
+
+loop-holds : tie.Need-loop-holds Inv-loop μ-loop
+loop-holds c = search needs
+
+ends-of-requires : tie.Need-ends-of-requires Inv-loop μ-loop
+ends-of-requires c κs = search needs
+
+add-at : tie.Need-add-at Inv-loop μ-loop
+add-at c = search needs
+
+loop-less : tie.Need-loop-less Inv-loop μ-loop
+loop-less c = search needs
+
+loop-again : tie.Need-loop-again Inv-loop μ-loop
+loop-again c = search needs
+
+place-requires : tie.Need-place-requires Inv-loop μ-loop
+place-requires c κs = search needs
+
+place-requires-2 : tie.Need-place-requires-2 Inv-loop μ-loop
+place-requires-2 c κs = search needs
+
+place-requires-3 : tie.Need-place-requires-3 Inv-loop μ-loop
+place-requires-3 c κs = search needs
+
+returns : tie.Need-returns Inv-loop μ-loop
+returns c = search needs
+
+pub places-spec : {M : Type 1} → statement M
+places-spec =
+    tie.close
+    (tie.spec
+    Inv-loop
+    μ-loop
+    loop-holds
+    ends-of-requires
+    add-at
+    loop-less
+    loop-again
+    place-requires
+    place-requires-2
+    place-requires-3
+    returns)
