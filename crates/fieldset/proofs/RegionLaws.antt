@@ -1,23 +1,25 @@
 -- The region of a line, and the loop over all lines. Assumes nothing.
 use Prim.Native.Nat.{ℕ, suc, _+_, _-_, _^_, _≤_, _<_}
 use native.Mathlib.Nat.{add-zero, le-refl}
+use native.Mathlib.Numerals.{add-one}
 use native.Mathlib.Omega.{arith}
 use mathlib.Core.Path.{_≡_, refl, sym, _∙_, ap}
 use mathlib.Core.Bool.{Bool, true, false, _&&_}
-use mathlib.Core.List.{List, [], _∷_}
+use mathlib.Core.List.{List, [], _∷_, _++_, map}
 use borrow.Author.Tests.{eqb-true, eqb-false, eq-eqb, ne-eqb, leb-true, le-leb, lt-leb}
 use lib.Dec.{eqb, leb}
-use lib.ListN.{length, getD, drop}
-use lib.Seq.{slice, slice-cons}
+use lib.ListN.{length, getD, length-map, List·getD-map}
+use lib.Seq.{slice, slice-cons, slice-empty}
 use Rattle.laws.specs.Tests.{_and_, allZero, allLe, allBits}
+use Rattle.laws.proofs.ListLaws.{getD-in}
 use Rattle.laws.proofs.SliceLaws.{slice-none}
-use Rattle.laws.proofs.TestLaws.{and-next, and-end, same-test, bits-zero, bits-le}
+use Rattle.laws.proofs.TestLaws.{and-next, and-end, and-assoc, same-test, bits-zero, bits-le}
 use Rattle.fieldset.specs.declared.lines.Want.the-variants.{One}
 use Rattle.fieldset.specs.declared.lines.Line.{Line}
 use Rattle.fieldset.specs.declared.lines.Measure.{Measure}
 use Rattle.fieldset.specs.Lines.{lines, spare, setLen, wanted, Small}
-use Rattle.fieldset.specs.Lawful.{inUse, regionOk, regionsOk, Shaped}
-use Rattle.fieldset.proofs.LineLaws.{line-here, no-lines, want-is, shaped}
+use Rattle.fieldset.specs.Lawful.{inUse, marksOf, regionOk, regionsOk, Shaped}
+use Rattle.fieldset.proofs.LineLaws.{line-count, want-is, shaped}
 
 -- a field without its mark uses nothing
 pub unused : (mark k : ℕ) → mark ≡ 0 → 0 ≡ inUse mark k
@@ -92,36 +94,62 @@ module _ (m : Measure) (l : Line) (w : List ℕ) (sh : Shaped l (length w)) wher
     region-parts h a z ea ez =
         rw (← in-use-is, le-leb u (l .room) h, ea, ez, within-is (l .bound) (sh .bits) (slice (l .place + 1) (l .place + 1 + u) w) (sh .ones), bits-zero (slice (l .place + 1 + u) (l .place + 1 + l .room) w))
 
--- the lines before the one at i are looked at, with this outcome
-pub record Scanning (m : Measure) (w : List ℕ) (ok : Bool) (i : ℕ) : Type 0 where
+-- regions of two runs of lines
+pub regions-append : (m : Measure) (w : List ℕ) (xs ys : List Line) → regionsOk m (xs ++ ys) w ≡ (regionsOk m xs w and regionsOk m ys w)
+unfolding regionsOk _and_
+regions-append m w [] ys = refl
+regions-append m w (l ∷ xs) ys =
+    ap (λ (b : Bool). regionOk m l w and b) (regions-append m w xs ys) ∙ sym (and-assoc (regionOk m l w) (regionsOk m xs w) (regionsOk m ys w))
+
+-- the lines from one number up to the one at i are looked at, with this outcome
+pub record Scanning (m : Measure) (w : List ℕ) (from to : ℕ) (ok : Bool) (i : ℕ) : Type 0 where
   pub inside : length w ≡ setLen
   pub small : Small m
-  pub rest : (ok and regionsOk m (drop i lines) w) ≡ regionsOk m lines w
+  pub high : i ≤ to
+  pub last : to ≤ 14
+  pub rest : (ok and regionsOk m (slice i to lines) w) ≡ regionsOk m (slice from to lines) w
 
-module _ (m : Measure) (w : List ℕ) where
+module _ (m : Measure) (w : List ℕ) (from to : ℕ) where
   -- no line is looked at yet
-  pub scan-start : length w ≡ setLen → Small m → Scanning m w true 0
+  pub scan-start : length w ≡ setLen → Small m → from ≤ to → to ≤ 14 → Scanning m w from to true from
   unfolding _and_
-  scan-start e s = record { inside = e; small = s; rest = refl }
+  scan-start e s h k = record { inside = e; small = s; high = h; last = k; rest = refl }
 
-  module _ (ok : Bool) (i : ℕ) (h : Scanning m w ok i) where
+  module _ (ok : Bool) (i : ℕ) (h : Scanning m w from to ok i) where
     -- all are
-    pub scan-end : 14 ≤ i → ok ≡ regionsOk m lines w
+    pub scan-end : to ≤ i → ok ≡ regionsOk m (slice from to lines) w
     unfolding regionsOk
-    scan-end le = sym (rw (no-lines i le) (and-end ok)) ∙ h .rest
+    scan-end le =
+        let e : i ≡ to = omega (arith, h .high) in
+        sym (rw (e, slice-empty to lines) (and-end ok)) ∙ h .rest
 
-    module _ (lt : i < 14) (l : Line) (el : l ≡ getD lines i spare) where
+    module _ (lt : i < to) (l : Line) (el : l ≡ getD lines i spare) where
+      here : i < 14
+      here = omega (arith, h .last)
+
       -- the next line's region lies in the words
       pub scan-shape : Shaped l (length w)
-      scan-shape = rw (h .inside, el) (shaped i lt)
+      scan-shape = rw (h .inside, el) (shaped i here)
+
+      -- its mark is among the marks
+      pub scan-mark : (marks : List ℕ) → marks ≡ marksOf w → getD marks i 0 ≡ getD w (l .place) 0
+      unfolding marksOf
+      scan-mark marks e =
+          let k : i < length (map (λ (r : Line). getD w (r .place) 0) lines) = omega (arith, length-map lines (λ (r : Line). getD w (r .place) 0), line-count, here) in
+          rw (e, el)
+          (getD-in (map (λ (r : Line). getD w (r .place) 0) lines) i 0 (getD w (spare .place) 0) k ∙ List·getD-map (λ (r : Line). getD w (r .place) 0) lines i spare)
 
       -- one line more is looked at
-      pub scan-next : (r : Bool) → r ≡ regionOk m l w → Scanning m w (ok && r) (i + 1)
+      pub scan-next : (r : Bool) → r ≡ regionOk m l w → Scanning m w from to (ok && r) (i + 1)
       unfolding regionsOk
       scan-next r er =
-          let one : regionsOk m (drop i lines) w ≡ (r and regionsOk m (drop (i + 1) lines) w) = rw (line-here i lt, ← el, er) in
+          let k : to ≤ length lines = omega (arith, line-count, h .last) in
+          let one : regionsOk m (slice i to lines) w ≡ (r and regionsOk m (slice (i + 1) to lines) w) =
+          rw (slice-cons i to lines spare lt k, add-one, ← el, er) in
           record {
             inside = h .inside;
             small = h .small;
+            high = omega arith;
+            last = h .last;
             rest = and-next ok r _ ∙ ap (λ (b : Bool). ok and b) (sym one) ∙ h .rest;
           }

@@ -2,7 +2,7 @@
 use Prim.Native.Nat.{ℕ, suc, _+_, _-_, _*_, _/_, _^_, _≤_}
 use mathlib.Core.Path.{_≡_}
 use mathlib.Core.Bool.{Bool, true, cond, not, _&&_, _||_, Bool·beq}
-use mathlib.Core.List.{List, [], _∷_}
+use mathlib.Core.List.{List, [], _∷_, map}
 use lib.Dec.{eqb, leb}
 use lib.ListN.{getD}
 use lib.Seq.{slice}
@@ -13,7 +13,7 @@ use Rattle.fieldset.specs.declared.lines.Want.the-variants.{One}
 use Rattle.fieldset.specs.declared.lines.Line.{Line}
 use Rattle.fieldset.specs.declared.lines.Measure.{Measure}
 use Rattle.fieldset.specs.declared.lawful.Tally.{Tally}
-use Rattle.fieldset.specs.Lines.{lines, lineFor, wanted, bmdtAt, countAt}
+use Rattle.fieldset.specs.Lines.{lines, lineFor, lineNumber, wanted, bmdtAt, countAt}
 
 -- the field of an id stands
 unfoldable pub has : ℕ → List ℕ → Bool
@@ -48,22 +48,29 @@ unfoldable pub saizOk : ℕ → List ℕ → Bool
 saizOk iv [] = true
 saizOk iv (c ∷ cs) = leb (iv + (2 + 6 * c)) 255 and saizOk iv cs
 
+-- the marks of the fields, in the order of the table
+unfoldable pub marksOf : List ℕ → List ℕ
+marksOf w = map (λ l. getD w (l .place) 0) lines
+
 -- 01: "Resulting set, full or delta: with no samples no lists, 9 or 12; with one, neither 1 nor 6; never 1 with 6 or 7 with 12; 11, 13 and
 -- 15 together, only on protected tracks; 9 exactly on cenc with samples; with several and neither 1 nor 6, trex size not 0."
 unfoldable pub setRules : Track → ℕ → List ℕ → Bool
-setRules t n w =
-    (not (eqb n 0) || not (lists || (has 9 w || has 12 w)))
-    and (not (eqb n 1) || not (has 1 w || has 6 w))
-    and not (has 1 w && has 6 w)
-    and not (has 7 w && has 12 w)
-    and Bool·beq (has 11 w) (has 13 w)
-    and Bool·beq (has 13 w) (has 15 w)
-    and (not (has 11 w) || not (eqb (t .protection) none))
-    and Bool·beq (has 9 w) (eqb (t .protection) cenc && not (eqb n 0))
-    and (leb n 1 || ((has 1 w || has 6 w) || not (eqb (t .size) 0)))
+setRules t n marks =
+    (not (eqb n 0) || not (lists || (at 9 || at 12)))
+    and (not (eqb n 1) || not (at 1 || at 6))
+    and not (at 1 && at 6)
+    and not (at 7 && at 12)
+    and Bool·beq (at 11) (at 13)
+    and Bool·beq (at 13) (at 15)
+    and (not (at 11) || not (eqb (t .protection) none))
+    and Bool·beq (at 9) (eqb (t .protection) cenc && not (eqb n 0))
+    and (leb n 1 || ((at 1 || at 6) || not (eqb (t .size) 0)))
   where
+    at : ℕ → Bool
+    at id = not (eqb (getD marks (lineNumber id lines) 0) 0)
+
     lists : Bool
-    lists = has 1 w || (has 3 w || (has 5 w || (has 7 w || (has 11 w || (has 13 w || has 15 w)))))
+    lists = at 1 || (at 3 || (at 5 || (at 7 || (at 11 || (at 13 || at 15)))))
 
 -- 01: "Id 16 if the IV size differs from the parameter; the receiver refuses a differing one, 15."
 unfoldable pub sameIvSize : Track → List ℕ → Bool
@@ -81,7 +88,7 @@ lawful t w =
     and leb (getD w bmdtAt 0) (2 ^ 62 - 1)
     and leb (sum (valuesOf 11 n w)) 256
     and regionsOk (measureOf t w) lines w
-    and setRules t n w
+    and setRules t n (marksOf w)
     and sameIvSize t w
 
 -- a line whose region lies in a run of words of that length, whose bound is a row of ones, and which has one value where it has room for one
@@ -96,3 +103,9 @@ pub record TallyOf (r : Tally) (most : ℕ) (s : List ℕ) : Type 0 where
   pub within : r .ok ≡ allLe most s
   pub total : r .ok ≡ true → r .sum ≡ sum s
   pub small : r .sum ≤ 4096
+
+-- the subsample counts that a set has, each small
+pub record Counted (m : Measure) (counted : ℕ) (w : List ℕ) : Type 0 where
+  pub used : counted ≤ 64
+  pub many : counted ≡ inUse (getD w 398 0) (m .count)
+  pub small : allLe 63 (slice 399 (399 + counted) w) ≡ true

@@ -74,6 +74,11 @@ unfoldable pub lineFor : ℕ → List Line → Line
 lineFor id [] = spare
 lineFor id (l ∷ ls) = cond (eqb (l .id) id) l (lineFor id ls)
 
+-- and its number in the table
+unfoldable pub lineNumber : ℕ → List Line → ℕ
+lineNumber id [] = 0
+lineNumber id (l ∷ ls) = cond (eqb (l .id) id) 0 (suc (lineNumber id ls))
+
 -- 01: "Required: id 1, count less one; 3, 5, 7, 11, the count; 13, 15, the sum of 11."
 unfoldable pub wanted : Want → Measure → ℕ
 wanted One m = 1

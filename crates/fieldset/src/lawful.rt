@@ -3,11 +3,11 @@
 ghost use mathlib.Core.Path.{_≡_};
 ghost use mathlib.Core.Bool.{true};
 ghost use Prim.Native.Nat.{_+_, _≤_};
-ghost use lib.ListN.{length};
+ghost use lib.ListN.{length, getD};
 ghost use lib.Seq.{slice};
-ghost use Rattle.laws.specs.Tests.{allLe, sum};
+ghost use Rattle.laws.specs.Tests.{_and_};
 ghost use Rattle.fieldset.specs.Lines.{lines, setLen, Small};
-ghost use Rattle.fieldset.specs.Lawful.{Shaped, TallyOf, regionOk, regionsOk, setRules, inUse, lawful};
+ghost use Rattle.fieldset.specs.Lawful.{Shaped, TallyOf, Counted, marksOf, regionOk, regionsOk, setRules, sameIvSize, inUse, lawful};
 use crate::lines;
 use crate::lines::Line;
 use crate::lines::Measure;
@@ -51,16 +51,16 @@ fn value_most(mark: u64, bound: u64) -> u64
 }
 
 // Whether a field's mark, its values and the words that it does not use are lawful.
-fn region_ok(w: &[u64], l: Line, m: Measure) -> bool
+fn region_ok(w: &[u64], l: Line, mark: u64, m: Measure) -> bool
     requires { ⌜ Shaped l (length (now w)) ⌝ }
     requires { ⌜ Small m ⌝ }
+    requires { ⌜ mark ≡ getD (now w) (l .place) 0 ⌝ }
     ensures { λ r. ⌜ r ≡ regionOk m l (now (w .entry)) ⌝ }
 {
     let at = l.place;
     let room = l.room;
     let bound = l.bound;
     let want = l.want;
-    let mark = w[at];
     let from = at + 1;
     if room == 1 {
         return (mark <= 1) & (w[from] <= value_most(mark, bound));
@@ -75,36 +75,62 @@ fn region_ok(w: &[u64], l: Line, m: Measure) -> bool
             & (crate::scan::bits(w, mid, from + room) == 0))
 }
 
-fn regions_ok(w: &[u64], m: Measure) -> bool
+// The marks of the fields, in the order of the lines.
+pub fn marks_of(w: &[u64]) -> [u64; 14]
+    requires { ⌜ length (now w) ≡ setLen ⌝ }
+    ensures { λ r. ⌜ r ≡ marksOf (now (w .entry)) ⌝ }
+{
+    [
+        w[lines::SIZES],
+        w[lines::DESCRIPTION],
+        w[lines::DURATIONS],
+        w[lines::DURATION],
+        w[lines::OFFSETS],
+        w[lines::SIZE],
+        w[lines::FLAGS],
+        w[lines::DEFAULT_FLAGS],
+        w[lines::IVS],
+        w[lines::SUBSAMPLES],
+        w[lines::FIRST_FLAGS],
+        w[lines::CLEAR],
+        w[lines::PROTECTED],
+        w[lines::IV_SIZE],
+    ]
+}
+
+// Whether the regions of the lines from one number up to another are lawful.
+fn regions_ok(w: &[u64], marks: &[u64], m: Measure, from: usize, to: usize) -> bool
     requires { ⌜ length (now w) ≡ setLen ⌝ }
     requires { ⌜ Small m ⌝ }
-    ensures { λ r. ⌜ r ≡ regionsOk m lines (now (w .entry)) ⌝ }
+    requires { ⌜ (now marks ≡ marksOf (now w)) × (length (now marks) ≡ 14) ⌝ }
+    requires { ⌜ (from ≤ to) × (to ≤ 14) ⌝ }
+    ensures { λ r. ⌜ r ≡ regionsOk m (slice from to lines) (now (w .entry)) ⌝ }
 {
     let mut ok = true;
-    let mut i = 0;
-    while i < lines::LINES {
-        ok = ok & region_ok(w, lines::line_at(i), m);
+    let mut i = from;
+    while i < to {
+        ok = ok & region_ok(w, lines::line_at(i), marks[i], m);
         i += 1;
     }
     ok
 }
 
-// Whether the fields that stand may stand together.
-pub fn rules_ok(t: Track, n: u64, w: &[u64]) -> bool
-    requires { ⌜ length (now w) ≡ setLen ⌝ }
-    ensures { λ r. ⌜ r ≡ setRules t n (now (w .entry)) ⌝ }
+// Whether the fields that stand, by their marks, may stand together.
+pub fn rules_ok(t: Track, n: u64, marks: &[u64]) -> bool
+    requires { ⌜ length (now marks) ≡ 14 ⌝ }
+    ensures { λ r. ⌜ r ≡ setRules t n (now (marks .entry)) ⌝ }
 {
-    let sizes = w[lines::SIZES] != 0;
-    let size = w[lines::SIZE] != 0;
-    let flags = w[lines::FLAGS] != 0;
-    let first = w[lines::FIRST_FLAGS] != 0;
-    let ivs = w[lines::IVS] != 0;
-    let subsamples = w[lines::SUBSAMPLES] != 0;
-    let clear = w[lines::CLEAR] != 0;
-    let protected = w[lines::PROTECTED] != 0;
+    let sizes = marks[0] != 0;
+    let size = marks[5] != 0;
+    let flags = marks[6] != 0;
+    let first = marks[10] != 0;
+    let ivs = marks[8] != 0;
+    let subsamples = marks[9] != 0;
+    let clear = marks[11] != 0;
+    let protected = marks[12] != 0;
     let lists = sizes
-        | ((w[lines::DURATIONS] != 0)
-            | ((w[lines::OFFSETS] != 0) | (flags | (subsamples | (clear | protected)))));
+        | ((marks[2] != 0)
+            | ((marks[4] != 0) | (flags | (subsamples | (clear | protected)))));
     let cenc = t.protection as u64 == track::CENC;
     ((n != 0) | !(lists | (ivs | first)))
         & (((n != 1) | !(sizes | size))
@@ -117,7 +143,24 @@ pub fn rules_ok(t: Track, n: u64, w: &[u64]) -> bool
                                     & ((n <= 1) | ((sizes | size) | (t.size != 0))))))))))
 }
 
-// Whether the words are those of a lawful set on the track.
+// Whether all regions are lawful, and the IV size (id 16) is the parameter, once the first `counted` subsample counts (id 11) are known to be
+// small.
+fn fields_ok(t: Track, w: &[u64], marks: &[u64], m: Measure, counted: usize) -> bool
+    requires { ⌜ length (now w) ≡ setLen ⌝ }
+    requires { ⌜ Small m ⌝ }
+    requires { ⌜ (now marks ≡ marksOf (now w)) × (length (now marks) ≡ 14) ⌝ }
+    requires { ⌜ Counted m counted (now w) ⌝ }
+    requires { ⌜ t .«iv_size» ≤ 16 ⌝ }
+    ensures { λ r. ⌜ r ≡ (regionsOk m lines (now (w .entry)) and sameIvSize t (now (w .entry))) ⌝ }
+{
+    let iv = t.iv_size as u64;
+    let from = lines::SUBSAMPLES + 1;
+    let counts = (marks[9] <= 1) & (crate::scan::bits(w, from + counted, from + 64) == 0);
+    let size = (marks[13] <= 1) & (w[lines::IV_SIZE + 1] == value_most(marks[13], iv));
+    regions_ok(w, marks, m, 0, 9) & (counts & (regions_ok(w, marks, m, 10, 13) & size))
+}
+
+// Whether the words are those of a lawful set on the track. The subsample counts are looked at first, since ids 13 and 15 go by their sum.
 pub fn is_lawful(t: Track, w: &[u64]) -> bool
     requires { ⌜ length (now w) ≡ setLen ⌝ }
     requires { ⌜ t .«iv_size» ≤ 16 ⌝ }
@@ -129,7 +172,8 @@ pub fn is_lawful(t: Track, w: &[u64]) -> bool
     }
     let iv = t.iv_size as u64;
     let count = n as usize;
-    let counted = in_use(w[lines::SUBSAMPLES], count);
+    let marks = marks_of(w);
+    let counted = in_use(marks[9], count);
     let from = lines::SUBSAMPLES + 1;
     let c = tallied(w, from, from + counted, (253 - iv) / 6);
     if !c.ok {
@@ -141,7 +185,5 @@ pub fn is_lawful(t: Track, w: &[u64]) -> bool
         sum: c.sum,
     };
     (w[lines::BMDT] <= 0x3fff_ffff_ffff_ffff)
-        & ((c.sum <= 256)
-            & (regions_ok(w, m)
-                & (rules_ok(t, n, w) & ((w[lines::IV_SIZE] == 0) | (w[lines::IV_SIZE + 1] == iv)))))
+        & ((c.sum <= 256) & (fields_ok(t, w, &marks, m, counted) & rules_ok(t, n, &marks)))
 }

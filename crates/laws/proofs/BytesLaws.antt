@@ -1,6 +1,6 @@
 -- Laws of numbers as bytes, once over the width. Assumes nothing.
 use Prim.Native.Nat.{ℕ, zero, suc, _+_, _*_, _/_, _%_, _^_, _≤_, _<_}
-use native.Mathlib.Nat.{zero-add, suc-add, zero-mul, add-mul, mul-assoc, add-assoc, mul-comm, div-div-eq-div-mul, mod-one, mod-eq-of-lt, pow-succ', one-le-pow}
+use native.Mathlib.Nat.{zero-add, suc-add, zero-mul, add-mul, mul-assoc, add-assoc, mul-comm, div-div-eq-div-mul, mod-one, div-one, mod-eq-of-lt, pow-succ', one-le-pow}
 use native.Mathlib.Omega.{arith}
 use mathlib.Core.Path.{_≡_, refl, sym, _∙_, ap}
 use mathlib.Core.List.{List, [], _∷_, _++_}
@@ -17,6 +17,11 @@ pub length-be : (k v : ℕ) → length (be k v) ≡ k
 unfolding be
 length-be zero v = refl
 length-be (suc k) v = ap suc (length-be k v)
+
+-- a number that one byte holds
+pub be-one : (v : ℕ) → v < 256 → be 1 v ≡ v ∷ []
+unfolding be
+be-one v h = rw (div-one v, mod-eq-of-lt h)
 
 -- a number's bytes in two parts
 pub be-split : (j k v : ℕ) → be (j + k) v ≡ be j (v / 256 ^ k) ++ be k v

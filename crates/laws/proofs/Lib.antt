@@ -8,3 +8,4 @@ pub mod LadderLaws
 pub mod TestLaws
 pub mod WalkLaws
 pub mod ByLengthLaws
+pub mod LeftLaws

@@ -26,6 +26,15 @@ pub both : (a b : Bool) → a ≡ true → b ≡ true → (a and b) ≡ true
 unfolding _and_
 both a b p q = rw (p, q)
 
+-- the same of code's own conjunction
+pub and-left : (a b : Bool) → (a && b) ≡ true → a ≡ true
+and-left true b e = refl
+and-left false b e = e
+
+pub and-right : (a b : Bool) → (a && b) ≡ true → b ≡ true
+and-right true b e = e
+and-right false b e = absurd (false≢true e)
+
 -- a row of tests is what code makes of it
 pub and-is : (a b : Bool) → (a and b) ≡ (a && b)
 unfolding _and_

@@ -2,11 +2,11 @@
 use Prim.Native.Nat.{ℕ, _+_, _-_, _≤_}
 use native.Mathlib.Omega.{arith}
 use mathlib.Core.Path.{_≡_, refl, sym, _∙_, ap}
-use mathlib.Core.Bool.{Bool, true, false, not, cond, _&&_}
+use mathlib.Core.Bool.{Bool, true, false, not, cond, _&&_, _||_}
 use mathlib.Core.List.{List, [], _∷_, _++_}
 use borrow.Author.Tests.{eq-eqb, ne-eqb}
 use borrow.Rule.Slice.PartAt.{part-to-end}
-use lib.Dec.{eqb}
+use lib.Dec.{eqb, leb}
 use lib.ListN.{length, getD, take, drop}
 use lib.Seq.{sets, sets-eq, slice}
 use Rattle.laws.specs.Tests.{_and_, allZero, allBits}
@@ -18,11 +18,30 @@ use Rattle.track.specs.Track.{narrow}
 use Rattle.track.specs.Track.{lawful as lawfulTrack}
 use Rattle.fieldset.specs.Lawful.{lawful as lawfulSet}
 use Rattle.slots.specs.declared.share.Side.{Side}
-use Rattle.slots.specs.Share.{heldAt, prftAt, setAt, trackAt, acceptedAt, shareLen, askedOf, trackOf, paramWords, acceptedOk, prftOk, referenceOk, openOk, lawful}
+use Rattle.slots.specs.Share.{heldAt, prftAt, ntpAt, mediaTimeAt, versionAt, prftFlagsAt, setAt, u24, u32, trackAt, acceptedAt, shareLen, askedOf, trackOf, paramWords, acceptedOk, prftOk, referenceOk, openOk, lawful}
 
 -- the words from a place to the end, folded
 folded : (from : ℕ) (s : List ℕ) (b : ℕ) → length s ≡ shareLen → b ≡ allBits (slice from shareLen s) → eqb b 0 ≡ allZero (drop from s)
 folded from s b l e = ap (λ (n : ℕ). eqb n 0) e ∙ bits-zero (slice from shareLen s) ∙ ap allZero (slice-to-end from shareLen s l)
+
+-- a list whose first word is 0
+past-first : (s : List ℕ) → length s ≡ shareLen → getD s trackAt 0 ≡ 0 → allZero s ≡ allZero (drop 1 s)
+unfolding allZero _and_
+past-first [] l e = absurd (omega arith)
+past-first (x ∷ []) l e = rw (eq-eqb x 0 e)
+past-first (x ∷ (y ∷ s)) l e = rw (eq-eqb x 0 e)
+
+-- the kept prft: none, or one
+pub no-prft : (s : List ℕ) (b : ℕ) → getD s prftAt 0 ≡ 0 → b ≡ allBits (slice ntpAt setAt s) → eqb b 0 ≡ prftOk s
+unfolding prftOk
+no-prft s b e q = rw (eq-eqb _ _ e, q) (bits-zero (slice ntpAt setAt s))
+
+pub some-prft : (s : List ℕ) → (getD s prftAt 0 ≡ 0 → ⊥)
+    → (eqb (getD s prftAt 0) 1
+        && (leb (getD s versionAt 0) 1 && ((eqb (getD s versionAt 0) 1 || leb (getD s mediaTimeAt 0) u32) && leb (getD s prftFlagsAt 0) u24)))
+    ≡ prftOk s
+unfolding prftOk
+some-prft s e = rw (ne-eqb _ _ e)
 
 module _ (t : Track) (s : List ℕ) (l : length s ≡ shareLen) where
   -- no reference is marked
@@ -38,9 +57,9 @@ module _ (t : Track) (s : List ℕ) (l : length s ≡ shareLen) where
 
 module _ (side : Side) (s : List ℕ) (l : length s ≡ shareLen) where
   -- a closed share
-  pub closed : (b : ℕ) → getD s trackAt 0 ≡ 0 → b ≡ allBits (slice trackAt shareLen s) → eqb b 0 ≡ lawful side s
+  pub closed : (b : ℕ) → getD s trackAt 0 ≡ 0 → b ≡ allBits (slice 1 shareLen s) → eqb b 0 ≡ lawful side s
   unfolding lawful
-  closed b e q = rw (eq-eqb _ _ e) (folded trackAt s b l q)
+  closed b e q = rw (eq-eqb _ _ e) (folded 1 s b l q ∙ sym (past-first s l e))
 
   module _ (e : getD s trackAt 0 ≡ 0 → ⊥) where
     -- an open share of bad parameters

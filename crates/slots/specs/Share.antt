@@ -85,8 +85,8 @@ acceptedOk Receiver n = leb n u32
 -- bits in version 0
 unfoldable pub prftOk : List ℕ → Bool
 prftOk s =
-    (eqb (getD s prftAt 0) 0 && allZero (slice ntpAt setAt s))
-    || (eqb (getD s prftAt 0) 1
+    cond (eqb (getD s prftAt 0) 0) (allZero (slice ntpAt setAt s))
+    (eqb (getD s prftAt 0) 1
     && (leb (getD s versionAt 0) 1
     && ((eqb (getD s versionAt 0) 1 || leb (getD s mediaTimeAt 0) u32)
     && leb (getD s prftFlagsAt 0) u24)))

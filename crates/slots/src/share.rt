@@ -3,8 +3,8 @@ ghost use mathlib.Core.Path.{_≡_};
 ghost use mathlib.Core.Bool.{true};
 ghost use Prim.Native.Nat.{_≤_, _-_};
 ghost use mathlib.Core.List.{_++_};
-ghost use lib.ListN.{length, take, drop, replicate};
-ghost use Rattle.slots.specs.Share.{shareLen, acceptedAt, askedOf, trackOf, paramWords, acceptedOk, prftOk, referenceOk, lawful};
+ghost use lib.ListN.{length, getD, take, drop, replicate};
+ghost use Rattle.slots.specs.Share.{shareLen, trackAt, acceptedAt, askedOf, trackOf, paramWords, acceptedOk, prftOk, referenceOk, lawful};
 ghost use Rattle.track.specs.Track.{lawful as lawfulTrack};
 use fieldset::scan;
 use track::Asked;
@@ -43,13 +43,13 @@ const U24: u64 = 0xff_ffff;
 
 const U32: u64 = 0xffff_ffff;
 
-// The parameters as the words have them.
-pub fn asked_of(s: &[u64]) -> Asked
-    requires { ⌜ length (now s) ≡ shareLen ⌝ }
+// The parameters as the words have them; the first has been read.
+fn asked_of(track: u64, s: &[u64]) -> Asked
+    requires { ⌜ (length (now s) ≡ shareLen) × (track ≡ getD (now s) trackAt 0) ⌝ }
     ensures { λ r. ⌜ r ≡ askedOf (now (s .entry)) ⌝ }
 {
     Asked {
-        track: s[TRACK],
+        track,
         timescale: s[1],
         description: s[2],
         duration: s[3],
@@ -65,7 +65,7 @@ pub fn track_of(s: &[u64]) -> Track
     requires { ⌜ (length (now s) ≡ shareLen) × (lawfulTrack (askedOf (now s)) ≡ true) ⌝ }
     ensures { λ r. ⌜ r ≡ trackOf (now (s .entry)) ⌝ }
 {
-    track::narrowed(asked_of(s))
+    track::narrowed(asked_of(s[TRACK], s))
 }
 
 fn accepted_ok(side: Side, n: u64) -> bool
@@ -82,11 +82,13 @@ fn prft_ok(s: &[u64]) -> bool
     ensures { λ r. ⌜ r ≡ prftOk (now (s .entry)) ⌝ }
 {
     let mark = s[PRFT];
+    if mark == 0 {
+        return scan::bits(s, NTP, SET) == 0;
+    }
     let version = s[VERSION];
-    let none = (mark == 0) & (scan::bits(s, NTP, SET) == 0);
-    let one = (mark == 1)
-        & ((version <= 1) & (((version == 1) | (s[MEDIA_TIME] <= U32)) & (s[PRFT_FLAGS] <= U24)));
-    none | one
+    (mark == 1)
+        & ((version <= 1)
+            & (((version == 1) | (s[MEDIA_TIME] <= U32)) & (s[PRFT_FLAGS] <= U24)))
 }
 
 // Whether a reference that the share marks as held is lawful, or nothing is stored where none is.
@@ -106,10 +108,11 @@ pub fn is_lawful(side: Side, s: &[u64]) -> bool
     requires { ⌜ length (now s) ≡ shareLen ⌝ }
     ensures { λ r. ⌜ r ≡ lawful side (now (s .entry)) ⌝ }
 {
-    if s[TRACK] == 0 {
-        return scan::bits(s, TRACK, SHARE) == 0;
+    let id = s[TRACK];
+    if id == 0 {
+        return scan::bits(s, 1, SHARE) == 0;
     }
-    let a = asked_of(s);
+    let a = asked_of(id, s);
     if !track::is_lawful(a) {
         return false;
     }

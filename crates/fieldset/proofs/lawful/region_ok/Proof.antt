@@ -4,12 +4,6 @@ use borrow.Author.Needs.{needs}
 use Rattle.fieldset.proofs.lawful.region_ok.Statement.{statement}
 use Rattle.fieldset.proofs.lawful.region_ok.Tie as tie
 
-mul-mark : tie.Need-mul-mark
-mul-mark c = search needs
-
-shared-slice-read-mark : tie.Need-shared-slice-read-mark
-shared-slice-read-mark c = search needs
-
 add-from : tie.Need-add-from
 add-from c = search needs
 
@@ -23,9 +17,9 @@ value-most-requires : tie.Need-value-most-requires
 value-most-requires c κs = search needs
 
 returns : tie.Need-returns
-returns c =
-    let s = c .before .before .before .before .before in
-    region-single (s .args .m) (s .args .l) _ (s .pre .0) (c .before .before .if1 .taken) _ (c .value-most .ensures)
+returns c = 
+    let s = c .before .before .before .before in
+    rw (s .pre .1 .1) (region-single (s .args .m) (s .args .l) _ (s .pre .0) (c .before .before .if1 .taken) _ (rw (s .pre .1 .1) at (c .value-most .ensures)))
 
 length-of-requires : tie.Need-length-of-requires
 length-of-requires c κs = search needs
@@ -34,10 +28,9 @@ in-use-requires : tie.Need-in-use-requires
 in-use-requires c κs = search needs
 
 returns-2 : tie.Need-returns-2
-returns-2 c =
-    let u = c .before in
-    let s = u .before .before .before .before .before in
-    region-full (s .args .m) (s .args .l) _ (s .pre .0) _ _ (u .before .length-of .ensures) (u .in-use .ensures .0) (c .if2 .taken)
+returns-2 c = 
+    let s = c .before .before .before .before .before in
+    region-full (s .args .m) (s .args .l) _ (s .pre .0) _ _ (c .before .before .length-of .ensures) (rw (s .pre .1 .1) at (c .before .in-use .ensures .0)) (c .if2 .taken)
 
 add-mid : tie.Need-add-mid
 add-mid c = search needs
@@ -52,18 +45,16 @@ bits-requires-2 : tie.Need-bits-requires-2
 bits-requires-2 c κs = search needs
 
 returns-3 : tie.Need-returns-3
-returns-3 c =
-    let u = c .before .before .before in
-    let s = u .before .before .before .before .before in
-    region-parts (s .args .m) (s .args .l) _ (s .pre .0) _ _ (u .before .length-of .ensures) (u .in-use .ensures .0)
-    (c .before .before .if2 .left) _ _ (c .before .bits .ensures) (c .bits2 .ensures)
+returns-3 c = 
+    let s = c .before .before .before .before .before .before .before in
+    rw (s .pre .1 .1)
+    (region-parts (s .args .m) (s .args .l) _ (s .pre .0) _ _ (c .before .before .before .before .length-of .ensures) (rw (s .pre .1 .1) at (c .before .before .before .in-use .ensures .0))
+    (c .before .before .if2 .left) _ _ (c .before .bits .ensures) (c .bits2 .ensures))
 
 pub region-ok-spec : {M : Type 1} → statement M
 region-ok-spec =
     tie.close
     (tie.spec
-    mul-mark
-    shared-slice-read-mark
     add-from
     mul-result
     shared-slice-read-result

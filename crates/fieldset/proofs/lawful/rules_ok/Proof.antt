@@ -1,8 +1,8 @@
 -- `fieldset::lawful::rules_ok` meets its contract: the tests are the definition's, in its order. Assumes nothing.
 use mathlib.Core.Path.{refl}
 use Rattle.laws.specs.Tests.{_and_}
-use Rattle.fieldset.specs.Lines.{lines, lineFor}
-use Rattle.fieldset.specs.Lawful.{has, setRules}
+use Rattle.fieldset.specs.Lawful.{setRules}
+use Rattle.fieldset.specs.Lines.{lineNumber, lines}
 use borrow.Author.Needs.{needs}
 use Rattle.fieldset.proofs.lawful.rules_ok.Statement.{statement}
 use Rattle.fieldset.proofs.lawful.rules_ok.Tie as tie
@@ -44,7 +44,7 @@ cast-result : tie.Need-cast-result
 cast-result c = search needs
 
 returns : tie.Need-returns
-unfolding setRules has lineFor lines _and_
+unfolding setRules lineNumber lines _and_
 returns c = refl
 
 pub rules-ok-spec : {M : Type 1} → statement M

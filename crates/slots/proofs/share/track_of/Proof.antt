@@ -5,14 +5,18 @@ use borrow.Author.Needs.{needs}
 use Rattle.slots.proofs.share.track_of.Statement.{statement}
 use Rattle.slots.proofs.share.track_of.Tie as tie
 
+shared-slice-read-asked-of : tie.Need-shared-slice-read-asked-of
+shared-slice-read-asked-of c = search needs
+
 asked-of-requires : tie.Need-asked-of-requires
 asked-of-requires c κs = search needs
 
 narrowed-requires : tie.Need-narrowed-requires
-narrowed-requires c κs = rw (c .asked-of .ensures) (c .before .before .pre .1)
+narrowed-requires c κs = rw (c .asked-of .ensures) (c .before .before .before .pre .1)
 
 returns : tie.Need-returns
 returns c = c .narrowed .ensures ∙ ap narrow (c .before .asked-of .ensures)
 
 pub track-of-spec : {M : Type 1} → statement M
-track-of-spec = tie.close (tie.spec asked-of-requires narrowed-requires returns)
+track-of-spec =
+    tie.close (tie.spec shared-slice-read-asked-of asked-of-requires narrowed-requires returns)
