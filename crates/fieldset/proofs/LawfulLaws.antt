@@ -27,6 +27,22 @@ pub counts-are : (n : ℕ) (w : List ℕ) → valuesOf 11 n w ≡ slice 399 (399
 unfolding valuesOf lineFor lines
 counts-are n w = refl
 
+-- id 16 is absent, or its value is the parameter
+pub iv-size-is : (t : Track) (w : List ℕ) → (eqb (getD w 979 0) 0 || eqb (getD w 980 0) (t .«iv_size»)) ≡ sameIvSize t w
+unfolding sameIvSize has lineFor lines
+iv-size-is t w = go (eqb (getD w 979 0) 0)
+  where
+    go : (a : Bool) → (a || eqb (getD w 980 0) (t .«iv_size»)) ≡ (not (not a) || eqb (getD w 980 0) (t .«iv_size»))
+    go true = refl
+    go false = refl
+
+-- the tally of a lawful set's subsample counts gives their sum
+pub tallied-sum : (t : Track) (w : List ℕ) (c : Tally) → t .«iv_size» ≤ 16 → lawful t w ≡ true
+    → TallyOf c ((253 - t .«iv_size») / 6) (valuesOf 11 (getD w countAt 0) w) → c .sum ≡ sum (valuesOf 11 (getD w countAt 0) w)
+unfolding lawful
+tallied-sum t w c iv e h =
+    h .total (h .within ∙ sym (saiz-is (t .«iv_size») (valuesOf 11 (getD w countAt 0) w) (omega arith)) ∙ left _ _ (right _ _ e))
+
 -- numbers within a bound are within a larger one
 all-le-more : (a b : ℕ) (s : List ℕ) → a ≤ b → allLe a s ≡ true → allLe b s ≡ true
 unfolding allLe

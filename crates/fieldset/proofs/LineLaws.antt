@@ -1,12 +1,12 @@
 -- The table of lines: what is computed over all of it, and what that says of each line. Assumes nothing.
 use Prim.Native.Nat.{ℕ, zero, suc, _+_, _-_, _^_, _≤_, _<_, zero-le}
-use native.Mathlib.Nat.{not-suc-le-zero, le-of-suc-le-suc}
+use native.Mathlib.Nat.{not-suc-le-zero, le-of-suc-le-suc, zero-add}
 use native.Mathlib.Numerals.{add-one}
 use native.Mathlib.Omega.{arith}
 use mathlib.Core.Path.{_≡_, refl, sym, _∙_}
-use mathlib.Core.Bool.{Bool, true, false, false≢true, not, _||_}
+use mathlib.Core.Bool.{Bool, true, false, false≢true, not, cond, _||_}
 use mathlib.Core.List.{List, [], _∷_}
-use borrow.Author.Tests.{eqb-true, eq-eqb, leb-true}
+use borrow.Author.Tests.{eqb-true, eq-eqb, ne-eqb, leb-true}
 use lib.Dec.{eqb, leb}
 use lib.ListN.{length, getD, drop, drop-of-length-le, List·getD-eq-default}
 use lib.Seq.{drop-cons}
@@ -16,7 +16,7 @@ use Rattle.fieldset.specs.declared.lines.Want.{Want}
 use Rattle.fieldset.specs.declared.lines.Want.the-variants.{One, LessOne, Count, Ivs, Sum}
 use Rattle.fieldset.specs.declared.lines.Line.{Line}
 use Rattle.fieldset.specs.declared.lines.Measure.{Measure}
-use Rattle.fieldset.specs.Lines.{lines, spare, setLen, wanted}
+use Rattle.fieldset.specs.Lines.{lines, spare, setLen, lineNumber, wanted}
 use Rattle.fieldset.specs.Lawful.{Shaped}
 
 -- a number is none of those below n, as the last arm of a match knows it
@@ -137,3 +137,37 @@ tiles at (l ∷ ls) end = eqb (l .place) at and tiles (at + 1 + l .room) ls end
 pub tiled : tiles 2 lines setLen ≡ true
 unfolding tiles lines _and_
 tiled = refl
+
+-- looking for the line of an id: those before the one at i are of other ids
+pub record Seeking (id i : ℕ) : Type 0 where
+  pub high : i ≤ 14
+  pub rest : i + lineNumber id (drop i lines) ≡ lineNumber id lines
+
+pub seek-start : (id : ℕ) → Seeking id 0
+seek-start id = record { high = omega arith; rest = zero-add (lineNumber id lines) }
+
+module _ (id i : ℕ) (h : Seeking id i) where
+  -- none is of that id
+  pub seek-end : 14 ≤ i → 14 ≡ lineNumber id lines
+  unfolding lineNumber
+  seek-end le =
+      let e : i ≡ 14 = omega (arith, h .high) in
+      let z : i + 0 ≡ lineNumber id lines = rw (no-lines i le) at (h .rest) in
+      omega arith
+
+  module _ (lt : i < 14) (l : Line) (el : l ≡ getD lines i spare) where
+    here-is : lineNumber id (drop i lines) ≡ cond (eqb (l .id) id) 0 (suc (lineNumber id (drop (i + 1) lines)))
+    unfolding lineNumber
+    here-is = rw (line-here i lt, ← el)
+
+    -- this one is
+    pub seek-found : l .id ≡ id → i ≡ lineNumber id lines
+    seek-found e =
+        let z : lineNumber id (drop i lines) ≡ 0 = here-is ∙ rw (eq-eqb (l .id) id e) in
+        omega (arith, h .rest)
+
+    -- this one isn't
+    pub seek-next : (l .id ≡ id → ⊥) → Seeking id (i + 1)
+    seek-next n =
+        let z : lineNumber id (drop i lines) ≡ suc (lineNumber id (drop (i + 1) lines)) = here-is ∙ rw (ne-eqb (l .id) id n) in
+        record { high = omega arith; rest = omega (arith, h .rest) }

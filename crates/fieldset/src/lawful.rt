@@ -2,12 +2,12 @@
 // are folded together.
 ghost use mathlib.Core.Path.{_≡_};
 ghost use mathlib.Core.Bool.{true};
-ghost use Prim.Native.Nat.{_+_, _≤_};
+ghost use Prim.Native.Nat.{_+_, _-_, _/_, _≤_};
 ghost use lib.ListN.{length, getD};
 ghost use lib.Seq.{slice};
 ghost use Rattle.laws.specs.Tests.{_and_};
 ghost use Rattle.fieldset.specs.Lines.{lines, setLen, Small};
-ghost use Rattle.fieldset.specs.Lawful.{Shaped, TallyOf, Counted, marksOf, regionOk, regionsOk, setRules, sameIvSize, inUse, lawful};
+ghost use Rattle.fieldset.specs.Lawful.{Shaped, TallyOf, Counted, marksOf, regionOk, regionsOk, setRules, sameIvSize, valuesOf, measureOf, inUse, lawful};
 use crate::lines;
 use crate::lines::Line;
 use crate::lines::Measure;
@@ -158,6 +158,41 @@ fn fields_ok(t: Track, w: &[u64], marks: &[u64], m: Measure, counted: usize) -> 
     let counts = (marks[9] <= 1) & (crate::scan::bits(w, from + counted, from + 64) == 0);
     let size = (marks[13] <= 1) & (w[lines::IV_SIZE + 1] == value_most(marks[13], iv));
     regions_ok(w, marks, m, 0, 9) & (counts & (regions_ok(w, marks, m, 10, 13) & size))
+}
+
+// The subsample counts of a set of n samples, by the mark of id 11.
+pub fn tally_of(t: Track, w: &[u64], mark: u64, n: usize) -> Tally
+    requires { ⌜ length (now w) ≡ setLen ⌝ }
+    requires { ⌜ (n ≤ 64) × (t .«iv_size» ≤ 16) ⌝ }
+    requires { ⌜ mark ≡ getD (now w) 398 0 ⌝ }
+    ensures { λ r. ⌜ TallyOf r ((253 - t .«iv_size») / 6) (valuesOf 11 n (now (w .entry))) ⌝ }
+{
+    let from = lines::SUBSAMPLES + 1;
+    tallied(w, from, from + in_use(mark, n), (253 - t.iv_size as u64) / 6)
+}
+
+// The lengths that the fields of a lawful set go by.
+pub fn measure(t: Track, w: &[u64]) -> Measure
+    requires { ⌜ length (now w) ≡ setLen ⌝ }
+    requires { ⌜ t .«iv_size» ≤ 16 ⌝ }
+    requires { ⌜ lawful t (now w) ≡ true ⌝ }
+    ensures { λ r. ⌜ r ≡ measureOf t (now (w .entry)) ⌝ }
+{
+    let n = w[lines::COUNT] as usize;
+    let c = tally_of(t, w, w[lines::SUBSAMPLES], n);
+    Measure {
+        count: n,
+        ivs: (t.iv_size / 8) as usize,
+        sum: c.sum,
+    }
+}
+
+// Whether the IV size, where it stands, is the parameter.
+pub fn same_iv_size(t: Track, w: &[u64]) -> bool
+    requires { ⌜ length (now w) ≡ setLen ⌝ }
+    ensures { λ r. ⌜ r ≡ sameIvSize t (now (w .entry)) ⌝ }
+{
+    (w[lines::IV_SIZE] == 0) | (w[lines::IV_SIZE + 1] == t.iv_size as u64)
 }
 
 // Whether the words are those of a lawful set on the track. The subsample counts are looked at first, since ids 13 and 15 go by their sum.

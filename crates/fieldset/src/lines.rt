@@ -1,7 +1,7 @@
 // The table of the fields that a set has beside BMDT and the sample count: a line for each id, in ascending order.
 ghost use mathlib.Core.Path.{_≡_};
 ghost use lib.ListN.{getD};
-ghost use Rattle.fieldset.specs.Lines.{lines, spare, lineOf, wanted};
+ghost use Rattle.fieldset.specs.Lines.{lines, spare, lineOf, lineNumber, wanted};
 
 // How many values a field has where it stands: one, a value for each sample or for each but the last, the words of the IVs, or a value for
 // each subsample.
@@ -139,4 +139,18 @@ pub fn length_of(want: Want, m: Measure) -> usize
         Want::Ivs => m.count * m.ivs,
         Want::Sum => m.sum,
     }
+}
+
+// The number of the line of an id; LINES for an id that has none.
+pub fn number_of(id: u64) -> usize
+    ensures { λ r. ⌜ r ≡ lineNumber id lines ⌝ }
+{
+    let mut i = 0;
+    while i < LINES {
+        if line_at(i).id == id {
+            return i;
+        }
+        i += 1;
+    }
+    LINES
 }
