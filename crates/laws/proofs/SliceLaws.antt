@@ -1,10 +1,10 @@
 -- Parts of a list by their places: what `lib.Seq` lacks. Assumes nothing.
-use Prim.Native.Nat.{ℕ, _+_, _≤_}
+use Prim.Native.Nat.{ℕ, _+_, _-_, _≤_}
 use native.Mathlib.Omega.{arith}
-use mathlib.Core.Path.{_≡_, sym, _∙_, ap}
+use mathlib.Core.Path.{_≡_, refl, sym, _∙_, ap}
 use mathlib.Core.List.{List, [], _++_}
 use lib.ListN.{length, take, drop, length-take, drop-of-length-le}
-use lib.Seq.{slice, take-add, take-take, take-all, drop-at, drop-drop}
+use lib.Seq.{slice, take-add, take-take, take-all, drop-at, drop-drop, take-append-add, take-append-seam, drop-append-seam}
 
 -- nothing stands between a place and one not after it
 pub slice-none : (f t : ℕ) (l : List ℕ) → t ≤ f → slice f t l ≡ []
@@ -25,3 +25,15 @@ drop-slice f t n l = drop-drop n f (take t l)
 -- a part that goes to the list's end
 pub slice-to-end : (f n : ℕ) (l : List ℕ) → length l ≡ n → slice f n l ≡ drop f l
 slice-to-end f n l e = ap (drop f) (take-all n l (omega arith))
+
+-- a part of the middle as it is lent
+pub slice-lent : (a e : ℕ) (s : List ℕ) → a ≤ e → e ≤ length s → take (e - a) (drop a s) ≡ slice a e s
+slice-lent a e s h k =
+    let n : a + (e - a) ≡ e = omega arith in
+    ap (λ (l : List ℕ). take (e - a) l) (sym (slice-to-end a (length s) s refl))
+    ∙ take-slice a (length s) (e - a) s (omega arith) (omega arith)
+    ∙ ap (λ (m : ℕ). slice a m s) n
+
+-- the part that stands between two others
+pub slice-between : (pre mid post : List ℕ) → slice (length pre) (length pre + length mid) (pre ++ (mid ++ post)) ≡ mid
+slice-between pre mid post = rw (take-append-add pre (mid ++ post) (length mid), take-append-seam, drop-append-seam)
