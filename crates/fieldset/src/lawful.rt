@@ -129,8 +129,7 @@ pub fn rules_ok(t: Track, n: u64, marks: &[u64]) -> bool
     let clear = marks[11] != 0;
     let protected = marks[12] != 0;
     let lists = sizes
-        | ((marks[2] != 0)
-            | ((marks[4] != 0) | (flags | (subsamples | (clear | protected)))));
+        | ((marks[2] != 0) | ((marks[4] != 0) | (flags | (subsamples | (clear | protected)))));
     let cenc = t.protection as u64 == track::CENC;
     ((n != 0) | !(lists | (ivs | first)))
         & (((n != 1) | !(sizes | size))
@@ -168,7 +167,12 @@ pub fn tally_of(t: Track, w: &[u64], mark: u64, n: usize) -> Tally
     ensures { λ r. ⌜ TallyOf r ((253 - t .«iv_size») / 6) (valuesOf 11 n (now (w .entry))) ⌝ }
 {
     let from = lines::SUBSAMPLES + 1;
-    tallied(w, from, from + in_use(mark, n), (253 - t.iv_size as u64) / 6)
+    tallied(
+        w,
+        from,
+        from + in_use(mark, n),
+        (253 - t.iv_size as u64) / 6,
+    )
 }
 
 // The lengths that the fields of a lawful set go by.

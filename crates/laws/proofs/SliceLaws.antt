@@ -3,8 +3,8 @@ use Prim.Native.Nat.{ℕ, _+_, _-_, _≤_}
 use native.Mathlib.Omega.{arith}
 use mathlib.Core.Path.{_≡_, refl, sym, _∙_, ap}
 use mathlib.Core.List.{List, [], _++_}
-use lib.ListN.{length, take, drop, length-take, drop-of-length-le}
-use lib.Seq.{slice, take-add, take-take, take-all, drop-at, drop-drop, take-append-add, take-append-seam, drop-append-seam}
+use lib.ListN.{length, take, drop, length-take, drop-of-length-le, take-append-drop}
+use lib.Seq.{slice, take-add, take-take, take-all, drop-at, drop-drop, take-append-add, take-append-seam, drop-append-seam, drop-append-le}
 
 -- nothing stands between a place and one not after it
 pub slice-none : (f t : ℕ) (l : List ℕ) → t ≤ f → slice f t l ≡ []
@@ -37,3 +37,11 @@ slice-lent a e s h k =
 -- the part that stands between two others
 pub slice-between : (pre mid post : List ℕ) → slice (length pre) (length pre + length mid) (pre ++ (mid ++ post)) ≡ mid
 slice-between pre mid post = rw (take-append-add pre (mid ++ post) (length mid), take-append-seam, drop-append-seam)
+
+-- a part is its front and its rest
+pub slice-join : (f m t : ℕ) (l : List ℕ) → f ≤ m → m ≤ t → t ≤ length l → slice f t l ≡ slice f m l ++ slice m t l
+slice-join f m t l a b c =
+    let n : f ≤ length (take m (take t l)) = omega (arith, length-take m (take t l), length-take t l) in
+    ap (drop f) (sym (take-append-drop m (take t l)))
+    ∙ drop-append-le f (take m (take t l)) (drop m (take t l)) n
+    ∙ ap (λ (z : List ℕ). drop f z ++ drop m (take t l)) (take-take m t l b)

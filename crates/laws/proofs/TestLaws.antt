@@ -1,5 +1,6 @@
 -- Laws of tests: a row of tests taken apart and put together, and what one number that collects bits says of all. Assumes nothing.
 use Prim.Native.Nat.{ℕ, zero, suc, _+_, _-_, _*_, _/_, _%_, _^_, _≤_, _<_, max}
+use native.Mathlib.Nat.{zero-add, add-assoc, suc-mul}
 use native.Mathlib.Omega.{arith}
 use mathlib.Core.Path.{_≡_, refl, sym, _∙_, ap, ap₂}
 use mathlib.Core.Bool.{Bool, true, false, false≢true, _&&_}
@@ -73,6 +74,32 @@ pub allZero-zeros : (n : ℕ) → allZero (replicate n 0) ≡ true
 unfolding allZero _and_
 allZero-zeros zero = refl
 allZero-zeros (suc n) = allZero-zeros n
+
+pub allLe-append : (b : ℕ) (xs ys : List ℕ) → allLe b (xs ++ ys) ≡ (allLe b xs and allLe b ys)
+unfolding allLe _and_
+allLe-append b [] ys = refl
+allLe-append b (x ∷ xs) ys = ap (λ (c : Bool). leb x b and c) (allLe-append b xs ys) ∙ sym (and-assoc (leb x b) (allLe b xs) (allLe b ys))
+
+-- zeros keep every bound
+pub zeros-le : (b : ℕ) (s : List ℕ) → allZero s ≡ true → allLe b s ≡ true
+unfolding allZero allLe
+zeros-le b [] e = refl
+zeros-le b (x ∷ s) e =
+    let z : x ≡ 0 = eqb-true x 0 (left _ _ e) in
+    both _ _ (le-leb x b (omega arith)) (zeros-le b s (right _ _ e))
+
+pub sum-append : (xs ys : List ℕ) → sum (xs ++ ys) ≡ sum xs + sum ys
+unfolding sum
+sum-append [] ys = sym (zero-add (sum ys))
+sum-append (x ∷ xs) ys = ap (λ (n : ℕ). x + n) (sum-append xs ys) ∙ sym (add-assoc x (sum xs) (sum ys))
+
+-- numbers within a bound: their sum
+pub sum-most : (b : ℕ) (s : List ℕ) → allLe b s ≡ true → sum s ≤ length s * b
+unfolding sum allLe
+sum-most b [] e = omega arith
+sum-most b (x ∷ s) e =
+    let h : x ≤ b = leb-true x b (left _ _ e) in
+    rw (suc-mul (length s) b) (omega (arith, sum-most b s (right _ _ e)))
 
 -- a list all of whose numbers are 0 is known by its length
 pub zeros-are : (s : List ℕ) → allZero s ≡ true → s ≡ replicate (length s) 0

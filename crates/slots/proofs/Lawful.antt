@@ -27,7 +27,6 @@ use Rattle.slots.specs.Table.{Out, out, itself, tableLen, shareAt, table
 use Rattle.slots.specs.Calls.{openRungs, openedRungs, opening, closing, grouping}
 use Rattle.slots.specs.Laws.{Keeps, StaysLawful, FreshLawful, OpenExactly, CloseExactly, GroupExactly, OpenStores, CloseZeroes, GroupDrops, RefusalKeeps}
 
-
 -- ---- lengths
 
 opened-long : (a : Asked) → length (opened a) ≡ shareLen

@@ -38,7 +38,7 @@ no-prft s b e q = rw (eq-eqb _ _ e, q) (bits-zero (slice ntpAt setAt s))
 
 pub some-prft : (s : List ℕ) → (getD s prftAt 0 ≡ 0 → ⊥)
     → (eqb (getD s prftAt 0) 1
-        && (leb (getD s versionAt 0) 1 && ((eqb (getD s versionAt 0) 1 || leb (getD s mediaTimeAt 0) u32) && leb (getD s prftFlagsAt 0) u24)))
+    && (leb (getD s versionAt 0) 1 && ((eqb (getD s versionAt 0) 1 || leb (getD s mediaTimeAt 0) u32) && leb (getD s prftFlagsAt 0) u24)))
     ≡ prftOk s
 unfolding prftOk
 some-prft s e = rw (ne-eqb _ _ e)

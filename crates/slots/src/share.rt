@@ -87,8 +87,7 @@ fn prft_ok(s: &[u64]) -> bool
     }
     let version = s[VERSION];
     (mark == 1)
-        & ((version <= 1)
-            & (((version == 1) | (s[MEDIA_TIME] <= U32)) & (s[PRFT_FLAGS] <= U24)))
+        & ((version <= 1) & (((version == 1) | (s[MEDIA_TIME] <= U32)) & (s[PRFT_FLAGS] <= U24)))
 }
 
 // Whether a reference that the share marks as held is lawful, or nothing is stored where none is.

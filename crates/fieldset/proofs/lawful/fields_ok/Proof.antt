@@ -49,7 +49,7 @@ regions-ok-requires-2 : tie.Need-regions-ok-requires-2
 regions-ok-requires-2 c κs = let p = c .before .before .before .before .before .before .before .before .before .before .pre in (p .0, (p .1 .0, (p .1 .1 .0, (omega arith, omega arith))))
 
 returns : tie.Need-returns
-returns c = 
+returns c =
     let s = c .before .before .before .before .before .before .before .before .before .before .before in
     let marks = s .pre .1 .1 .0 .0 in
     rw (c .before .before .before .before .before .before .bits .ensures, c .before .before .value-most .ensures, mark-11 _ _ marks, mark-16 _ _ marks)

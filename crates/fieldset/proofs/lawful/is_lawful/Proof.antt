@@ -36,7 +36,7 @@ tallied-requires : tie.Need-tallied-requires
 tallied-requires c κs = search needs
 
 returns-2 : tie.Need-returns-2
-returns-2 c = 
+returns-2 c =
     let s = c .before .before .before .before .before .before .before .before .before in
     many-subsamples (s .args .t) (now (s .args .w)) (c .before .before .before .before .before .before .if1 .left) (s .pre .1) _ (rw (mark-11 _ _ (c .before .before .before .before .marks-of .ensures)) at (c .before .before .before .in-use .ensures .0)) (c .before .before .tallied .result) (c .before .before .tallied .ensures) (c .if2 .taken)
 
@@ -47,7 +47,7 @@ slice-aggregate-fields-ok : tie.Need-slice-aggregate-fields-ok
 slice-aggregate-fields-ok c = search needs
 
 fields-ok-requires : tie.Need-fields-ok-requires
-fields-ok-requires c κs = 
+fields-ok-requires c κs =
     let s = c .before .before .before .before .before .before .before .before .before .before .before .before in
     let few = small-counts (s .args .t) (now (s .args .w)) (c .before .before .before .before .before .before .before .before .before .if1 .left) (s .pre .1) _ (rw (mark-11 _ _ (c .before .before .before .before .before .before .before .marks-of .ensures)) at (c .before .before .before .before .before .before .in-use .ensures .0)) (c .before .before .before .before .before .tallied .result) (c .before .before .before .before .before .tallied .ensures) (c .before .before .before .if2 .left) in
     (s .pre .0, (search needs, ((c .before .before .before .before .before .before .before .marks-of .ensures, search needs), (few, s .pre .1))))
@@ -59,7 +59,7 @@ rules-ok-requires : tie.Need-rules-ok-requires
 rules-ok-requires c κs = search needs
 
 returns-3 : tie.Need-returns-3
-returns-3 c = 
+returns-3 c =
     let s = c .before .before .before .before .before .before .before .before .before .before .before .before .before .before .before in
     lawful-rest (s .args .t) (now (s .args .w)) (c .before .before .before .before .before .before .before .before .before .before .before .before .if1 .left) (s .pre .1) _ (rw (mark-11 _ _ (c .before .before .before .before .before .before .before .before .before .before .marks-of .ensures)) at (c .before .before .before .before .before .before .before .before .before .in-use .ensures .0)) (c .before .before .before .before .before .before .before .before .tallied .result) (c .before .before .before .before .before .before .before .before .tallied .ensures)
     (c .before .before .before .before .before .before .if2 .left) _ _ (c .before .before .fields-ok .ensures) (rw (c .before .before .before .before .before .before .before .before .before .before .marks-of .ensures) at (c .rules-ok .ensures))

@@ -27,7 +27,7 @@ measured n v k = record { count = n; ivs = v; sum = k }
 
 returns : tie.Need-returns
 unfolding measured
-returns c = 
+returns c =
     let s = c .before .before .before .before .before in
     ap (λ (k : ℕ). measured (getD (now (s .args .w)) countAt 0) (s .args .t .«iv_size» / 8) k)
     (tallied-sum (s .args .t) (now (s .args .w)) (c .before .tally-of .result) (s .pre .1 .0) (s .pre .1 .1) (c .before .tally-of .ensures))

@@ -17,7 +17,7 @@ value-most-requires : tie.Need-value-most-requires
 value-most-requires c κs = search needs
 
 returns : tie.Need-returns
-returns c = 
+returns c =
     let s = c .before .before .before .before in
     rw (s .pre .1 .1) (region-single (s .args .m) (s .args .l) _ (s .pre .0) (c .before .before .if1 .taken) _ (rw (s .pre .1 .1) at (c .value-most .ensures)))
 
@@ -28,7 +28,7 @@ in-use-requires : tie.Need-in-use-requires
 in-use-requires c κs = search needs
 
 returns-2 : tie.Need-returns-2
-returns-2 c = 
+returns-2 c =
     let s = c .before .before .before .before .before in
     region-full (s .args .m) (s .args .l) _ (s .pre .0) _ _ (c .before .before .length-of .ensures) (rw (s .pre .1 .1) at (c .before .in-use .ensures .0)) (c .if2 .taken)
 
@@ -45,7 +45,7 @@ bits-requires-2 : tie.Need-bits-requires-2
 bits-requires-2 c κs = search needs
 
 returns-3 : tie.Need-returns-3
-returns-3 c = 
+returns-3 c =
     let s = c .before .before .before .before .before .before .before in
     rw (s .pre .1 .1)
     (region-parts (s .args .m) (s .args .l) _ (s .pre .0) _ _ (c .before .before .before .before .length-of .ensures) (rw (s .pre .1 .1) at (c .before .before .before .in-use .ensures .0))

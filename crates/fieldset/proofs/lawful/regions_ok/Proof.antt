@@ -24,7 +24,7 @@ shared-slice-read-region-ok : tie.Need-shared-slice-read-region-ok Inv-loop μ-l
 shared-slice-read-region-ok c = search needs
 
 region-ok-requires : tie.Need-region-ok-requires Inv-loop μ-loop
-region-ok-requires c κs = 
+region-ok-requires c κs =
     let h = c .before .before .before .loop .inv in
     (scan-shape _ _ _ _ _ _ h (c .before .before .loop-test .taken) _ (c .before .line-at .ensures), (h .small, scan-mark _ _ _ _ _ _ h (c .before .before .loop-test .taken) _ (c .before .line-at .ensures) _ (c .before .before .before .before .before .before .pre .1 .1 .0 .0)))
 
@@ -35,7 +35,7 @@ loop-less : tie.Need-loop-less Inv-loop μ-loop
 loop-less c = search needs
 
 loop-again : tie.Need-loop-again Inv-loop μ-loop
-loop-again c = 
+loop-again c =
     scan-next _ _ _ _ _ _ (c .before .before .before .before .loop .inv) (c .before .before .before .loop-test .taken) _ (c .before .before .line-at .ensures) _ (c .region-ok .ensures)
 
 returns : tie.Need-returns Inv-loop μ-loop

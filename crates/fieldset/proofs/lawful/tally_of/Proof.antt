@@ -24,7 +24,7 @@ tallied-requires : tie.Need-tallied-requires
 tallied-requires c κs = search needs
 
 returns : tie.Need-returns
-returns c = 
+returns c =
     let s = c .before .before .before .before in
     let marked = rw (s .pre .1 .1) at (c .before .before .in-use .ensures .0) in
     rw (counts-are (s .args .n) (now (s .args .w)), ← marked) (c .tallied .ensures)

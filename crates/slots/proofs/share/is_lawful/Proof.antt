@@ -27,7 +27,7 @@ is-lawful-requires : tie.Need-is-lawful-requires
 is-lawful-requires c κs = search needs
 
 returns-2 : tie.Need-returns-2
-returns-2 c = 
+returns-2 c =
     let b = c .before .before .before .before .before .before in
     bad-track (b .args .side) (now (b .args .s)) (b .pre) (c .before .before .before .if1 .left) (rw (c .before .before .asked-of .ensures) at (failed (c .before .is-lawful .ensures) (c .if2 .taken)))
 
@@ -41,11 +41,11 @@ narrowed-requires : tie.Need-narrowed-requires
 narrowed-requires c κs = held (c .before .before .before .is-lawful .ensures) (c .before .before .if2 .left)
 
 reference-ok-requires : tie.Need-reference-ok-requires
-reference-ok-requires c κs = 
+reference-ok-requires c κs =
     (search needs, rw (c .narrowed .ensures) (ranges _ (held (c .before .before .before .before .is-lawful .ensures) (c .before .before .before .if2 .left)) .iv-size))
 
 returns-3 : tie.Need-returns-3
-returns-3 c = 
+returns-3 c =
     let b = c .before .before .before .before .before .before .before .before .before .before in
     good-track (b .args .side) (now (b .args .s)) (b .pre) (c .before .before .before .before .before .before .before .if1 .left) _ _
     (rw (c .before .before .before .before .before .before .asked-of .ensures) at (held (c .before .before .before .before .before .is-lawful .ensures) (c .before .before .before .before .if2 .left))) (c .before .before .accepted-ok .ensures)
