@@ -65,3 +65,17 @@ pub box-of : {l m n : List ℕ} {at p q s : ℕ} (type : ℕ) {body : List ℕ}
 unfolding box
 box-of {s = s} type {body = body} h b e =
     wrote-as (append-assoc (be 4 s) (be 4 type) body ∙ ap (λ (k : ℕ). be 4 k ++ (be 4 type ++ body)) e) (then h b)
+
+-- a head with the right size, some words and the rest are the box whose body these make
+pub box-head : (type size : ℕ) (ws rest : List ℕ) {body : List ℕ} → words ws ++ rest ≡ body → size ≡ 8 + length body
+    → words (size ∷ type ∷ ws) ++ rest ≡ box type body
+unfolding box words be
+box-head type size ws rest {body} e h = ap (λ (b : List ℕ). be 4 size ++ (be 4 type ++ b)) e ∙ ap (λ (n : ℕ). be 4 n ++ (be 4 type ++ body)) h
+
+pub fullBox-head : (type version flags size word : ℕ) (ws rest : List ℕ) {body : List ℕ} → words ws ++ rest ≡ body
+    → word ≡ version * 2 ^ 24 + flags → size ≡ 12 + length body → words (size ∷ type ∷ word ∷ ws) ++ rest ≡ fullBox type version flags body
+unfolding fullBox words be
+fullBox-head type version flags size word ws rest {body} e f h =
+    let first : be 4 word ++ (words ws ++ rest) ≡ be 4 (version * 2 ^ 24 + flags) ++ body =
+    ap (λ (b : List ℕ). be 4 word ++ b) e ∙ ap (λ (n : ℕ). be 4 n ++ body) f in
+    box-head type size (word ∷ ws) rest first (omega arith)

@@ -9,3 +9,4 @@ pub mod TestLaws
 pub mod WalkLaws
 pub mod ByLengthLaws
 pub mod LeftLaws
+pub mod PartLaws

@@ -1,0 +1,9 @@
+pub mod PairLaws
+pub mod SencLaws
+pub mod SaizLaws
+pub mod ProtectionLaws
+pub mod ProtectableLaws
+pub mod SizeLaws
+pub mod OuterLaws
+pub mod MoofLaws
+pub mod FrontLaws

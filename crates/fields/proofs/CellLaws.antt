@@ -1,0 +1,171 @@
+-- What each function of `cells` stored and answered is what the specs say of its field. Assumes nothing.
+use Prim.Native.Nat.{ℕ, suc, _+_, _-_, _*_, _≤_}
+use native.Mathlib.Nat.{add-sub-cancel-left}
+use native.Mathlib.Numerals.{add-one}
+use native.Mathlib.Omega.{arith}
+use mathlib.Core.Path.{_≡_, refl, sym, _∙_, ap}
+use mathlib.Core.Bool.{Bool, true, false, false≢true, _&&_}
+use mathlib.Core.List.{List, []}
+use borrow.Author.Tests.{eq-eqb, ne-eqb}
+use lib.ListN.{length, set, length-set}
+use lib.Seq.{slice, sets, length-sets, length-slice}
+use Rattle.wire.specs.declared.form.Row.{Row}
+use Rattle.wire.specs.declared.zigzag.Coding.{Coding}
+use Rattle.wire.specs.declared.zigzag.Reached.the-variants.{To}
+use Rattle.wire.specs.declared.zigzag.Reached.the-variants.{Outside as Beyond}
+use Rattle.wire.specs.Zigzag.{reached}
+use Rattle.runs.specs.declared.Outcome.{Outcome}
+use Rattle.runs.specs.declared.Outcome.the-variants.{Done, Misfit, Outside}
+use Rattle.runs.specs.Run.{FilledAs, filledAt}
+use Rattle.runs.proofs.RunLaws.{filled-inside}
+use Rattle.block.specs.Numbers.{stepsF}
+use Rattle.block.proofs.NumberLaws.{filled-numbers}
+use Rattle.track.specs.declared.Track.{Track}
+use Rattle.fieldset.specs.declared.lines.Want.{Want}
+use Rattle.fieldset.specs.declared.lines.Want.the-variants.{One, LessOne, Count, Ivs, Sum}
+use Rattle.fieldset.specs.declared.lines.Absent.{Absent}
+use Rattle.fieldset.specs.declared.lines.Absent.the-variants.{Zero, Middle, Description, Duration, Size, Flags, IvSize}
+use Rattle.fieldset.specs.Lines.{absentValue}
+use Rattle.fields.specs.declared.said.Span.{Span}
+use Rattle.fields.specs.declared.cells.Cell.{Cell}
+use Rattle.fields.specs.Cells.{Came, TakenAs, Listed, told, right, misfitOf, outOfRange, missing, codingOf, isIvs, packed, filledAs, carried, sentOne, sentList, listIn}
+
+-- what is known under another name
+pub absent-is : (a : Absent) {b : Absent} (t : Track) → b ≡ a → absentValue t a ≡ absentValue t b
+absent-is a t e = rw e
+
+pub misfit-is : (v : Want) {w : Want} → w ≡ v → misfitOf v ≡ misfitOf w
+misfit-is v e = rw e
+
+-- nothing is wrong
+abbrev whole : Cell → Bool
+whole c = c .first && (c .second && c .within)
+
+broken : (c : Cell) → whole c ≡ false → c .first ≡ true → c .second ≡ true → c .within ≡ true → ⊥
+broken c w a b d = let z : true ≡ false = rw (a, b, d) at w in false≢true (sym z)
+
+-- a length that is not the required one is wrong
+misfit-broken : (w : Want) → whole (misfitOf w) ≡ false
+misfit-broken One = refl
+misfit-broken LessOne = refl
+misfit-broken Count = refl
+misfit-broken Ivs = refl
+misfit-broken Sum = refl
+
+-- where something is wrong nothing is asked of what was stored
+refused : {f : Came} {place : ℕ} {x : List ℕ} {c : Cell} {after : List ℕ} → c ≡ f .cell → whole (f .cell) ≡ false → length after ≡ length x
+    → TakenAs f place x c after
+refused {f} e w n =
+    record { answered = e; stored = λ a b d. absurd (broken (f .cell) w (rw e at a) (rw e at b) (rw e at d)); long = n }
+
+-- ---- a single value
+module _ (coding : Coding) (old bound z place : ℕ) (x : List ℕ) {c : Cell} where
+  pub one-outside : reached coding old bound z ≡ Beyond → c ≡ outOfRange → TakenAs (sentOne coding old bound z) place x c x
+  unfolding sentOne
+  one-outside e q = rw e (refused q refl refl)
+
+  pub one-to : (v : ℕ) → reached coding old bound z ≡ To v → c ≡ right
+      → TakenAs (sentOne coding old bound z) place x c (set (set x place 1) (place + 1) v)
+  unfolding sentOne
+  one-to v e q =
+      rw e (record { answered = q; stored = λ _ _ _. rw add-one; long = simp length-set })
+
+-- ---- a field that is carried on
+module _ (want : Want) (j k place : ℕ) (r x : List ℕ) {c : Cell} where
+  pub carry-ivs : isIvs want ≡ true → c ≡ missing → (olds : List ℕ) → TakenAs (carried want j k olds) place x c x
+  unfolding carried
+  carry-ivs i q olds = rw i (refused q refl refl)
+
+  pub carry-long : isIvs want ≡ false → (j ≡ k → ⊥) → c ≡ misfitOf want → (olds : List ℕ) → TakenAs (carried want j k olds) place x c x
+  unfolding carried
+  carry-long i n q olds = rw (i, ne-eqb j k n) (refused q (misfit-broken want) refl)
+
+  pub carry-same : isIvs want ≡ false → j ≡ k → c ≡ right → (after : List ℕ)
+      → after ≡ sets (set x place 1) (place + 1) (slice (place + 1) (place + 1 + k) r)
+      → TakenAs (carried want j k (slice (place + 1) (place + 1 + j) r)) place x c after
+  unfolding carried
+  carry-same i e q after w =
+      rw (i, eq-eqb j k e)
+      (record {
+        answered = q;
+        stored = λ _ _ _. w ∙ rw (e, add-one);
+        long = ap length w ∙ simp (length-sets, length-set);
+      })
+
+-- ---- a list
+module _ (F : List Row) (o : List ℕ) (want : Want) (s : Span) (coding : Coding) (base bound k place : ℕ) (x : List ℕ)
+    (h : Listed F o want s) where
+  module _ (i : isIvs want ≡ true) where
+    raw-length : length (listIn F o want s) ≡ s .number
+    unfolding listIn
+    raw-length = rw i (length-slice (s .at) (s .at + s .number) o (h .inside) ∙ add-sub-cancel-left (s .at) (s .number))
+
+    pub raw-misfit : {c : Cell} → (s .number ≡ 8 * k → ⊥) → c ≡ misfitOf want → (olds : List ℕ)
+        → TakenAs (sentList coding base bound want k olds (listIn F o want s)) place x c x
+    unfolding sentList
+    raw-misfit n q olds = rw (i, raw-length, ne-eqb (s .number) (8 * k) n) (refused q (misfit-broken want) refl)
+
+    raw-words : s .number ≡ 8 * k
+        → sets (set x place 1) (place + 1) (packed k (slice (s .at) (s .at + 8 * k) o)) ≡ sets (set x place 1) (suc place) (packed k (listIn F o want s))
+    unfolding listIn
+    raw-words n = rw (i, n, add-one)
+
+    pub raw-packed : {c : Cell} → s .number ≡ 8 * k → c ≡ right → (olds after : List ℕ)
+        → after ≡ sets (set x place 1) (place + 1) (packed k (slice (s .at) (s .at + 8 * k) o))
+        → TakenAs (sentList coding base bound want k olds (listIn F o want s)) place x c after
+    unfolding sentList
+    raw-packed n q olds after w =
+        rw (i, raw-length, eq-eqb (s .number) (8 * k) n)
+        (record { answered = q; stored = λ _ _ _. w ∙ raw-words n; long = ap length w ∙ simp (length-sets, length-set) })
+
+  module _ (i : isIvs want ≡ false) where
+    pub list-misfit : {c : Cell} → (s .count ≡ k → ⊥) → c ≡ misfitOf want → (olds : List ℕ)
+        → TakenAs (sentList coding base bound want k olds (listIn F o want s)) place x c x
+    unfolding sentList
+    list-misfit n q olds = rw (i, ← h .many i, ne-eqb (s .count) k n) (refused q (misfit-broken want) refl)
+
+    -- k values were read: what is read is what the numbers of the list stand for
+    steps : s .count ≡ k → (olds : List ℕ)
+        → filledAt F coding base bound k olds o (s .at) (s .at + s .number) ≡ stepsF coding base bound olds (listIn F o want s)
+    steps n olds =
+        let e : k ≡ length (listIn F o want s) = sym n ∙ h .many i in
+        rw (filled-inside F coding base bound k olds o (s .at) (s .at + s .number) (h .inside), e)
+        (filled-numbers F coding base bound (listIn F o want s) olds (slice (s .at) (s .at + s .number) o) (h .whole i))
+
+    pub list-filled : {c : Cell} → s .count ≡ k → (a : Outcome) → c ≡ filledAs a [] .cell → (olds after : List ℕ)
+        → FilledAs (filledAt F coding base bound k olds o (s .at) (s .at + s .number)) (set x place 1) (place + 1) a after
+        → TakenAs (sentList coding base bound want k olds (listIn F o want s)) place x c after
+    unfolding sentList
+    list-filled {c} n a q olds after w =
+        let z : FilledAs (stepsF coding base bound olds (listIn F o want s)) (set x place 1) (place + 1) a after = rw (steps n olds) at w in
+        rw (i, ← h .many i, eq-eqb (s .count) k n, ← z .answered)
+        (go a q (stepsF coding base bound olds (listIn F o want s) .values) (z .stored))
+      where
+        go : (a : Outcome) → c ≡ filledAs a [] .cell → (vs : List ℕ) → after ≡ sets (set x place 1) (place + 1) vs → TakenAs (filledAs a vs) place x c after
+        go Done q vs e = record { answered = q; stored = λ _ _ _. e ∙ rw add-one; long = ap length e ∙ simp (length-sets, length-set) }
+        go Misfit q vs e = refused q refl (ap length e ∙ simp (length-sets, length-set))
+        go Outside q vs e = refused q refl (ap length e ∙ simp (length-sets, length-set))
+
+-- ---- what is none of some variants
+pub ivs-not : (w : Want) → (w ≡ Ivs → ⊥) → false ≡ isIvs w
+ivs-not One n = refl
+ivs-not LessOne n = refl
+ivs-not Count n = refl
+ivs-not Ivs n = absurd (n refl)
+ivs-not Sum n = refl
+
+pub misfit-early : (w : Want) → (w ≡ Sum → ⊥) → told false true true ≡ misfitOf w
+misfit-early One n = refl
+misfit-early LessOne n = refl
+misfit-early Count n = refl
+misfit-early Ivs n = refl
+misfit-early Sum n = absurd (n refl)
+
+pub coding-same : (coding : Coding) (a : Absent) → (a ≡ Middle → ⊥) → coding ≡ codingOf coding a
+coding-same coding Zero n = refl
+coding-same coding Middle n = absurd (n refl)
+coding-same coding Description n = refl
+coding-same coding Duration n = refl
+coding-same coding Size n = refl
+coding-same coding Flags n = refl
+coding-same coding IvSize n = refl

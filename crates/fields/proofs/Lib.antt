@@ -1,0 +1,7 @@
+pub mod CopyLoop
+pub mod PackLoop
+pub mod CellLaws
+pub mod SaidLaws
+pub mod TakeLaws
+pub mod MarkedLaws
+pub mod RoomLaws

@@ -1,0 +1,22 @@
+-- What the three words of an id say. Assumes nothing.
+use Prim.Native.Nat.{ℕ, _+_, _-_, _*_}
+use mathlib.Core.Path.{_≡_}
+use mathlib.Core.List.{List}
+use borrow.Author.Tests.{eq-eqb, ne-eqb}
+use lib.ListN.{getD}
+use Rattle.fields.specs.declared.said.Word.the-variants.{Omitted, Deleted, Sent}
+use Rattle.fields.specs.Said.{span, wordIn}
+
+module _ (index : List ℕ) (id : ℕ) where
+  pub word-sent : (getD index (id * 3) 0 ≡ 0 → ⊥)
+      → Sent (span (getD index (id * 3) 0 - 1) (getD index (id * 3 + 1) 0) (getD index (id * 3 + 2) 0)) ≡ wordIn index id
+  unfolding wordIn
+  word-sent n = rw (ne-eqb (getD index (id * 3) 0) 0 n)
+
+  pub word-deleted : getD index (id * 3) 0 ≡ 0 → (getD index (id * 3 + 2) 0 ≡ 0 → ⊥) → Deleted ≡ wordIn index id
+  unfolding wordIn
+  word-deleted e n = rw (eq-eqb (getD index (id * 3) 0) 0 e, ne-eqb (getD index (id * 3 + 2) 0) 0 n)
+
+  pub word-omitted : getD index (id * 3) 0 ≡ 0 → getD index (id * 3 + 2) 0 ≡ 0 → Omitted ≡ wordIn index id
+  unfolding wordIn
+  word-omitted e n = rw (eq-eqb (getD index (id * 3) 0) 0 e, eq-eqb (getD index (id * 3 + 2) 0) 0 n)

@@ -1,0 +1,66 @@
+-- The values of the events of an object, and their clocks. An event is read as ten words (`recordWords` of crate `block`): the places and
+-- lengths of its scheme and its value, its timescale, time, duration and id, and its message's place and length.
+use Prim.Native.Nat.{ℕ, zero, suc, _+_}
+use mathlib.Core.Path.{_≡_}
+use mathlib.Core.Bool.{Bool, true, false, cond, not}
+use mathlib.Core.List.{List, [], _∷_, _++_}
+use lib.Dec.{eqb, leb}
+use lib.ListN.{getD, take, drop}
+use lib.Seq.{sets}
+use Rattle.laws.specs.Tests.{_and_}
+use Rattle.track.specs.declared.Track.{Track}
+use Rattle.track.specs.Track.{u32}
+use Rattle.media.specs.declared.clocks.TrackTime.{TrackTime}
+use Rattle.media.specs.declared.clocks.TrackTime.the-variants.{At, Outside}
+use Rattle.media.specs.Clocks.{trackAt}
+use Rattle.chunk.specs.Events.{part, EventsFit}
+
+abbrev pub onTrack : {A : Type 0} → TrackTime → (ℕ → A) → A → A
+onTrack (At ticks) f z = f (ticks .0)
+onTrack Outside f z = z
+
+-- 01: "Timescale 0 means the track's .. Then the time is a zigzag distance from BMDT in track ticks; otherwise an absolute count on the
+-- event's own clock."
+unfoldable pub onClock : {A : Type 0} → ℕ → List ℕ → (ℕ → A) → A → A → A
+onClock bmdt e track outside own = cond (eqb (getD e 4 0) 0) (onTrack (trackAt bmdt (getD e 5 0)) track outside) own
+
+-- the words of an event with the timescale and time of its box
+unfoldable pub rebuilt : Track → ℕ → List ℕ → List ℕ
+rebuilt t bmdt e = onClock bmdt e (λ time. sets e 4 (t .timescale ∷ time ∷ [])) e e
+
+-- 01: "A rebuilt time below 0: 15."
+unfoldable pub timed : ℕ → List ℕ → Bool
+timed bmdt e = onClock bmdt e (λ time. true) false true
+
+unfoldable pub noZero : List ℕ → Bool
+noZero [] = true
+noZero (b ∷ s) = not (eqb b 0) and noZero s
+
+-- 01: "A value's range is that of its box field", of 32 bits for timescale, duration and id; "Strings hold no zero byte (15)"
+unfoldable pub eventOk : ℕ → List ℕ → List ℕ → Bool
+eventOk bmdt o e =
+    timed bmdt e
+    and (noZero (part o (getD e 0 0) (getD e 1 0)) and noZero (part o (getD e 2 0) (getD e 3 0)))
+    and leb (getD e 4 0) u32
+    and leb (getD e 6 0) u32
+    and leb (getD e 7 0) u32
+
+-- of the k events whose words ws begins with
+unfoldable pub eventsOk : ℕ → List ℕ → ℕ → List ℕ → Bool
+eventsOk bmdt o zero ws = true
+eventsOk bmdt o (suc k) ws = eventOk bmdt o (take 10 ws) and eventsOk bmdt o k (drop 10 ws)
+
+unfoldable pub allRebuilt : Track → ℕ → ℕ → List ℕ → List ℕ
+allRebuilt t bmdt zero ws = ws
+allRebuilt t bmdt (suc k) ws = rebuilt t bmdt (take 10 ws) ++ allRebuilt t bmdt k (drop 10 ws)
+
+-- the event whose words stand from the place p on was answered r and rebuilt
+pub record EventRead (t : Track) (bmdt : ℕ) (o before : List ℕ) (p : ℕ) (r : Bool) (after : List ℕ) : Type 0 where
+  pub answered : r ≡ eventOk bmdt o (drop p before)
+  pub stored : after ≡ take p before ++ rebuilt t bmdt (drop p before)
+
+-- the first k events were answered r and rebuilt; their strings and messages stand where they did
+pub record EventsRead (t : Track) (bmdt : ℕ) (o before : List ℕ) (k : ℕ) (r : Bool) (after : List ℕ) : Type 0 where
+  pub answered : r ≡ eventsOk bmdt o k before
+  pub stored : after ≡ allRebuilt t bmdt k before
+  pub fits : EventsFit o after k
