@@ -1,93 +1,68 @@
+-- `slot_vectors::calls::ask` is safe and ends: the words are as many as is tested. Assumes nothing.
 use native.Mathlib.Omega.{arith}
 use mathlib.Core.Path.{sym}
 use lib.Seq.{length-take-le}
 use borrow.Author.Needs.{needs}
 use Rattle.slot_vectors.proofs.calls.ask.Statement.{statement}
 use Rattle.slot_vectors.proofs.calls.ask.Tie as tie
-use Rattle.slot_vectors.proofs.calls.ask.Reads as reads
-use Rattle.slot_vectors.proofs.calls.ask.Lts as lts
-use Rattle.slot_vectors.proofs.calls.pick.Reads as pick-reads
-use Rattle.slots.proofs.calls.close.Reads as close-reads
-use Rattle.slots.proofs.calls.open.Reads as open-reads
-use Rattle.slots.proofs.calls.start_group.Reads as start-group-reads
 
--- src/calls.rt:28:9
 returns : tie.Need-returns
 returns c = search needs
 
--- src/calls.rt:30:17
 slice-relend-prefix-table : tie.Need-slice-relend-prefix-table
 slice-relend-prefix-table c = search needs
 
--- src/calls.rt:30:9
 slice-aggregate-table : tie.Need-slice-aggregate-table
 slice-aggregate-table c = sym (length-take-le _ _ (omega arith))
 
--- src/calls.rt:32:17
 close-requires : tie.Need-close-requires
 close-requires c κs = search needs
 
--- src/calls.rt:33:17
 start-group-requires : tie.Need-start-group-requires
 start-group-requires c κs = search needs
 
--- src/calls.rt:38:13
 pick-requires : tie.Need-pick-requires
 pick-requires c κs = search needs
 
--- src/calls.rt:39:13
 pick-requires-2 : tie.Need-pick-requires-2
 pick-requires-2 c κs = search needs
 
--- src/calls.rt:40:13
 pick-requires-3 : tie.Need-pick-requires-3
 pick-requires-3 c κs = search needs
 
--- src/calls.rt:41:13
 pick-requires-4 : tie.Need-pick-requires-4
 pick-requires-4 c κs = search needs
 
--- src/calls.rt:42:13
 pick-requires-5 : tie.Need-pick-requires-5
 pick-requires-5 c κs = search needs
 
--- src/calls.rt:43:13
 pick-requires-6 : tie.Need-pick-requires-6
 pick-requires-6 c κs = search needs
 
--- src/calls.rt:44:13
 pick-requires-7 : tie.Need-pick-requires-7
 pick-requires-7 c κs = search needs
 
--- src/calls.rt:45:13
 pick-requires-8 : tie.Need-pick-requires-8
 pick-requires-8 c κs = search needs
 
--- src/calls.rt:34:14
 open-requires : tie.Need-open-requires
 open-requires c κs = search needs
 
--- src/calls.rt:17:1
 same-length : tie.Need-same-length
 same-length c = search needs
 
--- src/calls.rt:17:1
 returns-2 : tie.Need-returns-2
 returns-2 c = search needs
 
--- src/calls.rt:17:1
 same-length-2 : tie.Need-same-length-2
 same-length-2 c = search needs
 
--- src/calls.rt:17:1
 returns-3 : tie.Need-returns-3
 returns-3 c = search needs
 
--- src/calls.rt:17:1
 same-length-3 : tie.Need-same-length-3
 same-length-3 c = search needs
 
--- src/calls.rt:17:1
 returns-4 : tie.Need-returns-4
 returns-4 c = search needs
 

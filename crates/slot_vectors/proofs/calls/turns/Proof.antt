@@ -1,13 +1,8 @@
+-- `slot_vectors::calls::turns` is safe and ends: the index stays within the eight calls. Assumes nothing.
 use Prim.Native.Nat.{_≤_, _-_}
 use borrow.Author.Needs.{needs}
 use Rattle.slot_vectors.proofs.calls.turns.Statement.{statement}
 use Rattle.slot_vectors.proofs.calls.turns.Tie as tie
-use Rattle.slot_vectors.proofs.calls.turns.Reads as reads
-use Rattle.slot_vectors.proofs.calls.turns.Lts as lts
-use Rattle.slot_vectors.proofs.calls.left.Reads as left-reads
-use Rattle.slot_vectors.proofs.calls.turn.Reads as turn-reads
-use Rattle.slot_vectors.proofs.text.item.Reads as item-reads
-use Rattle.slot_vectors.proofs.text.start.Reads as start-reads
 
 abbrev Inv-loop : tie.InvT-loop
 Inv-loop side t₀ words calls slot i₀ t i = i ≤ 8
@@ -15,43 +10,33 @@ Inv-loop side t₀ words calls slot i₀ t i = i ≤ 8
 abbrev μ-loop : tie.MeasureT-loop
 μ-loop side t₀ words calls slot i₀ t i = 8 - i
 
--- src/calls.rt:78:5
 start-requires : tie.Need-start-requires Inv-loop μ-loop
 start-requires c κs = search needs
 
--- src/calls.rt:80:5
 loop-holds : tie.Need-loop-holds Inv-loop μ-loop
 loop-holds c = search needs
 
--- src/calls.rt:81:30
 element-copy-out-turn : tie.Need-element-copy-out-turn Inv-loop μ-loop
 element-copy-out-turn c = search needs
 
--- src/calls.rt:81:9
 turn-requires : tie.Need-turn-requires Inv-loop μ-loop
 turn-requires c κs = search needs
 
--- src/calls.rt:82:9
 add-i : tie.Need-add-i Inv-loop μ-loop
 add-i c = search needs
 
--- src/calls.rt:80:5
 loop-less : tie.Need-loop-less Inv-loop μ-loop
 loop-less c = search needs
 
--- src/calls.rt:80:5
 loop-again : tie.Need-loop-again Inv-loop μ-loop
 loop-again c = search needs
 
--- src/calls.rt:84:5
 item-requires : tie.Need-item-requires Inv-loop μ-loop
 item-requires c κs = search needs
 
--- src/calls.rt:85:5
 left-requires : tie.Need-left-requires Inv-loop μ-loop
 left-requires c κs = search needs
 
--- src/calls.rt:77:1
 returns : tie.Need-returns Inv-loop μ-loop
 returns c = search needs
 

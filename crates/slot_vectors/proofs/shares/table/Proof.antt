@@ -1,10 +1,8 @@
+-- `slot_vectors::shares::table` is safe and ends: the index stays within the runs. Assumes nothing.
 use Prim.Native.Nat.{_≤_, _-_}
 use borrow.Author.Needs.{needs}
 use Rattle.slot_vectors.proofs.shares.table.Statement.{statement}
 use Rattle.slot_vectors.proofs.shares.table.Tie as tie
-use Rattle.slot_vectors.proofs.shares.table.Reads as reads
-use Rattle.slot_vectors.proofs.shares.table.Lts as lts
-use Rattle.slot_vectors.proofs.shares.store.Reads as store-reads
 
 abbrev Inv-loop : tie.InvT-loop
 Inv-loop t₀ eight k₀ t k = k ≤ 133
@@ -12,43 +10,33 @@ Inv-loop t₀ eight k₀ t k = k ≤ 133
 abbrev μ-loop : tie.MeasureT-loop
 μ-loop t₀ eight k₀ t k = 133 - k
 
--- src/shares.rt:179:26
 enum-told : tie.Need-enum-told Inv-loop μ-loop
 enum-told c = search needs
 
--- src/shares.rt:180:27
 enum-told-2 : tie.Need-enum-told-2 Inv-loop μ-loop
 enum-told-2 c = search needs
 
--- src/shares.rt:183:5
 loop-holds : tie.Need-loop-holds Inv-loop μ-loop
 loop-holds c = search needs
 
--- src/shares.rt:184:25
 mul-store : tie.Need-mul-store Inv-loop μ-loop
 mul-store c = search needs
 
--- src/shares.rt:184:25
 array-read-store : tie.Need-array-read-store Inv-loop μ-loop
 array-read-store c = search needs
 
--- src/shares.rt:184:9
 store-requires : tie.Need-store-requires Inv-loop μ-loop
 store-requires c κs = search needs
 
--- src/shares.rt:185:9
 add-k : tie.Need-add-k Inv-loop μ-loop
 add-k c = search needs
 
--- src/shares.rt:183:5
 loop-less : tie.Need-loop-less Inv-loop μ-loop
 loop-less c = search needs
 
--- src/shares.rt:183:5
 loop-again : tie.Need-loop-again Inv-loop μ-loop
 loop-again c = search needs
 
--- src/shares.rt:177:1
 returns : tie.Need-returns Inv-loop μ-loop
 returns c = search needs
 
