@@ -11,7 +11,7 @@ iv-ok-requires c κs = search needs
 
 returns : tie.Need-returns
 unfolding lawful _and_
-returns c = rw (c .iv-ok .ensures)
+returns c = rw (c .iv-ok .ensures) refl
 
 pub is-lawful-spec : {M : Type 1} → statement M
 is-lawful-spec = tie.close (tie.spec iv-ok-requires returns)
