@@ -1,90 +1,62 @@
 // Single varints: written and read back, cut at each byte, read where they are longer than they need be, and read at any place.
-use crate::line::ROOM;
-use crate::line::end;
-use crate::line::hex;
-use crate::line::number;
-use crate::line::text;
 use crate::powers::P30;
 use crate::powers::P62;
 use crate::powers::TOP;
+use crate::text;
+use crate::text::hex;
+use crate::text::number;
+use crate::text::word;
 use wire::form::Form;
 use wire::varint::Got;
 
-pub fn print() {
-    powers();
-    edges();
-    padded_short();
-    padded_long();
-    places();
-}
-
-fn got(line: &mut [u8; ROOM], at: usize, g: Got) -> usize {
+fn got(g: Got) {
     match g {
         Got::Value(v, next) => {
-            let p = number(line, at, b" reads ", v);
-            number(line, p, b" next ", next as u64)
+            number(text::READS, v);
+            number(text::NEXT, next as u64);
         }
-        Got::Cut => text(line, at, b" cut"),
+        Got::Cut => word(text::CUT),
     }
 }
 
-// What is read from the place `from` at every end before the last.
-fn shorter(line: &mut [u8; ROOM], at: usize, s: &[u8; 16], from: usize, last: usize) -> usize {
-    let mut p = at;
+// What is read from the place `from` up to the last end, and up to each end before that.
+fn ends(s: &[u8; 16], from: usize, last: usize) {
+    got(wire::varint::read(Form::Rfc9000, s, from, last));
     let mut e = from;
     while e < last {
-        p = number(line, p, b" end ", e as u64);
-        p = got(line, p, wire::varint::read(Form::Rfc9000, s, from, e));
+        number(text::END, e as u64);
+        got(wire::varint::read(Form::Rfc9000, s, from, e));
         e += 1;
     }
-    p
+    word(text::LINE);
 }
 
-// The number v written at a place up to 8, where the longest varint has room, read back up to where its bytes end, and read up to each end
-// before that.
-fn vector(at: usize, v: u64) {
-    if 8 < at {
-        return;
-    }
+// The number v written at a place, which counts up to 8, where the longest varint has room; then read back up to where its bytes end, and
+// up to each end before that.
+fn vector(place: usize, v: u64) {
+    let at = place % 9;
     let mut s = [0xeeu8; 16];
     let next = wire::varint::put(Form::Rfc9000, &mut s, at, v);
-    let mut line = [0u8; ROOM];
-    let a = number(&mut line, 0, b"varint ", v);
-    let b = number(
-        &mut line,
-        a,
-        b" size ",
-        wire::varint::size(Form::Rfc9000, v) as u64,
-    );
-    let c = text(&mut line, b, b" bytes ");
-    let d = hex(&mut line, c, &s, at, next);
-    let e = got(
-        &mut line,
-        d,
-        wire::varint::read(Form::Rfc9000, &s, at, next),
-    );
-    let f = shorter(&mut line, e, &s, at, next);
-    end(&mut line, f);
+    number(text::VARINT, v);
+    number(text::SIZE, wire::varint::size(Form::Rfc9000, v) as u64);
+    hex(text::BYTES, &s, at, next);
+    ends(&s, at, next);
 }
 
 // The powers of two, and the numbers beside each.
-fn powers() {
+pub fn powers() {
     let mut k: u64 = 0;
     while k < 64 {
         let p = 1u64 << k;
-        if 0 < p {
-            vector(3, p - 1);
-        }
+        vector(3, std::num::wrapping_sub_u64(p, 1));
         vector(3, p);
-        if p < TOP {
-            vector(3, p + 1);
-        }
+        vector(3, std::num::wrapping_add_u64(p, 1));
         k += 1;
     }
 }
 
 // The last number of each length and the first of the next, where the longest ends with the array.
-fn edges() {
+pub fn edges() {
     vector(8, 63);
     vector(8, 64);
     vector(8, 16383);
@@ -103,11 +75,9 @@ fn one(s: &[u8], at: usize) -> usize {
         Got::Value(_, n) => n,
         Got::Cut => s.len(),
     };
-    let mut line = [0u8; ROOM];
-    let a = text(&mut line, 0, b"bytes ");
-    let b = hex(&mut line, a, s, at, next);
-    let c = got(&mut line, b, g);
-    end(&mut line, c);
+    hex(text::LONE_BYTES, s, at, next);
+    got(g);
+    word(text::LINE);
     next
 }
 
@@ -121,38 +91,35 @@ fn chain(s: &[u8], n: usize) {
     }
 }
 
-// The examples of RFC 9000, A.1; the last is 37 in two bytes. Then 0, 1, 37 and 63, which one byte would hold, in each longer form.
-fn padded_short() {
-    chain(
-        b"\xc2\x19\x7c\x5e\xff\x14\xe8\x8c\x9d\x7f\x3e\x7d\x7b\xbd\x25\x40\x25",
-        5,
-    );
-    chain(
-        b"\x40\x00\x80\x00\x00\x00\xc0\x00\x00\x00\x00\x00\x00\x00",
-        3,
-    );
-    chain(
-        b"\x40\x01\x80\x00\x00\x01\xc0\x00\x00\x00\x00\x00\x00\x01",
-        3,
-    );
-    chain(
-        b"\x40\x25\x80\x00\x00\x25\xc0\x00\x00\x00\x00\x00\x00\x25",
-        3,
-    );
-    chain(
-        b"\x40\x3f\x80\x00\x00\x3f\xc0\x00\x00\x00\x00\x00\x00\x3f",
-        3,
-    );
-}
+// Varints one after another, 17 bytes for each row of them. First the examples of RFC 9000, A.1, of which the last is 37 in two bytes. Then,
+// in each longer form: 0, 1, 37 and 63, which one byte would hold; 64, 15293 and 16383, which two would; 16384, 494878333 and 2^30 - 1, which
+// four would.
+const PADDED: [u8; 187] = *b"\
+    \xc2\x19\x7c\x5e\xff\x14\xe8\x8c\x9d\x7f\x3e\x7d\x7b\xbd\x25\x40\x25\
+    \x40\x00\x80\x00\x00\x00\xc0\x00\x00\x00\x00\x00\x00\x00---\
+    \x40\x01\x80\x00\x00\x01\xc0\x00\x00\x00\x00\x00\x00\x01---\
+    \x40\x25\x80\x00\x00\x25\xc0\x00\x00\x00\x00\x00\x00\x25---\
+    \x40\x3f\x80\x00\x00\x3f\xc0\x00\x00\x00\x00\x00\x00\x3f---\
+    \x80\x00\x00\x40\xc0\x00\x00\x00\x00\x00\x00\x40-----\
+    \x80\x00\x3b\xbd\xc0\x00\x00\x00\x00\x00\x3b\xbd-----\
+    \x80\x00\x3f\xff\xc0\x00\x00\x00\x00\x00\x3f\xff-----\
+    \xc0\x00\x00\x00\x00\x00\x40\x00---------\
+    \xc0\x00\x00\x00\x1d\x7f\x3e\x7d---------\
+    \xc0\x00\x00\x00\x3f\xff\xff\xff---------";
 
-// 64, 15293 and 16383, which two bytes would hold, and 16384, 494878333 and 2^30 - 1, which four would, in each longer form.
-fn padded_long() {
-    chain(b"\x80\x00\x00\x40\xc0\x00\x00\x00\x00\x00\x00\x40", 2);
-    chain(b"\x80\x00\x3b\xbd\xc0\x00\x00\x00\x00\x00\x3b\xbd", 2);
-    chain(b"\x80\x00\x3f\xff\xc0\x00\x00\x00\x00\x00\x3f\xff", 2);
-    chain(b"\xc0\x00\x00\x00\x00\x00\x40\x00", 1);
-    chain(b"\xc0\x00\x00\x00\x1d\x7f\x3e\x7d", 1);
-    chain(b"\xc0\x00\x00\x00\x3f\xff\xff\xff", 1);
+// How many varints each row has, and in the last two digits how many bytes they take.
+const ROWS: [usize; 11] = [517, 314, 314, 314, 314, 212, 212, 212, 108, 108, 108];
+
+pub fn padded() {
+    let bytes = PADDED;
+    let mut i = 0;
+    while i < 11 {
+        let row = ROWS[i];
+        let from = 17 * i;
+        let last = from + row % 100 % 18;
+        chain(&bytes[from..last], row / 100);
+        i += 1;
+    }
 }
 
 // The last place that a number can name.
@@ -160,31 +127,19 @@ const FARTHEST: usize = 0xffff_ffff_ffff_ffff;
 
 // A read of the bytes 40 25 3f at a place, up to an end.
 fn place(at: usize, last: usize) {
-    let mut line = [0u8; ROOM];
-    let a = number(&mut line, 0, b"place ", at as u64);
-    let b = number(&mut line, a, b" end ", last as u64);
-    let c = got(
-        &mut line,
-        b,
-        wire::varint::read(Form::Rfc9000, b"\x40\x25\x3f", at, last),
-    );
-    end(&mut line, c);
-}
-
-fn ends_of(at: usize) {
-    let mut last = 0;
-    while last < 6 {
-        place(at, last);
-        last += 1;
-    }
+    number(text::PLACE, at as u64);
+    number(text::END, last as u64);
+    let g = wire::varint::read(Form::Rfc9000, b"\x40\x25\x3f", at, last);
+    got(g);
+    word(text::LINE);
 }
 
 // Every place up to two past the three bytes with every such end, and the farthest.
-fn places() {
-    let mut at = 0;
-    while at < 6 {
-        ends_of(at);
-        at += 1;
+pub fn places() {
+    let mut k = 0;
+    while k < 36 {
+        place(k / 6, k % 6);
+        k += 1;
     }
     place(0, FARTHEST);
     place(FARTHEST, 3);

@@ -1,9 +1,8 @@
 // What is printed of a run: its measure, its bytes, and what they are read back as, with one thing wrong at a time.
-use crate::line::ROOM;
-use crate::line::end;
-use crate::line::hex;
-use crate::line::number;
-use crate::line::text;
+use crate::text;
+use crate::text::hex;
+use crate::text::number;
+use crate::text::word;
 use runs::Measured;
 use runs::Outcome;
 use wire::form::Form;
@@ -18,40 +17,19 @@ const TO: usize = 2;
 // What the words hold before reading; no list has it.
 const UNREAD: u64 = 0xeeee_eeee_eeee_eeee;
 
-fn largest(list: &[u64]) -> u64 {
-    let mut most = 0;
-    let mut i = 0;
-    while i < list.len() {
-        if most < list[i] {
-            most = list[i];
-        }
-        i += 1;
-    }
-    most
-}
-
 // The words from one place to another, with `_` for one that nothing was read into.
-pub fn words(line: &mut [u8; ROOM], at: usize, list: &[u64], from: usize, to: usize) -> usize {
-    let mut p = at;
+pub fn words(list: &[u64], from: usize, to: usize) {
     let mut i = from;
     while i < to {
         if i < list.len() {
-            if list[i] == UNREAD {
-                p = text(line, p, b" _");
+            let v = list[i];
+            if v == UNREAD {
+                word(text::BLANK);
             } else {
-                p = number(line, p, b" ", list[i]);
+                number(text::SPACE, v);
             }
         }
         i += 1;
-    }
-    p
-}
-
-fn answer(line: &mut [u8; ROOM], at: usize, r: Outcome) -> usize {
-    match r {
-        Outcome::Done => text(line, at, b" done"),
-        Outcome::Misfit => text(line, at, b" misfit"),
-        Outcome::Outside => text(line, at, b" outside"),
     }
 }
 
@@ -70,6 +48,10 @@ pub fn read_back(
     if 66 < n {
         return;
     }
+    word(text::FILL);
+    number(text::END, last as u64);
+    number(text::BOUND, bound);
+    number(text::WANTED, n as u64);
     let mut out = [UNREAD; 70];
     let r = runs::fill(
         Form::Rfc9000,
@@ -84,65 +66,83 @@ pub fn read_back(
         TO,
         n,
     );
-    let mut line = [0u8; ROOM];
-    let a = number(&mut line, 0, b"  fill end ", last as u64);
-    let b = number(&mut line, a, b" bound ", bound);
-    let c = number(&mut line, b, b" wanted ", n as u64);
-    let d = answer(&mut line, c, r);
-    let e = words(&mut line, d, &out, TO, TO + n);
-    end(&mut line, e);
+    answer(r);
+    words(&out, TO, TO + n);
+    word(text::LINE);
 }
 
-// Reads n values back: as they were written, with a bound one too small, with one more and one fewer wanted, and with the last byte cut.
+fn answer(r: Outcome) {
+    let w = match r {
+        Outcome::Done => text::DONE,
+        Outcome::Misfit => text::MISFIT,
+        Outcome::Outside => text::OUTSIDE,
+    };
+    word(w);
+}
+
+// Reads n values back: as they were written, with a bound one too small, with one more and one fewer wanted, and with the last byte cut. One
+// fewer than none is more than there is room for, so that nothing is printed.
 fn fills(coding: Coding, s: &[u8], last: usize, old: &[u64], base: u64, most: u64, n: usize) {
     read_back(coding, s, AT, last, old, base, most, n);
     if 0 < most {
         read_back(coding, s, AT, last, old, base, most - 1, n);
     }
-    if n < 66 {
-        read_back(coding, s, AT, last, old, base, most, n + 1);
-    }
-    if 0 < n {
-        read_back(coding, s, AT, last, old, base, most, n - 1);
-    }
+    read_back(
+        coding,
+        s,
+        AT,
+        last,
+        old,
+        base,
+        most,
+        std::num::wrapping_add_usize(n, 1),
+    );
+    read_back(
+        coding,
+        s,
+        AT,
+        last,
+        old,
+        base,
+        most,
+        std::num::wrapping_sub_usize(n, 1),
+    );
     if AT < last {
         read_back(coding, s, AT, last - 1, old, base, most, n);
     }
 }
 
 // How the values stand on the wire, and what an absent old one counts as.
-pub fn kind(line: &mut [u8; ROOM], at: usize, coding: Coding, base: u64) -> usize {
-    match coding {
-        Coding::Plain => number(line, at, b" plain base ", base),
-        Coding::Delta => number(line, at, b" delta base ", base),
-    }
+pub fn kind(coding: Coding, base: u64) {
+    let w = match coding {
+        Coding::Plain => text::PLAIN,
+        Coding::Delta => text::DELTA,
+    };
+    word(w);
+    number(text::BASE, base);
 }
 
-fn measured(line: &mut [u8; ROOM], at: usize, m: Measured) -> usize {
+fn measured(m: Measured) {
+    word(text::MEASURE);
     match m {
-        Measured::Bytes(k) => number(line, at, b" measure ", k as u64),
-        Measured::TooWide => text(line, at, b" measure too wide"),
+        Measured::Bytes(k) => number(text::SPACE, k as u64),
+        Measured::TooWide => {
+            word(text::TOO);
+            word(text::WIDE);
+        }
     }
 }
 
-// The line of a run that was written: its measure, and its bytes up to the place last.
-fn written(coding: Coding, base: u64, m: Measured, s: &[u8], last: usize) {
-    let mut line = [0u8; ROOM];
-    let a = kind(&mut line, 0, coding, base);
-    let b = measured(&mut line, a, m);
-    let c = text(&mut line, b, b" bytes ");
-    let d = hex(&mut line, c, s, AT, last);
-    end(&mut line, d);
-}
-
-// The run of a list of at most 64 values, each of at most 8 bytes: its bytes have room for no more.
-pub fn run(coding: Coding, base: u64, new: &[u64], old: &[u64]) {
+// The run of a list of at most 64 values, none above the most, each of at most 8 bytes: its bytes have room for no more.
+pub fn run(coding: Coding, base: u64, new: &[u64], old: &[u64], most: u64) {
     if 64 < new.len() {
         return;
     }
+    kind(coding, base);
+    measured(runs::measure(Form::Rfc9000, coding, new, old, base));
     let mut s = [0xeeu8; 520];
     let last = runs::put(Form::Rfc9000, coding, new, old, base, &mut s, AT);
-    let m = runs::measure(Form::Rfc9000, coding, new, old, base);
-    written(coding, base, m, &s, last);
-    fills(coding, &s, last, old, base, largest(new), new.len());
+    hex(text::BYTES, &s, AT, last);
+    word(text::LINE);
+    fills(coding, &s, last, old, base, most, new.len());
 }

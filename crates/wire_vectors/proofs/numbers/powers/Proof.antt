@@ -16,8 +16,8 @@ loop-holds c = search needs
 shl-p : tie.Need-shl-p Inv-loop μ-loop
 shl-p c = search needs
 
-sub-vector : tie.Need-sub-vector Inv-loop μ-loop
-sub-vector c = search needs
+wrapping-sub-u64-requires : tie.Need-wrapping-sub-u64-requires Inv-loop μ-loop
+wrapping-sub-u64-requires c κs = search needs
 
 vector-requires : tie.Need-vector-requires Inv-loop μ-loop
 vector-requires c κs = search needs
@@ -25,8 +25,8 @@ vector-requires c κs = search needs
 vector-requires-2 : tie.Need-vector-requires-2 Inv-loop μ-loop
 vector-requires-2 c κs = search needs
 
-add-vector : tie.Need-add-vector Inv-loop μ-loop
-add-vector c = search needs
+wrapping-add-u64-requires : tie.Need-wrapping-add-u64-requires Inv-loop μ-loop
+wrapping-add-u64-requires c κs = search needs
 
 vector-requires-3 : tie.Need-vector-requires-3 Inv-loop μ-loop
 vector-requires-3 c κs = search needs
@@ -51,10 +51,10 @@ powers-spec =
     μ-loop
     loop-holds
     shl-p
-    sub-vector
+    wrapping-sub-u64-requires
     vector-requires
     vector-requires-2
-    add-vector
+    wrapping-add-u64-requires
     vector-requires-3
     add-k
     loop-less
