@@ -82,12 +82,17 @@ module _ (side : Side) (s : List ℕ) where
     group-closed e = passed _ 18 _ _ _ h (broken _ 2 _ _ _ (shut s e))
 
     module _ (l : length s ≡ shareLen) (e : getD s trackAt 0 ≡ 0 → ⊥) where
-      pub close-done : out 0 (cleared s trackAt shareLen) ≡ closing side s
+      -- words that are the share cleared are what closing leaves
+      pub close-done : (w : List ℕ) → w ≡ cleared s trackAt shareLen → out 0 w ≡ closing side s
       unfolding closing onShare
-      close-done = passed _ 18 _ _ _ h (passed _ 2 _ _ _ (ajar s e) (ap (λ (r : List ℕ). out 0 r) (all-cleared s l) ∙ top _ _))
+      close-done w c =
+          ap (λ (r : List ℕ). out 0 r) c
+          ∙ passed _ 18 _ _ _ h (passed _ 2 _ _ _ (ajar s e) (ap (λ (r : List ℕ). out 0 r) (all-cleared s l) ∙ top _ _))
 
-      pub group-done : out 0 (cleared s heldAt shareLen) ≡ grouping side s
+      -- and where the parameters are kept, what starting a group leaves
+      pub group-done : (w : List ℕ) → w ≡ cleared s heldAt shareLen → out 0 w ≡ grouping side s
       unfolding grouping onShare dropped
-      group-done =
-          passed _ 18 _ _ _ h
+      group-done w c =
+          ap (λ (r : List ℕ). out 0 r) c
+          ∙ passed _ 18 _ _ _ h
           (passed _ 2 _ _ _ (ajar s e) (ap (λ (r : List ℕ). out 0 (take heldAt s ++ r)) (rest-cleared 987 s l) ∙ top _ _))

@@ -32,7 +32,10 @@ same-length-3 : tie.Need-same-length-3
 same-length-3 c = search needs
 
 returns-3 : tie.Need-returns-3
-returns-3 c = let b = c .before .before .before .before .before .before .before .before .before .before in rw (c .before .before .clear .ensures) (close-done (b .args .side) _ (held (c .before .before .before .before .before .before .before .is-lawful .ensures) (c .before .before .before .before .before .before .if1 .left)) (b .pre) (c .before .before .before .before .if2 .left))
+returns-3 c =
+    let b = c .before .before .before .before .before .before .before .before .before .before in
+    close-done (b .args .side) _ (held (c .before .before .before .before .before .before .before .is-lawful .ensures) (c .before .before .before .before .before .before .if1 .left)) (b .pre)
+    (c .before .before .before .before .if2 .left) _ (c .before .before .clear .ensures)
 
 pub close-share-spec : {M : Type 1} → statement M
 close-share-spec =
