@@ -1,8 +1,3 @@
-pub mod PairLaws
-pub mod SencLaws
-pub mod SaizLaws
-pub mod ProtectionLaws
-pub mod ProtectableLaws
 pub mod SizeLaws
 pub mod OuterLaws
 pub mod MoofLaws

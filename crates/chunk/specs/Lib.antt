@@ -1,6 +1,5 @@
 pub mod Front
 pub mod Sizes
-pub mod Protection
 pub mod Events
 pub mod Lengths
 pub mod Writable

@@ -9,7 +9,7 @@ use Rattle.fieldset.specs.Lawful.{valuesOf}
 use Rattle.chunk.specs.declared.outer.Prft.{Prft}
 use Rattle.chunk.specs.Front.{countIn}
 use Rattle.chunk.specs.Events.{EventsFit}
-use Rattle.chunk.specs.Protection.{Protectable}
+use Rattle.protected.specs.Protection.{Protectable}
 
 -- the sizes that id 1 has don't pass the payload, which has at most 16,777,216 bytes
 pub record Sized (w : List ℕ) (payload : ℕ) : Type 0 where

@@ -9,7 +9,7 @@ ghost use Rattle.fieldset.specs.Lines.{setLen};
 ghost use Rattle.chunk.specs.Front.{when, flagWhen, countIn, tfhdFlags, tfhdBox, tfdtBox};
 ghost use Rattle.chunk.specs.Front.{offsetField, trunRow, trunRows, trunFlags, trunBox, plain, moofBox, moofWhole};
 ghost use Rattle.chunk.specs.Lengths.{tfhdLength, rowLength, trunLength, plainLength};
-ghost use Rattle.chunk.specs.Protection.{Protectable};
+ghost use Rattle.protected.specs.Protection.{Protectable};
 ghost use Rattle.chunk.specs.Writable.{Sized};
 use boxes::kinds;
 use boxes::put;
@@ -215,7 +215,7 @@ pub fn moof_length(t: Track, w: &[u64]) -> usize
     ensures length { λ r. ⌜ ((sequence payload offset : ℕ) → r ≡ length (moofBox t sequence (now (w .entry)) payload offset)) ⌝ }
     ensures small { λ r. ⌜ r ≤ 4000 ⌝ }
 {
-    32 + plain_length(w) as usize + crate::protection::protection_length(t, w)
+    32 + plain_length(w) as usize + protected::protection::protection_length(t, w)
 }
 
 pub fn put_moof(
@@ -232,7 +232,7 @@ pub fn put_moof(
     ensures { λ r. ⌜ Wrote (now (out .entry)) at (moofWhole t sequence (now (w .entry)) payload) (now (out .exit)) r ⌝ }
 {
     let place = 32 + plain_length(w) as usize;
-    let size = (place + crate::protection::protection_length(t, w)) as u64;
+    let size = (place + protected::protection::protection_length(t, w)) as u64;
     let head: [u64; 8] = [
         size,
         kinds::MOOF,
@@ -245,5 +245,5 @@ pub fn put_moof(
     ];
     let a = put::put_words(out, at, &head);
     let b = put_plain(t, w, payload, size + 8, out, a);
-    crate::protection::put_protection(t, w, place, out, b)
+    protected::protection::put_protection(t, w, place, out, b)
 }

@@ -22,7 +22,7 @@ use Rattle.fieldset.proofs.LawfulLaws.{usedOf, Region, lawful-facts, lawful-reg
 use Rattle.chunk.specs.Front.{valueAt, countIn}
 use Rattle.chunk.specs.Sizes.{lastSize, sizeBy}
 use Rattle.chunk.specs.Writable.{Sized}
-use Rattle.chunk.proofs.PairLaws.{pairsLeft, pairs-all, pairs-on}
+use Rattle.protected.proofs.PairLaws.{pairsLeft, pairs-all, pairs-on}
 use Rattle.chunk.proofs.SizeLaws.{listed, size-by}
 use Rattle.receiver.specs.Sums.{sizesOk, bytesOf, samplesOk, protectedOk, Summable}
 

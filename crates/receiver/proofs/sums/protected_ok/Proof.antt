@@ -3,7 +3,7 @@ use borrow.Author.Needs.{needs}
 use Prim.Native.Nat.{_-_}
 use native.Mathlib.Omega.{arith}
 use Rattle.fieldset.specs.Lines.{lines, lineFor}
-use Rattle.chunk.proofs.PairLaws.{has-no, has-yes}
+use Rattle.protected.proofs.PairLaws.{has-no, has-yes}
 use Rattle.receiver.proofs.SumLaws.{sizes-sized, Matching, match-start, match-fits, match-next, match-end, match-none}
 use Rattle.receiver.proofs.sums.protected_ok.Statement.{statement}
 use Rattle.receiver.proofs.sums.protected_ok.Tie as tie

@@ -3,7 +3,7 @@ use borrow.Author.Needs.{needs}
 use native.Mathlib.Omega.{arith}
 use lib.ListN.{getD}
 use Rattle.fieldset.specs.Lines.{lines, lineFor}
-use Rattle.chunk.proofs.PairLaws.{has-no, has-yes}
+use Rattle.protected.proofs.PairLaws.{has-no, has-yes}
 use Rattle.receiver.proofs.SumLaws.{sizes-small, size-small, product-small, sizes-none, sizes-lone, sizes-listed, sizes-default, sizes-trex}
 use Rattle.receiver.proofs.sums.sizes_ok.Statement.{statement}
 use Rattle.receiver.proofs.sums.sizes_ok.Tie as tie

@@ -1,0 +1,37 @@
+-- `saio`, and the three boxes one after another. Assumes nothing.
+use Prim.Native.Nat.{ℕ, _+_}
+use native.Mathlib.Omega.{arith}
+use mathlib.Core.Path.{_≡_, refl, sym, _∙_, ap}
+use mathlib.Core.Bool.{true, false, _||_}
+use mathlib.Core.List.{List, [], _∷_, _++_, append-nil}
+use lib.ListN.{length, length-append}
+use Rattle.laws.specs.Bytes.{be}
+use Rattle.laws.proofs.BytesLaws.{length-be}
+use Rattle.track.specs.declared.Track.{Track}
+use Rattle.fieldset.specs.Lawful.{has}
+use Rattle.boxes.specs.Box.{words, fullBox}
+use Rattle.boxes.specs.Box as B
+use Rattle.boxes.proofs.BoxLaws.{length-fullBox, box-words}
+use Rattle.protected.specs.Protected.{sencBox, saizBox, saioBox, protection}
+
+pub saio-length : (offset : ℕ) → length (saioBox offset) ≡ 20
+unfolding saioBox
+saio-length offset = length-fullBox B.saio 0 0 (be 4 1 ++ be 4 offset) ∙ simp (length-append, length-be)
+
+pub saio-words : (offset : ℕ) → words (20 ∷ B.saio ∷ 0 ∷ 1 ∷ offset ∷ []) ≡ saioBox offset
+unfolding saioBox fullBox words
+saio-words offset =
+    box-words B.saio 20 (0 ∷ 1 ∷ offset ∷ []) (ap (λ (x : List ℕ). be 4 0 ++ (be 4 1 ++ x)) (sym (append-nil (be 4 offset)))) refl
+
+module _ (t : Track) (w : List ℕ) (place : ℕ) where
+  pub protection-none : (has 9 w || has 11 w) ≡ false → protection t w place ≡ []
+  unfolding protection
+  protection-none e = rw e
+
+  module _ (e : (has 9 w || has 11 w) ≡ true) where
+    pub protection-all : protection t w place ≡ sencBox t w ++ (saizBox t w ++ saioBox (place + 16))
+    unfolding protection
+    protection-all = rw e
+
+    pub protection-length : length (protection t w place) ≡ length (sencBox t w) + length (saizBox t w) + 20
+    protection-length = rw protection-all (simp length-append (omega (arith, saio-length (place + 16))))

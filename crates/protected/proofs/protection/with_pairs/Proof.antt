@@ -1,0 +1,21 @@
+-- `protected::protection::with_pairs` meets its contract, by whether the mark of id 11 is 0. Assumes nothing.
+use borrow.Author.Needs.{needs}
+use native.Mathlib.Omega.{arith}
+use Rattle.fieldset.specs.Lines.{lines, lineFor}
+use Rattle.protected.proofs.PairLaws.{has-no, has-yes}
+use Rattle.protected.proofs.protection.with_pairs.Statement.{statement}
+use Rattle.protected.proofs.protection.with_pairs.Tie as tie
+
+shared-slice-read-if1 : tie.Need-shared-slice-read-if1
+shared-slice-read-if1 c = search needs
+
+returns : tie.Need-returns
+unfolding lineFor lines
+returns c = let a = c .before .before .args in (rw (has-no 11 (a .w .now) (c .if1 .taken)), omega arith)
+
+returns-2 : tie.Need-returns-2
+unfolding lineFor lines
+returns-2 c = let a = c .before .before .args in (rw (has-yes 11 (a .w .now) (c .if1 .left)), omega arith)
+
+pub with-pairs-spec : {M : Type 1} → statement M
+with-pairs-spec = tie.close (tie.spec shared-slice-read-if1 returns returns-2)

@@ -1,0 +1,2 @@
+pub mod Protected
+pub mod Protection

@@ -1,0 +1,21 @@
+-- What words must keep so that the boxes of protected samples can be written from them: a part of what `lawful` says.
+use Prim.Native.Nat.{ℕ, _≤_}
+use mathlib.Core.Path.{_≡_}
+use mathlib.Core.Bool.{true, _||_}
+use mathlib.Core.List.{List}
+use lib.ListN.{length}
+use Rattle.laws.specs.Tests.{sum}
+use Rattle.track.specs.declared.Track.{Track}
+use Rattle.fieldset.specs.Lines.{setLen}
+use Rattle.fieldset.specs.Lawful.{has, valuesOf, saizOk}
+use Rattle.protected.specs.Protected.{countIn}
+
+-- 01: "Maxima: 64 samples and 256 subsamples a chunk"; "IV size 8 or 16 for cenc, else 0"; "`saiz` gives IV size plus, with subsamples,
+-- 2 + 6 x count, at most 255"; "with no samples no lists, 9 or 12"
+pub record Protectable (t : Track) (w : List ℕ) : Type 0 where
+  pub long : length w ≡ setLen
+  pub few : countIn w ≤ 64
+  pub iv : t .«iv_size» ≤ 16
+  pub pairs : sum (valuesOf 11 (countIn w) w) ≤ 256
+  pub sizes : saizOk (t .«iv_size») (valuesOf 11 (countIn w) w) ≡ true
+  pub some : (has 9 w || has 11 w) ≡ true → 1 ≤ countIn w
