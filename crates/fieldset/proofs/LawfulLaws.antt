@@ -16,9 +16,9 @@ use Rattle.track.specs.declared.Track.{Track}
 use Rattle.fieldset.specs.declared.lines.Line.{Line}
 use Rattle.fieldset.specs.declared.lines.Measure.{Measure}
 use Rattle.fieldset.specs.declared.lawful.Tally.{Tally}
-use Rattle.fieldset.specs.Lines.{lines, spare, lineFor, wanted, bmdtAt, countAt, setLen}
+use Rattle.fieldset.specs.Lines.{every, lines, spare, lineFor, wanted, bmdtAt, countAt, setLen}
 use Rattle.fieldset.specs.Lawful.{has, inUse, valuesOf, marksOf, regionOk, regionsOk, saizOk, setRules, sameIvSize, measureOf, lawful, TallyOf, Counted}
-use Rattle.fieldset.proofs.LineLaws.{line-count, every, every-at, shaped}
+use Rattle.fieldset.proofs.LineLaws.{line-count, every-at, shaped}
 use Rattle.fieldset.proofs.RegionLaws.{unused, used, region-single, regions-append}
 use Rattle.fieldset.proofs.TallyLaws.{saiz-is}
 

@@ -16,7 +16,7 @@ use Rattle.fieldset.specs.declared.lines.Want.{Want}
 use Rattle.fieldset.specs.declared.lines.Want.the-variants.{One, LessOne, Count, Ivs, Sum}
 use Rattle.fieldset.specs.declared.lines.Line.{Line}
 use Rattle.fieldset.specs.declared.lines.Measure.{Measure}
-use Rattle.fieldset.specs.Lines.{lines, spare, setLen, lineNumber, wanted}
+use Rattle.fieldset.specs.Lines.{lines, spare, setLen, lineNumber, every, wanted}
 use Rattle.fieldset.specs.Lawful.{Shaped}
 
 -- a number is none of those below n, as the last arm of a match knows it
@@ -53,11 +53,6 @@ no-lines i h = let k : length lines ≤ i = omega (arith, line-count) in drop-of
 -- what is wanted is known under another name
 pub want-is : (v : Want) {w : Want} (m : Measure) → w ≡ v → wanted v m ≡ wanted w m
 want-is v m e = rw e
-
--- a test that every line of a list passes
-unfoldable pub every : (Line → Bool) → List Line → Bool
-every p [] = true
-every p (l ∷ ls) = p l and every p ls
 
 -- what every line passes, the one at an index does
 pub every-at : (p : Line → Bool) (ls : List Line) (i : ℕ) (d : Line) → every p ls ≡ true → i < length ls → p (getD ls i d) ≡ true

@@ -2,10 +2,11 @@
 -- field stands and else 0, its values, and zeros up to its room. Composition offsets (id 5) are kept with 2^31 added. An IV is kept as
 -- words of eight bytes, the highest byte first.
 use Prim.Native.Nat.{ℕ, suc, _+_, _-_, _*_, _≤_}
-use mathlib.Core.Bool.{Bool, cond, not}
+use mathlib.Core.Bool.{Bool, true, cond, not}
 use mathlib.Core.List.{List, [], _∷_}
 use lib.Dec.{eqb}
 use lib.ListN.{getD}
+use Rattle.laws.specs.Tests.{_and_}
 use Rattle.track.specs.declared.Track.{Track}
 use Rattle.fieldset.specs.declared.lines.Want.{Want}
 use Rattle.fieldset.specs.declared.lines.Want.the-variants.{One, LessOne, Count, Ivs, Sum}
@@ -78,6 +79,11 @@ lineFor id (l ∷ ls) = cond (eqb (l .id) id) l (lineFor id ls)
 unfoldable pub lineNumber : ℕ → List Line → ℕ
 lineNumber id [] = 0
 lineNumber id (l ∷ ls) = cond (eqb (l .id) id) 0 (suc (lineNumber id ls))
+
+-- a test that every line of a run of the table passes
+unfoldable pub every : (Line → Bool) → List Line → Bool
+every p [] = true
+every p (l ∷ ls) = p l and every p ls
 
 -- 01: "Required: id 1, count less one; 3, 5, 7, 11, the count; 13, 15, the sum of 11."
 unfoldable pub wanted : Want → Measure → ℕ

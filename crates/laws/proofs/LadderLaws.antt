@@ -82,3 +82,46 @@ ladder-seen h (r ∷ rs) refuse done = go (r .test) (ladder-seen h rs refuse don
         → h (gate b (refuse (r .number)) (ladder rs refuse done)) ≡ gate b (h (refuse (r .number))) (ladder rs (λ k. h (refuse k)) (h done))
     go true e = e
     go false e = refl
+
+-- ---- a ladder climbed in parts
+
+-- no rung refuses with 0
+abbrev pub Numbered : List Rung → Type 0
+Numbered [] = Unit {0}
+Numbered (r ∷ rs) = (r .number ≡ 0 → ⊥) × Numbered rs
+
+-- the number 0 says that every test holds
+pub all-hold : (rs : List Rung) → Numbered rs → numberOf rs ≡ 0 → Hold rs
+unfolding ladder gate
+all-hold [] n e = tt
+all-hold (r ∷ rs) n e = go (r .test) refl (all-hold rs (n .1)) e
+  where
+    go : (b : Bool) → r .test ≡ b → (numberOf rs ≡ 0 → Hold rs) → gate b (r .number) (numberOf rs) ≡ 0 → (r .test ≡ true) × Hold rs
+    go true q h z = (q, h z)
+    go false q h z = absurd (n .0 z)
+
+module _ {A : Type 0} (refuse : ℕ → A) (done : A) where
+  -- where every test holds, what is done
+  pub climbed : (rs : List Rung) → Hold rs → ladder rs refuse done ≡ done
+  unfolding ladder gate
+  climbed [] h = refl
+  climbed (r ∷ rs) h = rw (h .0) (climbed rs (h .1))
+
+  -- and any other number is the one that it refuses with
+  pub stopped : (rs : List Rung) → (numberOf rs ≡ 0 → ⊥) → ladder rs refuse done ≡ refuse (numberOf rs)
+  unfolding ladder gate
+  stopped [] n = absurd (n refl)
+  stopped (r ∷ rs) n = go (r .test) (stopped rs) n
+    where
+      go : (b : Bool) → ((numberOf rs ≡ 0 → ⊥) → ladder rs refuse done ≡ refuse (numberOf rs)) → (gate b (r .number) (numberOf rs) ≡ 0 → ⊥)
+          → gate b (refuse (r .number)) (ladder rs refuse done) ≡ refuse (gate b (r .number) (numberOf rs))
+      go true h m = h m
+      go false h m = refl
+
+-- the same, with another ladder on top
+module _ {A : Type 0} (rs qs : List Rung) (refuse : ℕ → A) (done : A) where
+  pub climbed-on : Hold rs → ladder qs refuse done ≡ ladder (rs ++ qs) refuse done
+  climbed-on h = sym (ladder-append rs qs refuse done ∙ climbed refuse (ladder qs refuse done) rs h)
+
+  pub stopped-on : (numberOf rs ≡ 0 → ⊥) → refuse (numberOf rs) ≡ ladder (rs ++ qs) refuse done
+  stopped-on n = sym (ladder-append rs qs refuse done ∙ stopped refuse (ladder qs refuse done) rs n)

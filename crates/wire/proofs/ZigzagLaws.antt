@@ -4,9 +4,9 @@ use native.Mathlib.Omega.{arith}
 use mathlib.Core.Path.{_≡_, refl, _∙_, ap}
 use mathlib.Core.Bool.{Bool, true, false, cond}
 use mathlib.Core.List.{List}
-use borrow.Author.Tests.{lt-ltb, le-ltb, le-leb, lt-leb, eq-eqb, ne-eqb, ltb-true, ltb-false, eqb-true, eqb-false}
-use lib.Dec.{ltb, eqb}
-use lib.IntN.{ℤ, pos, negsuc, subℕ, _-ℤ_, +ℤ-comm, -ℤ-+ℤ-cancel}
+use borrow.Author.Tests.{lt-ltb, le-ltb, le-leb, lt-leb, eq-eqb, ne-eqb, ltb-true, ltb-false, eqb-true, eqb-false, leb-true}
+use lib.Dec.{ltb, eqb, leb}
+use lib.IntN.{ℤ, pos, negsuc, subℕ, _+ℤ_, _-ℤ_, +ℤ-comm, -ℤ-+ℤ-cancel}
 use Rattle.wire.specs.declared.form.Row.{Row}
 use Rattle.wire.specs.declared.form.Form.{Form}
 use Rattle.wire.specs.declared.form.Form.the-variants.{Rfc9000}
@@ -154,3 +154,21 @@ back Delta old new bound h =
 pub code-back : (F : List Row) (coding : Coding) (old new bound : ℕ) {z : ℕ} → codeOf F coding old new ≡ Number z → new ≤ bound
     → reached coding old bound z ≡ To new
 code-back F coding old new bound e h = rw (coded-inv F coding old new e .0) (back coding old new bound h)
+
+-- a value that was reached doesn't pass its bound
+ranged-most : (bound : ℕ) (n : ℤ) (v : ℕ) → ranged bound n ≡ To v → v ≤ bound
+unfolding ranged
+ranged-most bound (pos x) v e = go (leb x bound) refl e
+  where
+    go : (b : Bool) → leb x bound ≡ b → cond b (To x) Outside ≡ To v → v ≤ bound
+    go true q d =
+        let same : x ≡ v = cc in
+        let most : x ≤ bound = leb-true _ _ q in
+        omega arith
+    go false q d = let z : _≡_ {A = ℕ} 0 1 = cc in absurd (omega arith)
+ranged-most bound (negsuc m) v e = let z : _≡_ {A = ℕ} 0 1 = cc in absurd (omega arith)
+
+pub reached-most : (coding : Coding) (old bound z v : ℕ) → reached coding old bound z ≡ To v → v ≤ bound
+unfolding reached
+reached-most Plain old bound z v e = ranged-most bound (pos z) v e
+reached-most Delta old bound z v e = ranged-most bound (pos old +ℤ unzigzag z) v e
