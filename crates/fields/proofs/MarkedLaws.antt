@@ -14,8 +14,8 @@ use Rattle.wire.specs.declared.form.Row.{Row}
 use Rattle.block.specs.Entries.{HeldAs, body}
 use Rattle.block.specs.Numbers.{numbersF}
 use Rattle.fieldset.specs.declared.lines.Line.{Line}
-use Rattle.fieldset.specs.Lines.{lines, spare}
-use Rattle.fieldset.proofs.LineLaws.{every, every-at, line-count}
+use Rattle.fieldset.specs.Lines.{every, lines, spare}
+use Rattle.fieldset.proofs.LineLaws.{every-at, line-count}
 use Rattle.fields.specs.declared.said.Span.{Span}
 use Rattle.fields.specs.declared.said.Word.the-variants.{Omitted, Deleted, Sent}
 use Rattle.fields.specs.Said.{Saying, omitted, deleted, sent, span, wordIn, numbers, Marked}
@@ -30,18 +30,18 @@ pub record Kinded (l : Line) : Type 0 where
   pub small : l .id < 28
 
 -- ---- the three words
-module _ (F : List Row) (o : List ℕ) (end : ℕ) (index before events : List ℕ) (id : ℕ) where
-  pub marked-omitted : Marked F o end index before events id omitted → wordIn index id ≡ Omitted
-  marked-omitted h = sym (word-omitted index id (h .0) (h .1))
+module _ (F : List Row) (o : List ℕ) (end : ℕ) (index gone before events : List ℕ) (id : ℕ) where
+  pub marked-omitted : Marked F o end index gone before events id omitted → wordIn index gone id ≡ Omitted
+  marked-omitted h = sym (word-omitted index gone id (h .0) (h .1))
 
-  pub marked-deleted : Marked F o end index before events id deleted → wordIn index id ≡ Deleted
-  marked-deleted h = sym (word-deleted index id (h .0) (λ e. omega (arith, h .1)))
+  pub marked-deleted : Marked F o end index gone before events id deleted → wordIn index gone id ≡ Deleted
+  marked-deleted h = sym (word-deleted index gone id (h .0) (λ e. omega (arith, h .1)))
 
-  pub marked-sent : (zs : List ℕ) (h : Marked F o end index before events id (sent zs))
-      → wordIn index id ≡ Sent (span (h .place) (getD index (id * 3 + 1) 0) (getD index (id * 3 + 2) 0))
+  pub marked-sent : (zs : List ℕ) (h : Marked F o end index gone before events id (sent zs))
+      → wordIn index gone id ≡ Sent (span (h .place) (getD index (id * 3 + 1) 0) (getD index (id * 3 + 2) 0))
   marked-sent zs h =
       let e : getD index (id * 3) 0 - 1 ≡ h .place = omega (arith, h .first) in
-      sym (word-sent index id (λ z. omega (arith, h .first))) ∙ rw e
+      sym (word-sent index gone id (λ z. omega (arith, h .first))) ∙ rw e
 
 -- ---- the numbers of a line that is sent
 module _ (F : List Row) (o : List ℕ) (end : ℕ) (index before events : List ℕ) (l : Line) (kind : Kinded l) (zs : List ℕ)
@@ -80,19 +80,19 @@ module _ (F : List Row) (o : List ℕ) (end : ℕ) (index before events : List �
         many = λ i. h .count (eqb-false _ _ (kind .plain)) ∙ ap length (sym (w .0));
       }
 
-module _ (F : List Row) (o : List ℕ) (end : ℕ) (index before events : List ℕ) (l : Line) (kind : Kinded l) where
+module _ (F : List Row) (o : List ℕ) (end : ℕ) (index gone before events : List ℕ) (l : Line) (kind : Kinded l) where
   -- what the words of a line say of it
-  pub said-is : (s : Saying) → Marked F o end index before events (l .id) s → said F o l (wordIn index (l .id)) ≡ s
+  pub said-is : (s : Saying) → Marked F o end index gone before events (l .id) s → said F o l (wordIn index gone (l .id)) ≡ s
   unfolding said
-  said-is omitted h = rw (marked-omitted F o end index before events (l .id) h)
-  said-is deleted h = rw (marked-deleted F o end index before events (l .id) h)
-  said-is (sent zs) h = rw (marked-sent F o end index before events (l .id) zs h) (ap sent (sent-is F o end index before events l kind zs h))
+  said-is omitted h = rw (marked-omitted F o end index gone before events (l .id) h)
+  said-is deleted h = rw (marked-deleted F o end index gone before events (l .id) h)
+  said-is (sent zs) h = rw (marked-sent F o end index gone before events (l .id) zs h) (ap sent (sent-is F o end index before events l kind zs h))
 
   -- and what a call of `take` asks of them
-  pub spans : end ≤ length o → (s : Saying) → Marked F o end index before events (l .id) s → Spans F o l (wordIn index (l .id))
-  spans inside omitted h = rw (marked-omitted F o end index before events (l .id) h) tt
-  spans inside deleted h = rw (marked-deleted F o end index before events (l .id) h) tt
-  spans inside (sent zs) h = rw (marked-sent F o end index before events (l .id) zs h) (listed F o end index before events l kind zs h inside)
+  pub spans : end ≤ length o → (s : Saying) → Marked F o end index gone before events (l .id) s → Spans F o l (wordIn index gone (l .id))
+  spans inside omitted h = rw (marked-omitted F o end index gone before events (l .id) h) tt
+  spans inside deleted h = rw (marked-deleted F o end index gone before events (l .id) h) tt
+  spans inside (sent zs) h = rw (marked-sent F o end index gone before events (l .id) zs h) (listed F o end index before events l kind zs h inside)
 
 -- ---- every line of the table is of its kind
 alike : (a b : Bool) → Bool·beq a b ≡ true → a ≡ b

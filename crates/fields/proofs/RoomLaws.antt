@@ -14,9 +14,9 @@ use Rattle.fieldset.specs.declared.lines.Want.{Want}
 use Rattle.fieldset.specs.declared.lines.Want.the-variants.{One, LessOne, Count, Ivs, Sum}
 use Rattle.fieldset.specs.declared.lines.Line.{Line}
 use Rattle.fieldset.specs.declared.lines.Measure.{Measure}
-use Rattle.fieldset.specs.Lines.{lines, spare, setLen, wanted, Small}
+use Rattle.fieldset.specs.Lines.{every, lines, spare, setLen, wanted, Small}
 use Rattle.fieldset.specs.Lawful.{regionOk, inUse}
-use Rattle.fieldset.proofs.LineLaws.{every, every-at, line-count, shaped}
+use Rattle.fieldset.proofs.LineLaws.{every-at, line-count, shaped}
 use Rattle.fieldset.proofs.RegionLaws.{used}
 use Rattle.fieldset.proofs.LawfulLaws.{region-facts}
 use Rattle.fields.specs.Cells.{stood, Takeable}

@@ -7,16 +7,16 @@ use lib.ListN.{getD}
 use Rattle.fields.specs.declared.said.Word.the-variants.{Omitted, Deleted, Sent}
 use Rattle.fields.specs.Said.{span, wordIn}
 
-module _ (index : List ℕ) (id : ℕ) where
+module _ (index gone : List ℕ) (id : ℕ) where
   pub word-sent : (getD index (id * 3) 0 ≡ 0 → ⊥)
-      → Sent (span (getD index (id * 3) 0 - 1) (getD index (id * 3 + 1) 0) (getD index (id * 3 + 2) 0)) ≡ wordIn index id
+      → Sent (span (getD index (id * 3) 0 - 1) (getD index (id * 3 + 1) 0) (getD index (id * 3 + 2) 0)) ≡ wordIn index gone id
   unfolding wordIn
   word-sent n = rw (ne-eqb (getD index (id * 3) 0) 0 n)
 
-  pub word-deleted : getD index (id * 3) 0 ≡ 0 → (getD index (id * 3 + 2) 0 ≡ 0 → ⊥) → Deleted ≡ wordIn index id
+  pub word-deleted : getD index (id * 3) 0 ≡ 0 → (getD gone id 0 ≡ 0 → ⊥) → Deleted ≡ wordIn index gone id
   unfolding wordIn
-  word-deleted e n = rw (eq-eqb (getD index (id * 3) 0) 0 e, ne-eqb (getD index (id * 3 + 2) 0) 0 n)
+  word-deleted e n = rw (eq-eqb (getD index (id * 3) 0) 0 e, ne-eqb (getD gone id 0) 0 n)
 
-  pub word-omitted : getD index (id * 3) 0 ≡ 0 → getD index (id * 3 + 2) 0 ≡ 0 → Omitted ≡ wordIn index id
+  pub word-omitted : getD index (id * 3) 0 ≡ 0 → getD gone id 0 ≡ 0 → Omitted ≡ wordIn index gone id
   unfolding wordIn
-  word-omitted e n = rw (eq-eqb (getD index (id * 3) 0) 0 e, eq-eqb (getD index (id * 3 + 2) 0) 0 n)
+  word-omitted e n = rw (eq-eqb (getD index (id * 3) 0) 0 e, eq-eqb (getD gone id 0) 0 n)

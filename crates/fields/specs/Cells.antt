@@ -10,7 +10,7 @@ use lib.Seq.{slice, sets}
 use Rattle.laws.specs.Bytes.{de}
 use Rattle.wire.specs.declared.form.Row.{Row}
 use Rattle.wire.specs.declared.zigzag.Coding.{Coding}
-use Rattle.wire.specs.declared.zigzag.Coding.the-variants.{Delta}
+use Rattle.wire.specs.declared.zigzag.Coding.the-variants.{Plain, Delta}
 use Rattle.wire.specs.Zigzag.{reached, onReached}
 use Rattle.runs.specs.declared.Outcome.{Outcome}
 use Rattle.runs.specs.declared.Outcome.the-variants.{Done, Misfit, Outside}
@@ -72,6 +72,11 @@ beyond = came outOfRange none
 -- it does not stand, and has to: asked with the rules of the set
 abbrev pub missing : Cell
 missing = told true false true
+
+-- the values of a full object stand as they are, those of a delta as distances
+abbrev pub codingFor : Bool → Coding
+codingFor true = Delta
+codingFor false = Plain
 
 -- 01: "Id 5 is zigzag, other values plain"; in a delta all are distances
 abbrev pub codingOf : Coding → Absent → Coding

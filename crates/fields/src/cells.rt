@@ -6,7 +6,7 @@ ghost use lib.Seq.{slice, sets};
 ghost use Rattle.laws.specs.Bytes.{de};
 ghost use Rattle.wire.specs.Form.{rows};
 ghost use Rattle.fieldset.specs.Lines.{absentValue};
-ghost use Rattle.fields.specs.Cells.{right, misfitOf, outOfRange, codingOf, isIvs, packed, carried, sentOne, sentList, listIn, said, cellOf, TakenAs, Listable, Spans, Takeable};
+ghost use Rattle.fields.specs.Cells.{right, misfitOf, outOfRange, missing, codingOf, isIvs, packed, carried, sentOne, sentList, listIn, said, cellOf, TakenAs, Listable, Spans, Takeable};
 use crate::said::Span;
 use crate::said::Word;
 use fieldset::lines;
@@ -63,6 +63,17 @@ fn outside() -> Cell
         first: true,
         second: true,
         within: false,
+    }
+}
+
+// A field that has to stand in the object itself.
+fn lacking() -> Cell
+    ensures { λ r. ⌜ r ≡ missing ⌝ }
+{
+    Cell {
+        first: true,
+        second: false,
+        within: true,
     }
 }
 
@@ -157,11 +168,7 @@ fn carry(r: &[u64], l: Line, j: usize, k: usize, x: &mut [u64]) -> Cell
     let want = l.want;
     let place = l.place;
     if is_ivs(want) {
-        return Cell {
-            first: true,
-            second: false,
-            within: true,
-        };
+        return lacking();
     }
     if j != k {
         return misfit(want);

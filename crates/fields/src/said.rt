@@ -18,13 +18,16 @@ pub enum Word {
     Sent(Span),
 }
 
-// The words of a block's index: three for each id. The last of an id that isn't sent marks it as deleted.
+// The words of a block's index: three for each id.
 pub const INDEX: usize = 84;
 
-// What the object says of an id.
-pub fn word_of(index: &[u64], id: u64) -> Word
-    requires { ⌜ (id < 28) × (length (now index) ≡ 84) ⌝ }
-    ensures { λ r. ⌜ r ≡ wordIn (now (index .entry)) id ⌝ }
+// The marks of the ids that are deleted: one for each id.
+pub const IDS: usize = 28;
+
+// What the object says of an id, by the index of its block and the marks of what it deletes.
+pub fn word_of(index: &[u64], gone: &[u64], id: u64) -> Word
+    requires { ⌜ (id < 28) × (length (now index) ≡ 84) × (length (now gone) ≡ 28) ⌝ }
+    ensures { λ r. ⌜ r ≡ wordIn (now (index .entry)) (now (gone .entry)) id ⌝ }
 {
     let i = id as usize * 3;
     let mark = index[i];
@@ -35,7 +38,7 @@ pub fn word_of(index: &[u64], id: u64) -> Word
             count: index[i + 2],
         });
     }
-    if index[i + 2] != 0 {
+    if gone[id as usize] != 0 {
         return Word::Deleted;
     }
     Word::Omitted

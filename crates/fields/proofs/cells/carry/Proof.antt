@@ -11,8 +11,11 @@ use Rattle.fields.proofs.cells.carry.Tie as tie
 is-ivs-requires : tie.Need-is-ivs-requires
 is-ivs-requires c κs = search needs
 
+lacking-requires : tie.Need-lacking-requires
+lacking-requires c κs = search needs
+
 returns : tie.Need-returns
-returns c = carry-ivs _ _ _ _ (now (c .before .before .before .before .args .r)) _ (sym (c .before .is-ivs .ensures) ∙ c .if1 .taken) refl _
+returns c = carry-ivs _ _ _ _ (now (c .before .before .before .before .before .args .r)) _ (sym (c .before .before .is-ivs .ensures) ∙ c .before .if1 .taken) (c .lacking .ensures) _
 
 misfit-requires : tie.Need-misfit-requires
 misfit-requires c κs = search needs
@@ -46,6 +49,7 @@ carry-spec =
     tie.close
     (tie.spec
     is-ivs-requires
+    lacking-requires
     returns
     misfit-requires
     returns-2
