@@ -1,3 +1,4 @@
-pub mod Head
-pub mod Events
-pub mod Sums
+pub mod Object
+pub mod Receive
+pub mod Judge
+pub mod Laws

@@ -1,4 +1,3 @@
 // The receiver: a LOCMAF object into the front of a CMAF chunk, with the payload as the part of the object that it is.
-pub mod head; // head.rt: header id and block length
-pub mod events; // events.rt: the events' values, on their own clocks
-pub mod sums; // sums.rt: sizes against the payload, protected bytes against the sizes
+pub mod judge; // judge.rt: the number of an object, and what its chunk is made of
+pub mod receive; // receive.rt: the call

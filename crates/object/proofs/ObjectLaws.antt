@@ -1,0 +1,223 @@
+-- Laws of the parts of an object, for whoever calls them: when a reference is timed, on what a `prft` and the test of ids rest, and what is
+-- known of a `prft` that was told. Assumes nothing.
+use Prim.Native.Nat.{ℕ, _-_, _^_, _≤_, zero-le}
+use native.Mathlib.Omega.{arith}
+use mathlib.Core.Path.{_≡_, refl, sym, _∙_}
+use mathlib.Core.Logic.{_⊎_, inl, inr, ⊎-elim}
+use mathlib.Core.Bool.{Bool, true, false, cond, false≢true}
+use mathlib.Core.List.{List, [], _∷_}
+use mathlib.Core.Option.{Option, none, some}
+use borrow.Author.Tests.{leb-true, eqb-false}
+use lib.Dec.{eqb, leb}
+use lib.ListN.{length, getD, replicate, length-replicate}
+use lib.Seq.{slice}
+use Rattle.laws.specs.Tests.{allLe}
+use Rattle.laws.proofs.ListLaws.{drop-replicate, take-replicate}
+use Rattle.laws.proofs.TestLaws.{allZero-zeros, zeros-le}
+use Rattle.wire.specs.declared.zigzag.Coding.{Coding}
+use Rattle.wire.specs.declared.zigzag.Coding.the-variants.{Plain, Delta}
+use Rattle.wire.specs.declared.zigzag.Reached.{Reached}
+use Rattle.wire.specs.declared.zigzag.Reached.the-variants.{To, Outside}
+use Rattle.wire.specs.Zigzag.{reached, onReached}
+use Rattle.wire.proofs.ZigzagLaws.{reached-most}
+use Rattle.track.specs.declared.Track.{Track}
+use Rattle.fieldset.specs.Lines.{lines, lineFor, setLen}
+use Rattle.fieldset.specs.Lawful.{lawful}
+use Rattle.fieldset.proofs.LawfulLaws.{lawful-facts, lawful-region}
+use Rattle.slots.specs.Share.{ntpAt, mediaTimeAt, versionAt, prftFlagsAt}
+use Rattle.chunk.specs.declared.outer.Prft.{Prft}
+use Rattle.chunk.specs.Writable.{Headed}
+use Rattle.fields.specs.Said.{Says}
+use Rattle.object.specs.declared.prft.Told.{Told}
+use Rattle.object.specs.Ids.{idsOk}
+use Rattle.object.specs.Bmdt.{bmdtOf, Timed}
+use Rattle.object.specs.Prft.{numberOf, numberFor, told, noPrft, mediaMost, timesOf, prftOf}
+use Rattle.object.proofs.SumLaws.{bounded}
+use Rattle.object.proofs.PrftLaws.{prft-none, prft-some}
+
+-- ---- the base media decode time
+
+-- a lawful set, and a set of zeros: times that follow from them have 64 bits
+pub lawful-timed : (t : Track) (r : List ℕ) → length r ≡ setLen → lawful t r ≡ true → Timed r
+unfolding lines lineFor
+lawful-timed t r n e =
+    record {
+      words = n;
+      start = omega (arith, lawful-facts t r e .bmdt);
+      few = lawful-facts t r e .count;
+      durations = bounded _ _ r (lawful-region t r 2 e (omega arith)) (omega (arith, n));
+      duration = bounded _ _ r (lawful-region t r 3 e (omega arith)) (omega (arith, n));
+    }
+
+zeros-bounded : (b f t n : ℕ) → t ≤ n → allLe b (slice f t (replicate n 0)) ≡ true
+zeros-bounded b f t n h = rw (take-replicate t n 0 h, drop-replicate f t 0) (zeros-le b (replicate (t - f) 0) (allZero-zeros (t - f)))
+
+pub zeros-timed : Timed (replicate setLen 0)
+unfolding lines lineFor
+zeros-timed =
+    record {
+      words = length-replicate {A = ℕ} setLen 0;
+      start = zero-le;
+      few = zero-le;
+      durations = zeros-bounded 0xffff_ffff 69 133 setLen (omega arith);
+      duration = zeros-bounded 0xffff_ffff 134 135 setLen (omega arith);
+    }
+
+-- a time that is sent is taken as it is
+pub bmdt-sent : (t : Track) (z : ℕ) (zs r : List ℕ) → bmdtOf t (some (z ∷ zs)) r ≡ z
+unfolding bmdtOf
+bmdt-sent t z zs r = refl
+
+-- ---- which ids may stand
+
+-- the test of ids rests on eight of them
+pub ids-says : (delta kept : Bool) (at at′ : ℕ → Bool)
+    → at 10 ≡ at′ 10 → at 14 ≡ at′ 14 → at 18 ≡ at′ 18 → at 20 ≡ at′ 20 → at 22 ≡ at′ 22 → at 23 ≡ at′ 23 → at 24 ≡ at′ 24 → at 27 ≡ at′ 27
+    → idsOk delta kept at ≡ idsOk delta kept at′
+unfolding idsOk
+ids-says delta kept at at′ a b c d e f g h = rw (a, b, c, d, e, f, g, h)
+
+-- ---- the producer reference time
+
+-- what is said of equal answers, by equal continuations
+on-same : {A : Type 0} (r r′ : Reached) (f g : ℕ → A) (z : A) → r ≡ r′ → ((v : ℕ) → f v ≡ g v) → onReached r f z ≡ onReached r′ g z
+on-same r r′ f g z e h = rw e (go r′)
+  where
+    go : (x : Reached) → onReached x f z ≡ onReached x g z
+    go (To v) = h v
+    go Outside = refl
+
+number-says : (delta : Bool) (says says′ : Says) (id share plain bound : ℕ) → says id ≡ says′ id
+    → numberFor delta says id share plain bound ≡ numberFor delta says′ id share plain bound
+unfolding numberFor
+number-says delta says says′ id share plain bound e = rw e
+
+-- a `prft` rests on four ids
+module _ (delta : Bool) (s : List ℕ) (says says′ : Says) (a : says 18 ≡ says′ 18) (b : says 20 ≡ says′ 20) where
+  times-says : (version flags : ℕ) → timesOf delta says s version flags ≡ timesOf delta says′ s version flags
+  unfolding timesOf
+  times-says version flags =
+      on-same _ _ _ _ _ (number-says delta says says′ 18 (getD s ntpAt 0) 0 (2 ^ 64 - 1) a)
+      (λ ntp. on-same _ _ _ _ _ (number-says delta says says′ 20 (getD s mediaTimeAt 0) 0 (mediaMost version) b) (λ media. refl))
+
+  pub prft-says : says 22 ≡ says′ 22 → says 24 ≡ says′ 24 → prftOf delta says s ≡ prftOf delta says′ s
+  prft-says c d = go (says′ 18) refl
+    where
+      go : (o : Option (List ℕ)) → says′ 18 ≡ o → prftOf delta says s ≡ prftOf delta says′ s
+      go none e = sym (prft-none delta says s (a ∙ e)) ∙ prft-none delta says′ s e
+      go (some zs) e =
+          prft-some delta says s zs (a ∙ e)
+          ∙ on-same _ _ _ _ _ (number-says delta says says′ 22 (getD s versionAt 0) 1 1 c)
+          (λ version. on-same _ _ _ _ _ (number-says delta says says′ 24 (getD s prftFlagsAt 0) 0 (2 ^ 24 - 1) d) (λ flags. times-says version flags))
+          ∙ sym (prft-some delta says′ s zs e)
+
+-- a full object's needs nothing of the share
+pub full-alone : (says : Says) (s s′ : List ℕ) → prftOf false says s ≡ prftOf false says s′
+unfolding timesOf numberFor
+full-alone says s s′ = go (says 18) refl
+  where
+    go : (o : Option (List ℕ)) → says 18 ≡ o → prftOf false says s ≡ prftOf false says s′
+    go none e = sym (prft-none false says s e) ∙ prft-none false says s′ e
+    go (some zs) e = prft-some false says s zs e ∙ sym (prft-some false says s′ zs e)
+
+-- what a `prft` that stands is made of
+pub record Made (delta : Bool) (says : Says) (s : List ℕ) (p : Prft) : Type 0 where
+  pub stands : p .stands ≡ true
+  pub version : numberFor delta says 22 (getD s versionAt 0) 1 1 ≡ To (p .version)
+  pub flags : numberFor delta says 24 (getD s prftFlagsAt 0) 0 (2 ^ 24 - 1) ≡ To (p .flags)
+  pub ntp : numberFor delta says 18 (getD s ntpAt 0) 0 (2 ^ 64 - 1) ≡ To (p .ntp)
+  pub media : numberFor delta says 20 (getD s mediaTimeAt 0) 0 (mediaMost (p .version)) ≡ To (p .media)
+
+module _ (delta : Bool) (says : Says) (s : List ℕ) where
+  -- that there is none, or one that is made of its numbers, where it is no refusal
+  abbrev pub Fine : Told → Type 0
+  Fine r = r .ok ≡ true → (r .prft ≡ noPrft true .prft) ⊎ Made delta says s (r .prft)
+
+  times-fine : (version flags : ℕ) → numberFor delta says 22 (getD s versionAt 0) 1 1 ≡ To version
+      → numberFor delta says 24 (getD s prftFlagsAt 0) 0 (2 ^ 24 - 1) ≡ To flags → Fine (timesOf delta says s version flags)
+  unfolding timesOf
+  times-fine version flags v f = one (numberFor delta says 18 (getD s ntpAt 0) 0 (2 ^ 64 - 1)) refl
+    where
+      two : (ntp : ℕ) → numberFor delta says 18 (getD s ntpAt 0) 0 (2 ^ 64 - 1) ≡ To ntp
+          → (m : Reached) → numberFor delta says 20 (getD s mediaTimeAt 0) 0 (mediaMost version) ≡ m
+          → Fine (onReached m (λ media. told true true ntp media version flags) (noPrft false))
+      two ntp n (To media) m e = inr (record { stands = refl; version = v; flags = f; ntp = n; media = m })
+      two ntp n Outside m e = absurd (false≢true e)
+
+      one : (n : Reached) → numberFor delta says 18 (getD s ntpAt 0) 0 (2 ^ 64 - 1) ≡ n
+          → Fine
+          (onReached n
+          (λ ntp.
+          onReached (numberFor delta says 20 (getD s mediaTimeAt 0) 0 (mediaMost version)) (λ media. told true true ntp media version flags) (noPrft false))
+          (noPrft false))
+      one (To ntp) n e = two ntp n (numberFor delta says 20 (getD s mediaTimeAt 0) 0 (mediaMost version)) refl e
+      one Outside n e = absurd (false≢true e)
+
+  pub prft-made : Fine (prftOf delta says s)
+  prft-made = go (says 18) refl
+    where
+      two : (version : ℕ) → numberFor delta says 22 (getD s versionAt 0) 1 1 ≡ To version
+          → (f : Reached) → numberFor delta says 24 (getD s prftFlagsAt 0) 0 (2 ^ 24 - 1) ≡ f
+          → Fine (onReached f (timesOf delta says s version) (noPrft false))
+      two version v (To flags) f e = times-fine version flags v f e
+      two version v Outside f e = absurd (false≢true e)
+
+      one : (v : Reached) → numberFor delta says 22 (getD s versionAt 0) 1 1 ≡ v
+          → Fine
+          (onReached v
+          (λ version. onReached (numberFor delta says 24 (getD s prftFlagsAt 0) 0 (2 ^ 24 - 1)) (timesOf delta says s version) (noPrft false))
+          (noPrft false))
+      one (To version) v e = two version v (numberFor delta says 24 (getD s prftFlagsAt 0) 0 (2 ^ 24 - 1)) refl e
+      one Outside v e = absurd (false≢true e)
+
+      go : (o : Option (List ℕ)) → says 18 ≡ o → Fine (prftOf delta says s)
+      go none q = rw (← prft-none delta says s q) (λ e. inl refl)
+      go (some zs) q = rw (prft-some delta says s zs q) (one (numberFor delta says 22 (getD s versionAt 0) 1 1) refl)
+
+-- a number doesn't pass its bound, where the kept one doesn't
+number-most : (coding : Coding) (o : Option (List ℕ)) (kept bound v : ℕ) → kept ≤ bound → numberOf coding o kept bound ≡ To v → v ≤ bound
+unfolding numberOf
+number-most coding none kept bound v h e = let same : kept ≡ v = cc in omega arith
+number-most coding (some []) kept bound v h e = let same : kept ≡ v = cc in omega arith
+number-most coding (some (z ∷ zs)) kept bound v h e = reached-most coding kept bound z v e
+
+pub number-for-most : (delta : Bool) (says : Says) (id share plain bound v : ℕ) → (delta ≡ true → share ≤ bound) → plain ≤ bound
+    → numberFor delta says id share plain bound ≡ To v → v ≤ bound
+unfolding numberFor
+number-for-most true says id share plain bound v h k e = number-most Delta (says id) share bound v (h refl) e
+number-for-most false says id share plain bound v h k e = number-most Plain (says id) plain bound v k e
+
+-- version and flags fit their box
+pub prft-headed : (delta : Bool) (says : Says) (s : List ℕ) → getD s versionAt 0 ≤ 1 → getD s prftFlagsAt 0 ≤ 0xffffff
+    → prftOf delta says s .ok ≡ true → Headed (prftOf delta says s .prft)
+prft-headed delta says s a b e =
+    ⊎-elim (λ q. rw q (record { version = zero-le; flags = zero-le }))
+    (λ m. record {
+      version = omega (arith, number-for-most delta says 22 (getD s versionAt 0) 1 1 _ (λ d. a) (omega arith) (m .version));
+      flags = omega (arith, number-for-most delta says 24 (getD s prftFlagsAt 0) 0 (2 ^ 24 - 1) _ (λ d. b) zero-le (m .flags));
+    })
+    (prft-made delta says s e)
+
+-- the share that keeps a full object's `prft` stays lawful
+pub prft-lawful : (says : Says) (s : List ℕ) → prftOf false says s .ok ≡ true
+    → let p = prftOf false says s .prft in
+    (p .stands ≡ false → (p .ntp ≡ 0) × (p .media ≡ 0) × (p .version ≡ 0) × (p .flags ≡ 0))
+    × (p .stands ≡ true → (p .version ≤ 1) × ((p .version ≡ 1) ⊎ (p .media ≤ 0xffff_ffff)) × (p .flags ≤ 0xff_ffff))
+prft-lawful says s e = go (prftOf false says s .prft) (prft-made false says s e)
+  where
+    media-most : (version media : ℕ) → version ≤ 1 → (b : Bool) → eqb version 0 ≡ b → media ≤ cond b (2 ^ 32 - 1) (2 ^ 64 - 1)
+        → (version ≡ 1) ⊎ (media ≤ 0xffff_ffff)
+    media-most version media h true q le = inr (omega arith)
+    media-most version media h false q le = let n : version ≡ 0 → ⊥ = eqb-false _ _ q in inl (omega arith)
+
+    go : (p : Prft) → (p ≡ noPrft true .prft) ⊎ Made false says s p
+        → (p .stands ≡ false → (p .ntp ≡ 0) × (p .media ≡ 0) × (p .version ≡ 0) × (p .flags ≡ 0))
+        × (p .stands ≡ true → (p .version ≤ 1) × ((p .version ≡ 1) ⊎ (p .media ≤ 0xffff_ffff)) × (p .flags ≤ 0xff_ffff))
+    go p (inl q) = rw q ((λ d. (refl, refl, refl, refl)), (λ d. (zero-le, inr zero-le, zero-le)))
+    go p (inr m) =
+        let v : p .version ≤ 1 = number-for-most false says 22 (getD s versionAt 0) 1 1 (p .version) (λ d. absurd (false≢true d)) (omega arith) (m .version) in
+        let f : p .flags ≤ 2 ^ 24 - 1 =
+        number-for-most false says 24 (getD s prftFlagsAt 0) 0 (2 ^ 24 - 1) (p .flags) (λ d. absurd (false≢true d)) zero-le (m .flags) in
+        let t : p .media ≤ mediaMost (p .version) =
+        number-for-most false says 20 (getD s mediaTimeAt 0) 0 (mediaMost (p .version)) (p .media) (λ d. absurd (false≢true d)) zero-le (m .media) in
+        ((λ d. absurd (false≢true (sym d ∙ m .stands))), (λ d. (v, media-most (p .version) (p .media) v (eqb (p .version) 0) refl t, omega arith)))

@@ -1,0 +1,46 @@
+-- `object::bmdt::bmdt_of` meets its contract: the time that is sent, or the one that follows. Assumes nothing.
+use borrow.Author.Needs.{needs}
+use native.Mathlib.Omega.{arith}
+use denote.Ref.{now}
+use Rattle.object.proofs.BmdtLaws.{bmdt-fits, bmdt-index, bmdt-follows}
+use Rattle.object.proofs.bmdt.bmdt_of.Statement.{statement}
+use Rattle.object.proofs.bmdt.bmdt_of.Tie as tie
+
+shared-slice-read-if1 : tie.Need-shared-slice-read-if1
+shared-slice-read-if1 c = search needs
+
+shared-slice-read-result : tie.Need-shared-slice-read-result
+shared-slice-read-result c = search needs
+
+returns : tie.Need-returns
+returns c =
+    let a = c .before .before .before .before .before .args in
+    bmdt-index (a .t) (now (a .r)) (now (a .index)) (c .before .if1 .taken)
+
+shared-slice-read-result-2 : tie.Need-shared-slice-read-result-2
+shared-slice-read-result-2 c = search needs
+
+durations-requires : tie.Need-durations-requires
+durations-requires c κs = search needs
+
+add-result : tie.Need-add-result
+add-result c =
+    let b = c .before .before .before .before .before .before in
+    omega (arith, bmdt-fits (b .args .t) (now (b .args .r)) (b .pre .1) (omega arith) _ (c .durations .ensures))
+
+returns-2 : tie.Need-returns-2
+returns-2 c =
+    let a = c .before .before .before .before .before .before .args in
+    bmdt-follows (a .t) (now (a .r)) (now (a .index)) (c .before .before .if1 .left) _ (c .durations .ensures)
+
+pub bmdt-of-spec : {M : Type 1} → statement M
+bmdt-of-spec =
+    tie.close
+    (tie.spec
+    shared-slice-read-if1
+    shared-slice-read-result
+    returns
+    shared-slice-read-result-2
+    durations-requires
+    add-result
+    returns-2)

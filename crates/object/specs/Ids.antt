@@ -1,0 +1,19 @@
+-- Which ids may stand in an object. 13: "id unknown, twice or forbidden here; a full without 10 or 14; only one of 18 and 20; 22 or 24 without
+-- them; a delta with `prft` ids where the current full has none"; that ids are known and stand once is asked by crate `block`.
+use Prim.Native.Nat.{ℕ, _*_}
+use mathlib.Core.Bool.{Bool, cond, not, _&&_, _||_, Bool·beq}
+use mathlib.Core.List.{List}
+use lib.Dec.{eqb}
+use lib.ListN.{getD}
+
+-- `at` says which ids stand, and `kept` that the current full object had a `prft`. Id 23 is forbidden in a delta ("Id 23 never"), and id 27 in
+-- a full object, which deletes nothing.
+unfoldable pub idsOk : Bool → Bool → (ℕ → Bool) → Bool
+idsOk delta kept at =
+    Bool·beq (at 18) (at 20)
+    && ((at 18 || not (at 22 || at 24))
+    && cond delta (not (at 23) && (not (at 18) || kept)) (not (at 27) && (at 10 && at 14)))
+
+-- an id stands, by the index of the block
+abbrev pub standsIn : List ℕ → ℕ → Bool
+standsIn index id = not (eqb (getD index (id * 3) 0) 0)

@@ -1,0 +1,60 @@
+-- The producer reference time of an object. 01: "Id 23 from `styp`, 18 and 20 from `prft`, 22 unless 1, 24 unless 0", and in a delta "both 18 and
+-- 20, zigzag, against the group's current full object, 22 and 24 if they differ from it; without the two, no box."
+use Prim.Native.Nat.{ℕ, _-_, _^_}
+use mathlib.Core.Bool.{Bool, true, false, cond}
+use mathlib.Core.List.{List, [], _∷_}
+use mathlib.Core.Option.{Option, none, some}
+use lib.Dec.{eqb}
+use lib.ListN.{getD}
+use Rattle.wire.specs.declared.zigzag.Coding.{Coding}
+use Rattle.wire.specs.declared.zigzag.Reached.{Reached}
+use Rattle.wire.specs.declared.zigzag.Reached.the-variants.{To}
+use Rattle.wire.specs.Zigzag.{reached, onReached}
+use Rattle.chunk.specs.declared.outer.Prft.{Prft}
+use Rattle.slots.specs.Share.{ntpAt, mediaTimeAt, versionAt, prftFlagsAt}
+use Rattle.fields.specs.Said.{Says}
+use Rattle.fields.specs.Cells.{codingFor}
+use Rattle.object.specs.declared.prft.Told.{Told}
+
+-- the number of an id: as it is sent, plain or against the kept one; or the kept one
+unfoldable pub numberOf : Coding → Option (List ℕ) → ℕ → ℕ → Reached
+numberOf coding none kept bound = To kept
+numberOf coding (some []) kept bound = To kept
+numberOf coding (some (z ∷ zs)) kept bound = reached coding kept bound z
+
+abbrev pub told : Bool → Bool → ℕ → ℕ → ℕ → ℕ → Told
+told ok stands ntp media version flags =
+    record { ok = ok; prft = record { stands = stands; ntp = ntp; media = media; version = version; flags = flags } }
+
+abbrev pub noPrft : Bool → Told
+noPrft ok = told ok false 0 0 0 0
+
+-- 01: "A value's range is that of its box field, after deltas": the media time has 32 bits in version 0
+abbrev pub mediaMost : ℕ → ℕ
+mediaMost version = cond (eqb version 0) (2 ^ 32 - 1) (2 ^ 64 - 1)
+
+-- what is kept of an id: in a delta the current full object's, in a full object what its absence means
+abbrev pub keptFor : Bool → ℕ → ℕ → ℕ
+keptFor delta share plain = cond delta share plain
+
+-- the number of an id, by the kind of object
+unfoldable pub numberFor : Bool → Says → ℕ → ℕ → ℕ → ℕ → Reached
+numberFor delta says id share plain bound = numberOf (codingFor delta) (says id) (keptFor delta share plain) bound
+
+-- the two times, once version and flags are known
+unfoldable pub timesOf : Bool → Says → List ℕ → ℕ → ℕ → Told
+timesOf delta says s version flags =
+    onReached (numberFor delta says 18 (getD s ntpAt 0) 0 (2 ^ 64 - 1))
+    (λ ntp.
+    onReached (numberFor delta says 20 (getD s mediaTimeAt 0) 0 (mediaMost version)) (λ media. told true true ntp media version flags) (noPrft false))
+    (noPrft false)
+
+unfoldable pub prftOf : Bool → Says → List ℕ → Told
+prftOf delta says s = whole (says 18)
+  where
+    whole : Option (List ℕ) → Told
+    whole none = noPrft true
+    whole (some zs) =
+        onReached (numberFor delta says 22 (getD s versionAt 0) 1 1)
+        (λ version. onReached (numberFor delta says 24 (getD s prftFlagsAt 0) 0 (2 ^ 24 - 1)) (timesOf delta says s version) (noPrft false))
+        (noPrft false)

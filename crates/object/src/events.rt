@@ -1,0 +1,75 @@
+// The values of the events: a time on the track's clock is a distance from BMDT, one on the event's own clock is carried.
+ghost use mathlib.Core.Path.{_≡_};
+ghost use mathlib.Core.List.{_++_};
+ghost use Prim.Native.Nat.{_+_, _≤_};
+ghost use lib.ListN.{length, getD, take, drop};
+ghost use lib.Seq.{slice};
+ghost use Rattle.chunk.specs.Events.{Inside, EventsFit};
+ghost use Rattle.object.specs.Events.{rebuilt, timed, noZero, EventRead, EventsRead};
+use media::clocks::TrackTicks;
+use media::clocks::TrackTime;
+use track::Track;
+
+const U32: u64 = 0xffff_ffff;
+
+// Whether none of the bytes from a place up to another is 0.
+fn no_zero(o: &[u8], from: usize, to: usize) -> bool
+    requires { ⌜ to ≤ length (now o) ⌝ }
+    ensures { λ r. ⌜ r ≡ noZero (slice from to (now (o .entry))) ⌝ }
+{
+    let mut ok = true;
+    let mut i = from;
+    while i < to {
+        ok = ok & (o[i] != 0);
+        i += 1;
+    }
+    ok
+}
+
+// The event whose ten words start at the place p: its timescale and time become those of its box.
+fn rebuild(t: Track, bmdt: u64, events: &mut [u64], p: usize) -> bool
+    requires { ⌜ p + 10 ≤ length (now events) ⌝ }
+    ensures { λ r. ⌜ r ≡ timed bmdt (drop p (now (events .entry))) ⌝ }
+    ensures { λ _. ⌜ now (events .exit) ≡ take p (now (events .entry)) ++ rebuilt t bmdt (drop p (now (events .entry))) ⌝ }
+{
+    if events[p + 4] != 0 {
+        return true;
+    }
+    let at = TrackTicks(bmdt).at_distance(events[p + 5]);
+    let TrackTime::At(time) = at else {
+        return false;
+    };
+    events[p + 4] = t.timescale as u64;
+    events[p + 5] = time.0;
+    true
+}
+
+// Whether the values of the event whose ten words start at the place p are in range; it is rebuilt.
+fn event_ok(t: Track, bmdt: u64, o: &[u8], events: &mut [u64], p: usize) -> bool
+    requires { ⌜ p + 10 ≤ length (now events) ⌝ }
+    requires { ⌜ Inside (now o) (getD (now events) p 0) (getD (now events) (p + 1) 0) ⌝ }
+    requires { ⌜ Inside (now o) (getD (now events) (p + 2) 0) (getD (now events) (p + 3) 0) ⌝ }
+    ensures { λ r. ⌜ EventRead t bmdt (now (o .entry)) (now (events .entry)) p r (now (events .exit)) ⌝ }
+{
+    let a = events[p] as usize;
+    let b = events[p + 2] as usize;
+    let strings = no_zero(o, a, a + events[p + 1] as usize)
+        & no_zero(o, b, b + events[p + 3] as usize);
+    let numbers = (events[p + 4] <= U32) & ((events[p + 6] <= U32) & (events[p + 7] <= U32));
+    rebuild(t, bmdt, &mut *events, p) & (strings & numbers)
+}
+
+// Whether the first k events' values are in range; each is rebuilt.
+pub fn events_ok(t: Track, bmdt: u64, o: &[u8], events: &mut [u64], k: usize) -> bool
+    requires { ⌜ length (now events) ≡ 160 ⌝ }
+    requires { ⌜ EventsFit (now o) (now events) k ⌝ }
+    ensures { λ r. ⌜ EventsRead t bmdt (now (o .entry)) (now (events .entry)) k r (now (events .exit)) ⌝ }
+{
+    let mut ok = true;
+    let mut i = 0;
+    while i < k {
+        ok = ok & event_ok(t, bmdt, o, &mut *events, 10 * i);
+        i += 1;
+    }
+    ok
+}

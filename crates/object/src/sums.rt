@@ -1,0 +1,80 @@
+// Sizes against the payload, and protected bytes against the sizes.
+ghost use mathlib.Core.Path.{_≡_};
+ghost use mathlib.Core.Bool.{true};
+ghost use Prim.Native.Nat.{_+_, _^_, _≤_, _<_};
+ghost use lib.Dec.{eqb};
+ghost use lib.ListN.{length};
+ghost use lib.Seq.{slice};
+ghost use Rattle.laws.specs.Tests.{sum};
+ghost use Rattle.object.specs.Sums.{sizesOk, bytesOf, protectedOk, Summable};
+use fieldset::lines;
+use track::Track;
+
+// The sum of the words from a place up to another.
+pub fn add_up(w: &[u64], from: usize, to: usize) -> u64
+    requires { ⌜ (to ≤ length (now w)) × (sum (slice from to (now w)) < 2 ^ 64) ⌝ }
+    ensures { λ r. ⌜ r ≡ sum (slice from to (now (w .entry))) ⌝ }
+{
+    let mut sum = 0;
+    let mut i = from;
+    while i < to {
+        sum += w[i];
+        i += 1;
+    }
+    sum
+}
+
+// Whether the sizes of the samples add up to the payload.
+pub fn sizes_ok(t: Track, w: &[u64], payload: u64) -> bool
+    requires { ⌜ Summable (now w) ⌝ }
+    ensures { λ r. ⌜ r ≡ sizesOk t (now (w .entry)) payload ⌝ }
+{
+    let n = w[lines::COUNT];
+    if n == 0 {
+        return payload == 0;
+    }
+    if n == 1 {
+        return true;
+    }
+    if w[lines::SIZES] != 0 {
+        return add_up(w, lines::SIZES + 1, lines::SIZES + n as usize) <= payload;
+    }
+    if w[lines::SIZE] != 0 {
+        return n * w[lines::SIZE + 1] == payload;
+    }
+    n * t.size as u64 == payload
+}
+
+// Whether the clear and protected bytes of k subsamples from the number j on are `size`.
+fn sample_ok(w: &[u64], j: usize, k: usize, size: u64) -> bool
+    requires { ⌜ Summable (now w) ⌝ }
+    requires { ⌜ j + k ≤ 256 ⌝ }
+    ensures { λ r. ⌜ r ≡ eqb (bytesOf 13 (now (w .entry)) j k + bytesOf 15 (now (w .entry)) j k) size ⌝ }
+{
+    let a = lines::CLEAR + 1 + j;
+    let b = lines::PROTECTED + 1 + j;
+    add_up(w, a, a + k) + add_up(w, b, b + k) == size
+}
+
+// Whether the protected sums are the sizes, once the sizes are known to add up.
+pub fn protected_ok(t: Track, w: &[u64], payload: u64) -> bool
+    requires { ⌜ Summable (now w) ⌝ }
+    requires { ⌜ (payload ≤ 16777216) × (sizesOk t (now w) payload ≡ true) ⌝ }
+    ensures { λ r. ⌜ r ≡ protectedOk t (now (w .entry)) payload ⌝ }
+{
+    if w[lines::SUBSAMPLES] == 0 {
+        return true;
+    }
+    let n = w[lines::COUNT] as usize;
+    let last = chunk::sizes::last_size(t, w, payload);
+    let mut ok = true;
+    let mut j = 0;
+    let mut i = 0;
+    while i < n {
+        let k = w[lines::SUBSAMPLES + 1 + i] as usize;
+        ok = ok & sample_ok(w, j, k, chunk::sizes::size_at(w, last, i));
+        j += k;
+        i += 1;
+    }
+    ok
+}

@@ -1,0 +1,112 @@
+-- What is written for an object whose number is 0, and what stands in the share then. Assumes nothing.
+use Prim.Native.Nat.{ℕ, _+_, _-_, _%_, _≤_, _<_}
+use native.Mathlib.Omega.{arith}
+use mathlib.Core.Path.{_≡_, refl, sym, _∙_, ap, subst}
+use mathlib.Core.Bool.{true}
+use mathlib.Core.List.{List, _++_}
+use borrow.Author.Tests.{le-leb, lt-leb, leb-true, not-true}
+use lib.Dec.{eqb, leb}
+use lib.ListN.{length, getD, take, drop, length-drop}
+use lib.Seq.{take-all}
+use Rattle.laws.specs.Tests.{_and_}
+use Rattle.laws.specs.Ladder.{ladder}
+use Rattle.laws.proofs.LadderLaws.{broken, passed, top}
+use Rattle.laws.proofs.SliceLaws.{slice-lent}
+use Rattle.laws.proofs.TestLaws.{left, right}
+use Rattle.wire.specs.declared.form.Row.{Row}
+use Rattle.track.specs.declared.Track.{Track}
+use Rattle.track.specs.Track.{lawful as lawfulTrack}
+use Rattle.slots.specs.declared.share.Side.the-variants.{Receiver}
+use Rattle.slots.specs.Share.{trackAt, acceptedAt, u32, askedOf, trackOf, referenceOk, openOk, isOpen, lawful}
+use Rattle.slots.specs.Table.{out}
+use Rattle.chunk.specs.Events.{eventsOf}
+use Rattle.chunk.specs.Front.{front}
+use Rattle.chunk.specs.Writable.{Writable}
+use Rattle.object.specs.declared.head.Place.{Place}
+use Rattle.receiver.specs.declared.judge.Judged.{Judged}
+use Rattle.receiver.specs.Object.{isDelta, blockEnd, payload}
+use Rattle.receiver.specs.Receive.{took, keptWords, track, prft, brands, set, sequence, chunk, accepted, refusing, done, roomRungs}
+use Rattle.receiver.specs.Judge.{Judgeable, Ready}
+
+-- a lawful share that is open: its parameters and its count
+pub open-parts : (s : List ℕ) → isOpen s ≡ true → lawful Receiver s ≡ true
+    → (lawfulTrack (askedOf s) ≡ true) × (getD s acceptedAt 0 ≤ u32)
+unfolding isOpen lawful openOk
+open-parts s o h =
+    let ok : (lawfulTrack (askedOf s) and leb (getD s acceptedAt 0) u32 and referenceOk (trackOf s) s) ≡ true =
+    rw (not-true (eqb (getD s trackAt 0) 0) o) at h in
+    (left _ _ ok, leb-true _ _ (left _ _ (right _ _ ok)))
+
+module _ (F : List Row) (o s : List ℕ) (t : Track) (p : Place) (a : Judgeable F o s t p) where
+  -- the payload stands behind the block
+  end-is : p .end ≡ blockEnd F o
+  end-is = ap (λ (z : Place). z .end) (a .place)
+
+  pub end-inside : p .end ≤ length o
+  end-inside = omega (arith, end-is, a .inside)
+
+  behind-is : drop (p .end) o ≡ payload F o
+  unfolding payload
+  behind-is = ap (λ (z : ℕ). drop z o) end-is
+
+  payload-long : length o - p .end ≡ length (payload F o)
+  payload-long = sym (length-drop (p .end) o) ∙ ap length behind-is
+
+  -- as it is handed back
+  payload-is : take (length o - p .end) (drop (p .end) o) ≡ payload F o
+  payload-is = take-all (length o - p .end) (drop (p .end) o) (omega (arith, length-drop (p .end) o)) ∙ behind-is
+
+  pub count-small : getD s acceptedAt 0 ≤ u32
+  count-small = open-parts s (a .opened) (a .lawful) .1
+
+  pub sequence-is : (getD s acceptedAt 0 + 1) % 4294967296 ≡ sequence F o s
+  unfolding sequence
+  sequence-is = refl
+
+  module _ (j : Judged) (ws x : List ℕ) (r : Ready F o s j ws x) where
+    -- the brands as they are lent
+    abbrev named : List ℕ
+    named = take (j .brands .at + j .brands .len - j .brands .at) (drop (j .brands .at) o)
+
+    brands-are : named ≡ brands F o s
+    brands-are = slice-lent (j .brands .at) (j .brands .at + j .brands .len) o (omega arith) (r .inside) ∙ r .named
+
+    pub writable : Writable t x (length o - p .end) (j .prft) o ws (j .events) named
+    writable =
+        subst (λ (z : Track). Writable z x (length o - p .end) (j .prft) o ws (j .events) named) (sym (a .track))
+        (subst (λ (z : ℕ). Writable (track F o s) x z (j .prft) o ws (j .events) named) (sym payload-long)
+        (subst (λ (z : List ℕ). Writable (track F o s) x (length (payload F o)) (j .prft) o ws (j .events) z) (sym brands-are) (r .writable)))
+
+    abbrev written : ℕ → List ℕ
+    written q = front t q x (length o - p .end) (j .prft) (eventsOf o ws (j .events)) named
+
+    front-is : written (sequence F o s) ≡ chunk F o s
+    unfolding chunk
+    front-is = λ i. front (a .track i) (sequence F o s) (r .words i) (payload-long i) (r .time i) (r .list i) (brands-are i)
+
+    -- what its length is, whatever the sequence number, is at most as much as there is
+    pub room : (n m : ℕ) → ((q : ℕ) → n ≡ length (written q)) → n ≤ m → (q : ℕ) → length (written q) ≤ m
+    room n m e h q = omega (arith, e q)
+
+    module _ (output : List ℕ) where
+      -- there is no room for it
+      pub short : (n : ℕ) → ((q : ℕ) → n ≡ length (written q)) → length output < n
+          → refusing output s 17 ≡ ladder (roomRungs F o output s) (refusing output s) (done F o output s)
+      short n e h =
+          let l : length (chunk F o s) ≡ n = sym (e (sequence F o s) ∙ ap length front-is) in
+          broken _ 17 _ _ _ (lt-leb (length (chunk F o s)) (length output) (omega arith))
+
+      -- there is
+      pub done-is : (q n : ℕ) (after kept : List ℕ) → q ≡ sequence F o s → n ≡ length (written q) → length (written q) ≤ length output
+          → after ≡ written q ++ drop n output → kept ≡ keptWords (p .delta) q (j .prft) x s
+          → out (took 0 n (take (length o - p .end) (drop (p .end) o)) after) kept ≡ ladder (roomRungs F o output s) (refusing output s) (done F o output s)
+      unfolding accepted
+      done-is q n after kept u e h f g =
+          let w : written q ≡ chunk F o s = ap written u ∙ front-is in
+          let l : n ≡ length (chunk F o s) = e ∙ ap length w in
+          let d : p .delta ≡ isDelta F o = ap (λ (z : Place). z .delta) (a .place) in
+          let y : after ≡ chunk F o s ++ drop (length (chunk F o s)) output = f ∙ (λ i. w i ++ drop (l i) output) in
+          let z : kept ≡ keptWords (isDelta F o) (sequence F o s) (prft F o s .prft) (set F o s) s =
+          g ∙ (λ i. keptWords (d i) (u i) (r .time i) (r .words i) s) in
+          passed _ 17 _ _ _ (le-leb (length (chunk F o s)) (length output) (omega arith))
+          ((λ i. out (took 0 (l i) (payload-is i) (y i)) (z i)) ∙ top _ _)

@@ -1,0 +1,94 @@
+-- Bytes of an object by its index: the part of an odd id, the brands, and what id 9 says. Assumes nothing.
+use Prim.Native.Nat.{ℕ, suc, _+_, _*_, _-_, _%_, _≤_, _<_}
+use native.Mathlib.Omega.{arith}
+use mathlib.Core.Path.{_≡_, refl, sym, _∙_, ap, subst}
+use mathlib.Core.Bool.{Bool, true, false, not, cond}
+use mathlib.Core.List.{List, [], _∷_}
+use mathlib.Core.Option.{Option, none, some}
+use borrow.Author.Tests.{eqb-true, eq-eqb, ne-eqb, le-leb}
+use lib.Dec.{eqb}
+use lib.ListN.{length, getD, take, drop, take-append-drop}
+use lib.Seq.{slice, slice-empty}
+use Rattle.laws.specs.Tests.{_and_, allLe}
+use Rattle.laws.proofs.LadderLaws.{Hold}
+use Rattle.laws.proofs.TestLaws.{left, right, and-right, allLe-append}
+use Rattle.wire.specs.declared.form.Row.{Row}
+use Rattle.track.specs.declared.Track.{Track}
+use Rattle.block.specs.Entries.{body, Tells}
+use Rattle.fields.specs.Said.{Says, numbers, saysIn, Telling}
+use Rattle.reading.specs.Read.{brandsFit, fieldRungs, setRungs}
+use Rattle.reading.proofs.TellingLaws.{part-says}
+use Rattle.receiver.specs.declared.judge.Part.{Part}
+use Rattle.receiver.specs.Judge.{partIn}
+
+-- ---- bytes
+
+-- every number of a list, one by one
+each-le : (b : ℕ) (xs : List ℕ) → ((i : ℕ) → getD xs i 0 ≤ b) → allLe b xs ≡ true
+unfolding allLe _and_
+each-le b [] h = refl
+each-le b (x ∷ xs) h = rw (le-leb x b (h 0)) (each-le b xs (λ i. h (suc i)))
+
+-- every byte of a slice of them
+pub all-bytes : (o : List ℕ) → ((i : ℕ) → getD o i 0 < 256) → allLe 255 o ≡ true
+all-bytes o h = each-le 255 o (λ i. let k = h i in omega arith)
+
+-- and of a part
+cut-le : (b n : ℕ) (xs : List ℕ) → allLe b xs ≡ true → (allLe b (take n xs) and allLe b (drop n xs)) ≡ true
+cut-le b n xs h = sym (allLe-append b (take n xs) (drop n xs)) ∙ ap (allLe b) (take-append-drop n xs) ∙ h
+
+slice-le : (b f t : ℕ) (xs : List ℕ) → allLe b xs ≡ true → allLe b (slice f t xs) ≡ true
+slice-le b f t xs h = right _ _ (cut-le b f (take t xs) (left _ _ (cut-le b t xs h)))
+
+-- what is said of id 9 is bytes of the object
+pub raw-bytes : (F : List Row) (o index : List ℕ) → allLe 255 o ≡ true → (zs : List ℕ) → saysIn F o index 9 ≡ some zs → allLe 255 zs ≡ true
+unfolding saysIn body
+raw-bytes F o index h zs e = go (eqb (getD index 27 0) 0) e
+  where
+    go : (b : Bool) → cond b none (some (slice (getD index 27 0 - 1) (getD index 27 0 - 1 + getD index 28 0) o)) ≡ some zs → allLe 255 zs ≡ true
+    go true q = let z : _≡_ {A = ℕ} 0 1 = cc in absurd (omega arith)
+    go false q =
+        let r : slice (getD index 27 0 - 1) (getD index 27 0 - 1 + getD index 28 0) o ≡ zs = cc in
+        subst (λ (ys : List ℕ). allLe 255 ys ≡ true) r (slice-le 255 (getD index 27 0 - 1) (getD index 27 0 - 1 + getD index 28 0) o h)
+
+-- ---- the part of an odd id
+
+pub part-none : (index : List ℕ) (id : ℕ) → getD index (id * 3) 0 ≡ 0 → record { at = 0; len = 0 } ≡ partIn index id
+unfolding partIn
+part-none index id e = rw (eq-eqb _ _ e)
+
+pub part-some : (index : List ℕ) (id : ℕ) → (getD index (id * 3) 0 ≡ 0 → ⊥)
+    → record { at = getD index (id * 3) 0 - 1; len = getD index (id * 3 + 1) 0 } ≡ partIn index id
+unfolding partIn
+part-some index id e = rw (ne-eqb _ _ e)
+
+-- ---- the brands
+
+-- a part of the object has the bytes that are said
+pub record BrandsTold (o : List ℕ) (p : Part) (bs : List ℕ) : Type 0 where
+  pub inside : p .at + p .len ≤ length o
+  pub named : slice (p .at) (p .at + p .len) o ≡ bs
+  pub long : p .len ≡ length bs
+
+pub brands-told : (F : List Row) (o index : List ℕ) → Telling F o index → BrandsTold o (partIn index 23) (numbers (saysIn F o index 23))
+unfolding partIn
+brands-told F o index h = go (saysIn F o index 23) refl (h .each 23 (omega arith) (λ z. omega arith))
+  where
+    go : (m : Option (List ℕ)) → saysIn F o index 23 ≡ m → Tells F o (length o) index [] [] 23 m → BrandsTold o (partIn index 23) (numbers m)
+    go none e t =
+        let z : getD index 69 0 ≡ 0 = t 0 (omega arith) in
+        rw (eq-eqb (getD index 69 0) 0 z) (record { inside = omega arith; named = slice-empty 0 o; long = refl })
+    go (some bs) e t =
+        let w = part-says F o index h bs e in
+        rw (ne-eqb (getD index 69 0) 0 (λ z. omega (arith, t .first))) (record { inside = w .1; named = w .0; long = w .2 })
+
+-- some of four bytes each
+fours : (m : Option (List ℕ)) → brandsFit m ≡ true → length (numbers m) % 4 ≡ 0
+unfolding brandsFit
+fours none e = refl
+fours (some bs) e = eqb-true _ _ (and-right (not (eqb (length bs) 0)) _ e)
+
+-- where the rules of the set hold
+pub brands-fours : (t : Track) (delta : Bool) (r : List ℕ) (says : Says) → Hold (setRungs t delta r says) → length (numbers (says 23)) % 4 ≡ 0
+unfolding setRungs fieldRungs
+brands-fours t delta r says h = fours (says 23) (right _ _ (h .1 .1 .0))

@@ -1,0 +1,105 @@
+-- An object judged step by step: its block, its set, its values. Assumes nothing.
+use Prim.Native.Nat.{ℕ, _≤_}
+use native.Mathlib.Omega.{arith}
+use mathlib.Core.Path.{_≡_, sym, _∙_, ap}
+use mathlib.Core.Bool.{Bool, true}
+use mathlib.Core.List.{List, _++_}
+use borrow.Rule.Slice.PartAt.{part-to-end}
+use lib.ListN.{length}
+use Rattle.laws.proofs.LadderLaws.{Hold, numberOf, Numbered, all-hold, climbed-on, stopped-on}
+use Rattle.wire.specs.declared.form.Row.{Row}
+use Rattle.track.specs.declared.Track.{Track}
+use Rattle.fieldset.specs.Lines.{setLen}
+use Rattle.fieldset.specs.Lawful.{lawful as lawfulSet}
+use Rattle.slots.specs.Share.{setAt}
+use Rattle.fields.specs.Said.{Says, saysIn}
+use Rattle.reading.specs.Read.{newWords, fieldRungs, setRungs, ReadAs}
+use Rattle.object.specs.declared.head.Place.{Place}
+use Rattle.receiver.specs.declared.judge.Judged.{Judged}
+use Rattle.receiver.specs.Object.{isDelta, saying}
+use Rattle.receiver.specs.Receive.{track, reference, splitRungs, valueRungs, judgeRungs}
+use Rattle.receiver.specs.Judge.{noneJudged, Judgeable, Split, SplitAs, JudgedAs}
+use Rattle.receiver.proofs.ShareFacts.{reference-long}
+use Rattle.receiver.proofs.JudgeLaws.{lent, iv-small, delta-good, judged-none}
+
+-- no step answers 0 where it refuses
+split-numbered : (F : List Row) (o s : List ℕ) → Numbered (splitRungs F o s)
+unfolding splitRungs
+split-numbered F o s = ((λ e. omega arith), ((λ e. omega arith), tt))
+
+set-numbered : (t : Track) (delta : Bool) (r : List ℕ) (says : Says) → Numbered (setRungs t delta r says)
+unfolding setRungs fieldRungs
+set-numbered t delta r says =
+    ((λ e. omega arith), ((λ e. omega arith), ((λ e. omega arith), ((λ e. omega arith), ((λ e. omega arith), ((λ e. omega arith), tt))))))
+
+module _ {F : List Row} {o s : List ℕ} {t : Track} {p : Place} (j : Judgeable F o s t p) {k : ℕ} {index ev : List ℕ} (sa : SplitAs F o s k index ev) where
+  -- the block can't be split
+  pub refuses-split : (a : Judged) (ws x : List ℕ) → a ≡ noneJudged k → (k ≡ 0 → ⊥) → JudgedAs (judgeRungs F o s) F o s a ws x
+  refuses-split a ws x e n =
+      judged-none F o s (judgeRungs F o s) k a ws x e n
+      (sa .answered
+      ∙ stopped-on (splitRungs F o s) (setRungs (track F o s) (isDelta F o) (reference F o s) (saying F o) ++ valueRungs F o s) (λ i. i) 0
+      (λ z. n (sa .answered ∙ z)))
+
+  -- it can
+  module _ (z : k ≡ 0) where
+    pub split-of : Split F o index ev
+    split-of = sa .split z
+
+    split-holds : Hold (splitRungs F o s)
+    split-holds = all-hold (splitRungs F o s) (split-numbered F o s) (sym (sa .answered) ∙ z)
+
+    -- what `read_set` is lent
+    pub set-lent : (length (lent s) ≡ setLen) × (t .«iv_size» ≤ 16) × (p .delta ≡ true → lawfulSet t (lent s) ≡ true)
+    set-lent =
+        let d : p .delta ≡ isDelta F o = ap (λ (q : Place). q .delta) (j .place) in
+        rw (part-to-end s setAt) (reference-long s (j .share), iv-small j, λ e. delta-good j (sym d ∙ e))
+
+    module _ {n : ℕ} {x : List ℕ}
+        (rd : ReadAs (setRungs t (p .delta) (lent s) (saysIn F o index)) (newWords t (p .delta) (lent s) (saysIn F o index) 0) n x) where
+      rungs-are : setRungs t (p .delta) (lent s) (saysIn F o index) ≡ setRungs t (isDelta F o) (reference F o s) (saying F o)
+      rungs-are =
+          ap (λ (q : Place). setRungs t (q .delta) (lent s) (saysIn F o index)) (j .place)
+          ∙ ap (λ (r : List ℕ). setRungs t (isDelta F o) r (saysIn F o index)) (part-to-end s setAt)
+          ∙ ap (setRungs t (isDelta F o) (reference F o s)) (split-of .says)
+
+      read-is : n ≡ numberOf (setRungs t (isDelta F o) (reference F o s) (saying F o))
+      read-is = rd .answered ∙ ap numberOf rungs-are
+
+      track-is : n ≡ numberOf (setRungs (track F o s) (isDelta F o) (reference F o s) (saying F o))
+      track-is = read-is ∙ ap (λ (u : Track). numberOf (setRungs u (isDelta F o) (reference F o s) (saying F o))) (j .track)
+
+      -- a rule of the set is broken
+      pub refuses-set : (a : Judged) (ws w : List ℕ) → a ≡ noneJudged n → (n ≡ 0 → ⊥) → JudgedAs (judgeRungs F o s) F o s a ws w
+      refuses-set a ws w e m =
+          judged-none F o s (judgeRungs F o s) n a ws w e m
+          (track-is
+          ∙ stopped-on (setRungs (track F o s) (isDelta F o) (reference F o s) (saying F o)) (valueRungs F o s) (λ i. i) 0 (λ y. m (track-is ∙ y))
+          ∙ climbed-on (splitRungs F o s) (setRungs (track F o s) (isDelta F o) (reference F o s) (saying F o) ++ valueRungs F o s) (λ i. i) 0 split-holds)
+
+      -- none is
+      module _ (y : n ≡ 0) where
+        pub set-holds : Hold (setRungs t (isDelta F o) (reference F o s) (saying F o))
+        set-holds = all-hold _ (set-numbered t (isDelta F o) (reference F o s) (saying F o)) (sym read-is ∙ y)
+
+        pub set-words : x ≡ newWords t (isDelta F o) (reference F o s) (saying F o) 0
+        set-words =
+            rd .stored y
+            ∙ ap (λ (q : Place). newWords t (q .delta) (lent s) (saysIn F o index) 0) (j .place)
+            ∙ ap (λ (r : List ℕ). newWords t (isDelta F o) r (saysIn F o index) 0) (part-to-end s setAt)
+            ∙ ap (λ (f : Says). newWords t (isDelta F o) (reference F o s) f 0) (split-of .says)
+
+        track-holds : Hold (setRungs (track F o s) (isDelta F o) (reference F o s) (saying F o))
+        track-holds = all-hold _ (set-numbered (track F o s) (isDelta F o) (reference F o s) (saying F o)) (sym track-is ∙ y)
+
+        -- the rest is the values'
+        pub judged-on : (a : Judged) (ws w : List ℕ) → JudgedAs (valueRungs F o s) F o s a ws w → JudgedAs (judgeRungs F o s) F o s a ws w
+        judged-on a ws w h =
+            record {
+              answered =
+                  h .answered
+                  ∙ climbed-on (setRungs (track F o s) (isDelta F o) (reference F o s) (saying F o)) (valueRungs F o s) (λ i. i) 0 track-holds
+                  ∙ climbed-on (splitRungs F o s) (setRungs (track F o s) (isDelta F o) (reference F o s) (saying F o) ++ valueRungs F o s) (λ i. i) 0
+                  split-holds;
+              ready = h .ready;
+            }

@@ -1,0 +1,348 @@
+-- The values of an object and its sums, once its block is split and its set is read. Assumes nothing.
+use Prim.Native.Nat.{ℕ, _-_, _%_, _^_, _≤_, _<_}
+use native.Mathlib.Omega.{arith}
+use mathlib.Core.Path.{_≡_, refl, sym, _∙_, ap}
+use mathlib.Core.Bool.{Bool, true, false, _&&_}
+use mathlib.Core.List.{List}
+use mathlib.Core.Option.{Option, none, some}
+use borrow.Author.Tests.{leb-true}
+use borrow.Rule.Slice.PartAt.{part-to-end}
+use lib.Dec.{leb}
+use lib.ListN.{length, getD, take, drop, replicate, length-replicate, length-drop}
+use lib.ListN.{set as store}
+use Rattle.laws.specs.Tests.{_and_, allLe}
+use Rattle.laws.specs.Ladder.{Rung, ladder}
+use Rattle.laws.proofs.LadderLaws.{Hold, broken, passed, top}
+use Rattle.laws.proofs.TestLaws.{left, and-left, and-right}
+use Rattle.wire.specs.declared.form.Row.{Row}
+use Rattle.track.specs.declared.Track.{Track}
+use Rattle.fieldset.specs.Lines.{setLen}
+use Rattle.fieldset.specs.Lawful.{lawful as lawfulSet}
+use Rattle.slots.specs.Share.{setAt}
+use Rattle.block.specs.Entries.{onOption}
+use Rattle.chunk.specs.Events.{eventsOf, EventsFit}
+use Rattle.chunk.specs.Writable.{Writable, Sized, Headed, Branded}
+use Rattle.protected.proofs.ProtectableLaws.{lawful-protectable}
+use Rattle.fields.specs.Said.{Says, numbers, scalarIn}
+use Rattle.reading.specs.Read.{countOf, fieldOf, newWords, setRungs}
+use Rattle.reading.proofs.TellingLaws.{scalar-says}
+use Rattle.reading.proofs.SetLaws.{words-bmdt, words-length}
+use Rattle.reading.proofs.NewSetLaws.{taken-facts, new-fits, new-lawful}
+use Rattle.object.specs.declared.head.Place.{Place}
+use Rattle.object.specs.declared.prft.Told.{Told}
+use Rattle.object.specs.Bmdt.{bmdtOf, Timed}
+use Rattle.object.specs.Prft.{prftOf}
+use Rattle.object.specs.Events.{EventsRead}
+use Rattle.object.specs.Values.{allFit, boxes}
+use Rattle.object.specs.Sums.{Summable, sizesOk, protectedOk}
+use Rattle.object.proofs.ValueLaws.{EventsTold, said-count, said-size, said-told}
+use Rattle.object.proofs.SumLaws.{lawful-summable, sizes-sized}
+use Rattle.receiver.specs.declared.judge.Part.{Part}
+use Rattle.receiver.specs.declared.judge.Judged.{Judged}
+use Rattle.receiver.specs.Object.{isDelta, blockEnd, saying, payload}
+use Rattle.receiver.specs.Receive.{track, reference, bmdt, prft, events, brands, set, valuesOk, sumsOk, valueRungs}
+use Rattle.receiver.specs.Judge.{partIn, noneJudged, Judgeable, Split, JudgedAs}
+use Rattle.object.proofs.ObjectLaws.{prft-says, prft-headed}
+use Rattle.receiver.proofs.ShareFacts.{reference-long, iv-most, delta-lawful, reference-timed, kept-small}
+use Rattle.receiver.proofs.BrandLaws.{raw-bytes, BrandsTold, brands-told, brands-fours}
+
+-- ---- two tests, one after the other
+
+pub first-broken : (a b : Bool) → a ≡ false → false ≡ (a and b)
+unfolding _and_
+first-broken a b e = rw e
+
+pub first-held : (a b c : Bool) → a ≡ true → c ≡ b → c ≡ (a and b)
+unfolding _and_
+first-held a b c e h = rw e h
+
+-- ---- the rules of the values
+
+module _ (F : List Row) (o s : List ℕ) where
+  -- all but the events
+  abbrev pub plainOk : Bool
+  plainOk =
+      leb (bmdt F o s) 0x3fff_ffff_ffff_ffff
+      && (prft F o s .ok
+      && (leb (length (payload F o)) 16777216
+      && (leb (length (brands F o s)) 64 && (leb (length (events F o s)) 16 && leb (length (numbers (saying F o 25))) 4096))))
+
+  -- one by one
+  record Plain : Type 0 where
+    start : bmdt F o s ≤ 0x3fff_ffff_ffff_ffff
+    told : prft F o s .ok ≡ true
+    carried : length (payload F o) ≤ 16777216
+    named : length (brands F o s) ≤ 64
+    few : length (events F o s) ≤ 16
+    small : length (numbers (saying F o 25)) ≤ 4096
+
+  plain-facts : plainOk ≡ true → Plain
+  plain-facts e =
+      let e₂ = and-right (leb (bmdt F o s) 0x3fff_ffff_ffff_ffff) _ e in
+      let e₃ = and-right (prft F o s .ok) _ e₂ in
+      let e₄ = and-right (leb (length (payload F o)) 16777216) _ e₃ in
+      let e₅ = and-right (leb (length (brands F o s)) 64) _ e₄ in
+      record {
+        start = leb-true _ _ (and-left (leb (bmdt F o s) 0x3fff_ffff_ffff_ffff) _ e);
+        told = and-left (prft F o s .ok) _ e₂;
+        carried = leb-true _ _ (and-left (leb (length (payload F o)) 16777216) _ e₃);
+        named = leb-true _ _ (and-left (leb (length (brands F o s)) 64) _ e₄);
+        few = leb-true _ _ (and-left (leb (length (events F o s)) 16) _ e₅);
+        small = leb-true _ _ (and-right (leb (length (events F o s)) 16) _ e₅);
+      }
+
+  values-broken : plainOk ≡ false → valuesOk F o s ≡ false
+  unfolding valuesOk _and_
+  values-broken e = rw e
+
+  values-fit : plainOk ≡ true → valuesOk F o s ≡ allFit (track F o s) (bmdt F o s) (events F o s)
+  unfolding valuesOk _and_
+  values-fit e = rw e
+
+  -- the number of the first that is broken
+  fifteen : valuesOk F o s ≡ false → 15 ≡ ladder (valueRungs F o s) (λ k. k) 0
+  unfolding valueRungs
+  fifteen e = broken _ _ _ _ _ e
+
+  sixteen : valuesOk F o s ≡ true → sumsOk F o s ≡ false → 16 ≡ ladder (valueRungs F o s) (λ k. k) 0
+  unfolding valueRungs
+  sixteen e h = passed _ _ _ _ _ e (broken _ _ _ _ _ h)
+
+  nothing : valuesOk F o s ≡ true → sumsOk F o s ≡ true → 0 ≡ ladder (valueRungs F o s) (λ k. k) 0
+  unfolding valueRungs
+  nothing e h = passed _ _ _ _ _ e (passed _ _ _ _ _ h (top _ _))
+
+  -- a refusal says nothing but its number
+  pub judged-none : (rungs : List Rung) (k : ℕ) (a : Judged) (ws x : List ℕ) → a ≡ noneJudged k → (k ≡ 0 → ⊥) → k ≡ ladder rungs (λ i. i) 0
+      → JudgedAs rungs F o s a ws x
+  judged-none rungs k a ws x e n h =
+      let m : a .number ≡ k = ap (λ (u : Judged). u .number) e in
+      record { answered = m ∙ h; ready = λ z. absurd (n (sym m ∙ z)) }
+
+-- ---- what is lent
+
+-- the reference as it is lent
+abbrev pub lent : List ℕ → List ℕ
+lent s = take (length s - setAt) (drop setAt s)
+
+module _ {F : List Row} {o s : List ℕ} {t : Track} {p : Place} (j : Judgeable F o s t p) where
+  pub lent-timed : Timed (lent s)
+  lent-timed = rw (part-to-end s setAt) (reference-timed s (j .share) (j .lawful) (j .opened))
+
+  pub end-inside : p .end ≤ length o
+  end-inside =
+      let e : p .end ≡ blockEnd F o = ap (λ (q : Place). q .end) (j .place) in
+      omega (arith, j .inside)
+
+  payload-is : length o - p .end ≡ length (payload F o)
+  unfolding payload
+  payload-is = ap (λ (q : Place). length o - q .end) (j .place) ∙ sym (length-drop (blockEnd F o) o)
+
+  -- the size of IVs
+  pub iv-small : t .«iv_size» ≤ 16
+  iv-small = rw (j .track) (iv-most s (j .share) (j .lawful) (j .opened))
+
+  -- a delta is read against a lawful set
+  pub delta-good : isDelta F o ≡ true → lawfulSet t (reference F o s) ≡ true
+  delta-good = rw (j .track) (delta-lawful s (j .share) (j .lawful) (j .opened) F o (j .held))
+
+-- ---- what the code works out before its first test: BMDT, the `prft`, and where the brands stand
+
+pub record Worked (F : List Row) (o s : List ℕ) (t : Track) (p : Place) (index ev : List ℕ) (b : ℕ) (r : Told) (q : Part) : Type 0 where
+  pub head : Judgeable F o s t p
+  pub split : Split F o index ev
+  pub start : b ≡ bmdtOf t (scalarIn index 10) (lent s)
+  pub told : r ≡ prftOf (p .delta) (scalarIn index) s
+  pub named : q ≡ partIn index 23
+
+-- and the words of the set that were read
+pub record Gathered (F : List Row) (o s : List ℕ) (t : Track) (x : List ℕ) : Type 0 where
+  pub hold : Hold (setRungs t (isDelta F o) (reference F o s) (saying F o))
+  pub words : x ≡ newWords t (isDelta F o) (reference F o s) (saying F o) 0
+  pub bytes : allLe 255 o ≡ true
+
+size-of : (m : Option (List ℕ)) → onOption m length 0 ≡ length (numbers m)
+size-of none = refl
+size-of (some zs) = refl
+
+module _ {F : List Row} {o s : List ℕ} {t : Track} {p : Place} {index ev : List ℕ} {b : ℕ} {r : Told} {q : Part} (w : Worked F o s t p index ev b r q) where
+  scalar-said : (id : ℕ) → id % 2 ≡ 0 → scalarIn index id ≡ saying F o id
+  scalar-said id e = scalar-says F o index id e ∙ ap (λ (f : Says). f id) (w .split .says)
+
+  bmdt-is : b ≡ bmdt F o s
+  unfolding bmdt
+  bmdt-is = rw (scalar-said 10 refl, part-to-end s setAt, w .head .track) at (w .start)
+
+  prft-is : r ≡ prft F o s
+  unfolding prft
+  prft-is =
+      w .told
+      ∙ ap (λ (u : Place). prftOf (u .delta) (scalarIn index) s) (w .head .place)
+      ∙ prft-says (isDelta F o) s (scalarIn index) (saying F o) (scalar-said 18 refl) (scalar-said 20 refl) (scalar-said 22 refl) (scalar-said 24 refl)
+
+  brands-are : BrandsTold o q (brands F o s)
+  brands-are = rw (w .named, ← ap (λ (f : Says). numbers (f 23)) (w .split .says)) (brands-told F o index (w .split .telling))
+
+  events-many : length (events F o s) ≡ getD index 77 0
+  unfolding events
+  events-many = said-count F o (blockEnd F o) index (replicate 160 0) ev (w .head .inside) (saying F o 25) (w .split .list)
+
+  events-size : length (numbers (saying F o 25)) ≡ getD index 76 0
+  events-size =
+      sym (size-of (saying F o 25))
+      ∙ said-size F o (blockEnd F o) index (replicate 160 0) ev (w .head .inside) (saying F o 25) (w .split .list)
+
+  -- the code's test of all but the events
+  pub plain-is : (leb b 0x3fff_ffff_ffff_ffff
+      && (r .ok && (leb (length o - p .end) 16777216 && (leb (q .len) 64 && (leb (getD index 77 0) 16 && leb (getD index 76 0) 4096)))))
+      ≡ plainOk F o s
+  plain-is = rw (bmdt-is, prft-is, payload-is (w .head), brands-are .long, events-many, events-size)
+
+  -- it fails
+  pub refuses-plain : (a : Judged) (ws x : List ℕ) → a ≡ noneJudged 15 → plainOk F o s ≡ false → JudgedAs (valueRungs F o s) F o s a ws x
+  refuses-plain a ws x e h = judged-none F o s (valueRungs F o s) 15 a ws x e (λ z. omega arith) (fifteen F o s (values-broken F o s h))
+
+  -- it holds
+  module _ (ok : plainOk F o s ≡ true) where
+    plain : Plain F o s
+    plain = plain-facts F o s ok
+
+    told : EventsTold F t b o ev (getD index 77 0) (getD index 76 0) (saying F o 25)
+    told =
+        said-told F o (blockEnd F o) index (replicate 160 0) ev (w .head .inside) (saying F o 25) (w .split .list) t b (length-replicate {A = ℕ} 160 0)
+        (omega (arith, plain .few, events-many)) (omega (arith, plain .small, events-size))
+
+    -- the events, as `events_ok` is lent them
+    pub events-lent : EventsFit o ev (getD index 77 0)
+    events-lent = told .inside
+
+    pub payload-most : length o - p .end ≤ 16777216
+    payload-most = omega (arith, plain .carried, payload-is (w .head))
+
+    module _ {z : Bool} {ws : List ℕ} (read : EventsRead t b o ev (getD index 77 0) z ws) where
+      -- the values are in range where its events are
+      pub fit-is : z ≡ valuesOk F o s
+      unfolding events
+      fit-is =
+          read .answered
+          ∙ told .tests
+          ∙ ap (λ (u : Track). allFit u b (events F o s)) (w .head .track)
+          ∙ ap (λ (n : ℕ). allFit (track F o s) n (events F o s)) bmdt-is
+          ∙ sym (values-fit F o s ok)
+
+      -- an event is out of its range
+      pub refuses-events : (a : Judged) (x : List ℕ) → a ≡ noneJudged 15 → valuesOk F o s ≡ false → JudgedAs (valueRungs F o s) F o s a ws x
+      refuses-events a x e h = judged-none F o s (valueRungs F o s) 15 a ws x e (λ n. omega arith) (fifteen F o s h)
+
+      boxes-are : eventsOf o ws (getD index 77 0) ≡ boxes (track F o s) (bmdt F o s) (events F o s)
+      unfolding events
+      boxes-are =
+          ap (λ (v : List ℕ). eventsOf o v (getD index 77 0)) (read .stored)
+          ∙ told .built
+          ∙ ap (λ (u : Track). boxes u b (events F o s)) (w .head .track)
+          ∙ ap (λ (n : ℕ). boxes (track F o s) n (events F o s)) bmdt-is
+
+  -- ---- the words of the new set
+
+  module _ {x : List ℕ} (g : Gathered F o s t x) where
+    raw : (zs : List ℕ) → saying F o 9 ≡ some zs → allLe 255 zs ≡ true
+    raw zs e = raw-bytes F o index (g .bytes) zs (ap (λ (f : Says). f 9) (w .split .says) ∙ e)
+
+    long : length (reference F o s) ≡ setLen
+    long = reference-long s (w .head .share)
+
+    new-long : (n : ℕ) → length (newWords t (isDelta F o) (reference F o s) (saying F o) n) ≡ setLen
+    new-long n =
+        words-length n (countOf t (isDelta F o) (reference F o s) (saying F o)) (fieldOf t (isDelta F o) (reference F o s) (saying F o))
+        (new-fits t (isDelta F o) (reference F o s) (saying F o) long (delta-good (w .head))
+        (taken-facts t (isDelta F o) (reference F o s) (saying F o) (g .hold)) (iv-small (w .head)) raw)
+
+    pub some-words : 0 < length x
+    some-words = let n : length x ≡ setLen = ap length (g .words) ∙ new-long 0 in omega arith
+
+    stored : store x 0 b ≡ newWords t (isDelta F o) (reference F o s) (saying F o) b
+    stored =
+        ap (λ (v : List ℕ). store v 0 b) (g .words)
+        ∙ words-bmdt 0 b (countOf t (isDelta F o) (reference F o s) (saying F o)) (fieldOf t (isDelta F o) (reference F o s) (saying F o))
+
+    stored-long : length (store x 0 b) ≡ setLen
+    stored-long = ap length stored ∙ new-long b
+
+    stored-set : store x 0 b ≡ set F o s
+    unfolding set
+    stored-set =
+        stored
+        ∙ ap (λ (u : Track). newWords u (isDelta F o) (reference F o s) (saying F o) b) (w .head .track)
+        ∙ ap (newWords (track F o s) (isDelta F o) (reference F o s) (saying F o)) bmdt-is
+
+    module _ (ok : plainOk F o s ≡ true) where
+      stored-lawful : lawfulSet t (store x 0 b) ≡ true
+      stored-lawful =
+          let m : b ≤ 2 ^ 62 - 1 = omega (arith, plain-facts F o s ok .start, bmdt-is) in
+          ap (lawfulSet t) stored
+          ∙ new-lawful t (isDelta F o) (reference F o s) (saying F o) (g .hold) b m (iv-small (w .head)) long (delta-good (w .head)) raw
+
+      -- what `sums_ok` is lent
+      pub stored-summable : Summable (store x 0 b)
+      stored-summable = lawful-summable t (store x 0 b) stored-long stored-lawful
+
+      module _ {y : Bool} {ws : List ℕ} (read : EventsRead t b o ev (getD index 77 0) y ws) (fit : valuesOk F o s ≡ true)
+          {z : Bool} (ez : z ≡ (sizesOk t (store x 0 b) (length o - p .end) and protectedOk t (store x 0 b) (length o - p .end))) where
+        pub sums-are : z ≡ sumsOk F o s
+        unfolding sumsOk
+        sums-are =
+            ez
+            ∙ ap (λ (n : ℕ). sizesOk t (store x 0 b) n and protectedOk t (store x 0 b) n) (payload-is (w .head))
+            ∙ ap (λ (v : List ℕ). sizesOk t v (length (payload F o)) and protectedOk t v (length (payload F o))) stored-set
+            ∙ ap (λ (u : Track). sizesOk u (set F o s) (length (payload F o)) and protectedOk u (set F o s) (length (payload F o))) (w .head .track)
+
+        -- the sums disagree
+        pub refuses-sums : (a : Judged) (v : List ℕ) → a ≡ noneJudged 16 → sumsOk F o s ≡ false → JudgedAs (valueRungs F o s) F o s a ws v
+        refuses-sums a v e h = judged-none F o s (valueRungs F o s) 16 a ws v e (λ n. omega arith) (sixteen F o s fit h)
+
+        -- ---- all is right
+
+        headed : Headed (r .prft)
+        unfolding prft
+        headed =
+            let k = kept-small s (w .head .share) (w .head .lawful) (w .head .opened) in
+            rw prft-is (prft-headed (isDelta F o) (saying F o) s (k .0) (k .1) (plain-facts F o s ok .told))
+
+        branded : Branded (brands F o s)
+        branded =
+            record {
+              few = plain-facts F o s ok .named;
+              fours = brands-fours t (isDelta F o) (reference F o s) (saying F o) (g .hold);
+            }
+
+        sized : sumsOk F o s ≡ true → Sized (store x 0 b) (length (payload F o))
+        sized h =
+            let e : (sizesOk t (store x 0 b) (length o - p .end) and protectedOk t (store x 0 b) (length o - p .end)) ≡ true = sym ez ∙ sums-are ∙ h in
+            rw (← payload-is (w .head)) (sizes-sized t (store x 0 b) (length o - p .end) (left _ _ e) (payload-most ok))
+
+        writable : sumsOk F o s ≡ true → Writable (track F o s) (store x 0 b) (length (payload F o)) (r .prft) o ws (getD index 77 0) (brands F o s)
+        writable h =
+            record {
+              set = rw (← w .head .track) (lawful-protectable t (store x 0 b) stored-long (iv-small (w .head)) stored-lawful);
+              sized = sized h;
+              prft = headed;
+              events = read .fits;
+              brands = branded;
+            }
+
+        pub accepts : sumsOk F o s ≡ true
+            → JudgedAs (valueRungs F o s) F o s (record { number = 0; prft = r .prft; events = getD index 77 0; brands = q }) ws (store x 0 b)
+        accepts h =
+            record {
+              answered = nothing F o s fit h;
+              ready =
+                  λ _.
+                  record {
+                    words = stored-set;
+                    time = ap (λ (u : Told). u .prft) prft-is;
+                    list = boxes-are ok read;
+                    inside = brands-are .inside;
+                    named = brands-are .named;
+                    writable = writable h;
+                  };
+            }

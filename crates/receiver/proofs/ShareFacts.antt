@@ -1,0 +1,114 @@
+-- What is known of the share that an object is received on. Assumes nothing.
+use Prim.Native.Nat.{ℕ, _+_, _≤_}
+use native.Mathlib.Omega.{arith}
+use mathlib.Core.Path.{_≡_, refl, sym, _∙_, ap}
+use mathlib.Core.Bool.{Bool, true, false, cond, _&&_, _||_}
+use mathlib.Core.List.{List}
+use borrow.Author.Tests.{leb-true, not-true}
+use lib.Dec.{eqb, leb}
+use lib.ListN.{length, getD, take, drop, replicate, length-drop}
+use lib.Seq.{slice, getD-drop, getD-take, drop-drop}
+use Rattle.laws.specs.Tests.{_and_, allZero}
+use Rattle.laws.proofs.ListLaws.{drop-replicate}
+use Rattle.laws.proofs.TestLaws.{left, right, and-left, and-right, zeros-are}
+use Rattle.wire.specs.declared.form.Row.{Row}
+use Rattle.track.specs.Track.{lawful as lawfulTrack}
+use Rattle.track.proofs.TrackLaws.{ranges}
+use Rattle.fieldset.specs.Lines.{setLen}
+use Rattle.fieldset.specs.Lawful.{lawful as lawfulSet}
+use Rattle.slots.specs.declared.share.Side.the-variants.{Receiver}
+use Rattle.slots.specs.Share.{shareLen, trackAt, acceptedAt, heldAt, prftAt, ntpAt, versionAt, prftFlagsAt, mediaTimeAt, setAt, u24, u32, askedOf, trackOf, acceptedOk, prftOk, referenceOk, openOk, isOpen, lawful}
+use Rattle.block.proofs.AnswerLaws.{blank-zeros}
+use Rattle.object.specs.Bmdt.{Timed}
+use Rattle.receiver.specs.Object.{isDelta}
+use Rattle.receiver.specs.Receive.{heldOk}
+use Rattle.object.proofs.ObjectLaws.{lawful-timed, zeros-timed}
+
+-- a word of zeros
+zero-at : (xs : List ℕ) (i : ℕ) → allZero xs ≡ true → getD xs i 0 ≡ 0
+zero-at xs i e = ap (λ (l : List ℕ). getD l i 0) (zeros-are xs e) ∙ blank-zeros (length xs) i
+
+module _ (s : List ℕ) (l : length s ≡ shareLen) where
+  -- the words of the reference's set
+  pub reference-long : length (drop setAt s) ≡ setLen
+  reference-long = omega (arith, length-drop setAt s)
+
+  -- where the words from the `prft` on are zeros
+  zeros-behind : allZero (drop prftAt s) ≡ true → drop setAt s ≡ replicate setLen 0
+  zeros-behind e =
+      let n : length (drop prftAt s) ≡ 986 = omega (arith, length-drop prftAt s) in
+      let z : drop prftAt s ≡ replicate 986 0 = zeros-are (drop prftAt s) e ∙ ap (λ (k : ℕ). replicate k 0) n in
+      sym (drop-drop 5 prftAt s) ∙ ap (drop 5) z ∙ drop-replicate 5 986 0
+
+  zero-behind : (i : ℕ) → allZero (drop prftAt s) ≡ true → getD s (prftAt + i) 0 ≡ 0
+  zero-behind i e = sym (getD-drop prftAt s i 0) ∙ zero-at (drop prftAt s) i e
+
+  -- a word of the `prft`, where there is none
+  zero-prft : (i : ℕ) → ntpAt + i ≤ 14 → allZero (slice ntpAt setAt s) ≡ true → getD s (ntpAt + i) 0 ≡ 0
+  zero-prft i h e =
+      sym (getD-drop ntpAt (take setAt s) i 0 ∙ getD-take setAt s (ntpAt + i) 0 (omega arith)) ∙ zero-at (slice ntpAt setAt s) i e
+
+  module _ (h : lawful Receiver s ≡ true) (o : isOpen s ≡ true) where
+    open-facts : (lawfulTrack (askedOf s) ≡ true) × (referenceOk (trackOf s) s ≡ true)
+    unfolding lawful openOk isOpen
+    open-facts =
+        let z : eqb (getD s trackAt 0) 0 ≡ false = not-true _ o in
+        let ok : (lawfulTrack (askedOf s) and acceptedOk Receiver (getD s acceptedAt 0) and referenceOk (trackOf s) s) ≡ true = rw z at h in
+        (left _ _ ok, right _ _ (right _ _ ok))
+
+    -- the size of IVs
+    pub iv-most : trackOf s .«iv_size» ≤ 16
+    iv-most = ranges (askedOf s) (open-facts .0) .iv-size
+
+    -- no reference is held, and then its words are zeros
+    pub none-held : eqb (getD s heldAt 0) 0 ≡ true → allZero (drop prftAt s) ≡ true
+    unfolding referenceOk
+    none-held e = rw e at (open-facts .1)
+
+    -- or one that is lawful, with its `prft`
+    pub one-held : eqb (getD s heldAt 0) 0 ≡ false → (prftOk s ≡ true) × (lawfulSet (trackOf s) (drop setAt s) ≡ true)
+    unfolding referenceOk
+    one-held e =
+        let ok : (eqb (getD s heldAt 0) 1 and prftOk s and lawfulSet (trackOf s) (drop setAt s)) ≡ true = rw e at (open-facts .1) in
+        (left _ _ (right _ _ ok), right _ _ (right _ _ ok))
+
+    -- a delta is read against a lawful set
+    pub delta-lawful : (F : List Row) (ob : List ℕ) → heldOk F ob s ≡ true → isDelta F ob ≡ true → lawfulSet (trackOf s) (drop setAt s) ≡ true
+    unfolding heldOk
+    delta-lawful F ob k d = one-held (not-true _ (rw d at k)) .1
+
+    -- a time that follows from the reference has 64 bits
+    pub reference-timed : Timed (drop setAt s)
+    reference-timed = go (eqb (getD s heldAt 0) 0) refl
+      where
+        go : (b : Bool) → eqb (getD s heldAt 0) 0 ≡ b → Timed (drop setAt s)
+        go true q = rw (zeros-behind (none-held q)) zeros-timed
+        go false q = lawful-timed (trackOf s) (drop setAt s) reference-long (one-held q .1)
+
+    -- the version and the flags that are kept fit their box
+    pub kept-small : (getD s versionAt 0 ≤ 1) × (getD s prftFlagsAt 0 ≤ 0xffffff)
+    unfolding prftOk
+    kept-small = go (eqb (getD s heldAt 0) 0) refl
+      where
+        none : getD s versionAt 0 ≡ 0 → getD s prftFlagsAt 0 ≡ 0 → (getD s versionAt 0 ≤ 1) × (getD s prftFlagsAt 0 ≤ 0xffffff)
+        none v f = (omega arith, omega arith)
+
+        two : (b : Bool)
+            → cond b (allZero (slice ntpAt setAt s))
+            (eqb (getD s prftAt 0) 1
+            && (leb (getD s versionAt 0) 1
+            && ((eqb (getD s versionAt 0) 1 || leb (getD s mediaTimeAt 0) u32)
+            && leb (getD s prftFlagsAt 0) u24)))
+            ≡ true
+            → (getD s versionAt 0 ≤ 1) × (getD s prftFlagsAt 0 ≤ 0xffffff)
+        two true e = none (zero-prft 2 (omega arith) e) (zero-prft 3 (omega arith) e)
+        two false e =
+            let a = and-right (eqb (getD s prftAt 0) 1) _ e in
+            let b = and-right (leb (getD s versionAt 0) 1) _ a in (
+              leb-true _ _ (and-left (leb (getD s versionAt 0) 1) _ a),
+              leb-true _ _ (and-right (eqb (getD s versionAt 0) 1 || leb (getD s mediaTimeAt 0) u32) _ b),
+            )
+
+        go : (b : Bool) → eqb (getD s heldAt 0) 0 ≡ b → (getD s versionAt 0 ≤ 1) × (getD s prftFlagsAt 0 ≤ 0xffffff)
+        go true q = none (zero-behind 3 (none-held q)) (zero-behind 4 (none-held q))
+        go false q = two (eqb (getD s prftAt 0) 0) (one-held q .0)

@@ -1,0 +1,240 @@
+-- Receiving an object: its numbers, what a refusal leaves, what the output holds, and that the share keeps its length and stays lawful. Assumes
+-- nothing.
+use Prim.Native.Nat.{ℕ, _≤_, _<_, zero-le}
+use native.Mathlib.Omega.{arith}
+use mathlib.Core.Path.{_≡_, refl, sym, _∙_, ap, subst}
+use mathlib.Core.Bool.{Bool, true, false, _&&_}
+use mathlib.Core.List.{List, _∷_, _++_}
+use mathlib.Core.Option.{none, some}
+use borrow.Author.Tests.{le-leb}
+use lib.Dec.{leb}
+use lib.ListN.{length, getD, take, drop, replicate, length-append, length-drop, length-replicate}
+use lib.Seq.{length-take-le, drop-append-seam}
+use Rattle.laws.specs.Tests.{allLe, sum}
+use Rattle.laws.specs.Ladder.{Rung, _else_, ladder, Given}
+use Rattle.laws.proofs.LadderLaws.{numberOf, given, climbs, ladder-append, ladder-seen}
+use Rattle.wire.specs.declared.form.Row.{Row}
+use Rattle.track.specs.declared.Track.{Track}
+use Rattle.track.proofs.TrackLaws.{ranges}
+use Rattle.fieldset.specs.declared.lines.Line.{Line}
+use Rattle.fieldset.specs.Lines.{lines, spare, setLen, wanted, Small}
+use Rattle.fieldset.specs.Lawful.{lawful as lawfulSet}
+use Rattle.fields.specs.Said.{Says}
+use Rattle.fields.specs.Cells.{Held}
+use Rattle.fields.proofs.RoomLaws.{wanted-room}
+use Rattle.slots.specs.declared.share.Side.the-variants.{Receiver}
+use Rattle.slots.specs.Share.{shareLen, heldAt, setAt, askedOf, trackOf, prftOk, lawful, dropped}
+use Rattle.slots.specs.Table.{Out, shareAt, tableRungs, onTable}
+use Rattle.slots.specs.Calls.{openedRungs}
+use Rattle.slots.specs.Laws.{after, Keeps, Apart}
+use Rattle.slots.proofs.Lawful.{dropped-lawful}
+use Rattle.slots.proofs.Apart.{apart, others-stay}
+use Rattle.reading.specs.Read.{newWords, came, countOf, fieldOf}
+use Rattle.reading.proofs.SetLaws.{Fits, AllFit, words-length}
+use Rattle.reading.proofs.CameLaws.{came-length}
+use Rattle.reading.proofs.NewSetLaws.{Taken, taken-facts, count-le, lengths, new-lawful}
+use Rattle.object.proofs.ObjectLaws.{prft-lawful}
+use Rattle.receiver.specs.Object.{isDelta, headRungs, saying}
+use Rattle.receiver.specs.Receive.{Took, refused, afterRefusal, reference, bmdt, prft, set, heldOk, judgeRungs, sequence, chunk, accepted, refusing, done, roomRungs, receiveRungs, receiving}
+use Rattle.receiver.specs.Laws.{ReceiveExactly, ReceiveStaysLawful, Refused, ReceiveRefuses, PastStays, ReceivePast}
+use Rattle.receiver.proofs.HoldLaws.{climbs-all}
+use Rattle.receiver.proofs.PassedLaws.{Opened, opened-facts, held-facts, delta-held, Passed, passed, value-facts}
+use Rattle.receiver.proofs.AcceptedLaws.{Ranged, accepted-long, accepted-lawful}
+use Rattle.receiver.proofs.SaidLaws.{raw-bytes}
+
+-- ---- numbers
+
+-- each number is given exactly when its rule is broken and none before it
+pub receive-exactly : ReceiveExactly
+unfolding onTable receiving
+receive-exactly F o output t slot =
+    let rungs : List Rung = receiveRungs F o output (shareAt t slot) in
+    let is : onTable (refused output) (receiving F o output) t slot .answer .number ≡ numberOf (tableRungs t slot ++ rungs) =
+    ladder-seen (λ (a : Out Took). a .answer .number) (tableRungs t slot) _ _
+    ∙ ap (ladder (tableRungs t slot) (λ k. k)) (ladder-seen (λ (a : Out Took). a .answer .number) rungs _ _)
+    ∙ sym (ladder-append (tableRungs t slot) rungs (λ k. k) 0) in
+    subst (λ (k : ℕ). Given k (tableRungs t slot ++ rungs)) (sym is) (given (tableRungs t slot ++ rungs))
+
+-- ---- what a refusal leaves
+
+-- the share after a refusal, by its number
+module _ (s : List ℕ) where
+  refusal-drops : (k : ℕ) → leb 12 k && leb k 16 ≡ true → afterRefusal k s ≡ dropped s
+  unfolding afterRefusal
+  refusal-drops k e = rw e
+
+  refusal-keeps : (k : ℕ) → leb 12 k && leb k 16 ≡ false → afterRefusal k s ≡ s
+  unfolding afterRefusal
+  refusal-keeps k e = rw e
+
+  -- what holds of the share, and of the share without its reference
+  refusal-either : (P : List ℕ → Type 0) (k : ℕ) → P s → P (dropped s) → P (afterRefusal k s)
+  refusal-either P k a b = go (leb 12 k && leb k 16) refl
+    where
+      go : (c : Bool) → leb 12 k && leb k 16 ≡ c → P (afterRefusal k s)
+      go true e = subst P (sym (refusal-drops k e)) b
+      go false e = subst P (sym (refusal-keeps k e)) a
+
+-- a refusal writes nothing and hands back nothing; 12 to 16 drop the reference, and any other changes nothing
+refusing-refused : (output s : List ℕ) (k : ℕ) → Refused output s (refusing output s k)
+refusing-refused output s k =
+    record {
+      front = refl;
+      payload = refl;
+      untouched = refl;
+      drops = λ a b. refusal-drops s k (rw (le-leb 12 k a, le-leb k 16 b));
+      kept = λ e. refusal-keeps s k e;
+    }
+
+pub receive-refuses : ReceiveRefuses
+unfolding receiving
+receive-refuses F o output s =
+    climbs-all P (refusing output s) (receiveRungs F o output s) (done F o output s) (λ k n. refusing-refused output s k) (λ h n. absurd (n refl))
+  where
+    P : Out Took → Type 0
+    P a = (a .answer .number ≡ 0 → ⊥) → Refused output s a
+
+-- ---- the output
+
+-- the front fits the output, whose length stays, and so do the bytes past the front
+front-stays : (front output : List ℕ) → length front ≤ length output
+    → (length (front ++ drop (length front) output) ≡ length output) × (drop (length front) (front ++ drop (length front) output) ≡ drop (length front) output)
+front-stays front output h =
+    (omega (arith, length-append front (drop (length front) output), length-drop (length front) output), drop-append-seam front (drop (length front) output))
+
+pub receive-past : ReceivePast
+unfolding receiving
+receive-past F o output s =
+    climbs-all P (refusing output s) (receiveRungs F o output s) (done F o output s) (λ k. record { room = zero-le; long = refl; past = refl })
+    (λ h.
+    let room = passed F o output s h .room in
+    let f = front-stays (chunk F o s) output room in
+    record { room = room; long = f .0; past = f .1 })
+  where
+    P : Out Took → Type 0
+    P a = PastStays output (a .answer)
+
+-- ---- the share's length
+
+dropped-long : (s : List ℕ) → length s ≡ shareLen → length (dropped s) ≡ shareLen
+unfolding dropped
+dropped-long s l =
+    omega (arith, length-append (take heldAt s) (replicate 987 0), length-replicate {A = ℕ} 987 0, length-take-le heldAt s (omega arith))
+
+-- a field has room where its values have
+fits-of : (l : Line) (h : Held) → ((vs : List ℕ) → h ≡ some vs → length vs ≤ l .room) → Fits l h
+fits-of l none k = tt
+fits-of l (some vs) k = k vs refl
+
+-- the words of a new set that broke no rule are as many as they should be, whatever the object's bytes are
+module _ (t : Track) (delta : Bool) (r : List ℕ) (says : Says) (words : length r ≡ setLen) (good : delta ≡ true → lawfulSet t r ≡ true)
+    (k : Taken t delta r says) (iv : t .«iv_size» ≤ 16) where
+  small : Small (lengths t delta r says)
+  small = record { count = count-le t delta r says good; ivs = omega arith; sum = omega (arith, k .few) }
+
+  fields-fit : AllFit (fieldOf t delta r says)
+  unfolding came
+  fields-fit i lt =
+      fits-of (getD lines i spare) _
+      (λ vs e.
+      let m = lengths t delta r says in
+      let n : length vs ≡ wanted (getD lines i spare .want) m = came-length t delta r words good i lt says m vs e in
+      omega (arith, n, wanted-room i lt m small (k .few)))
+
+  new-long : (start : ℕ) → length (newWords t delta r says start) ≡ setLen
+  new-long start = words-length start (countOf t delta r says) (fieldOf t delta r says) fields-fit
+
+-- what an object that broke no rule is read against
+module _ (F : List Row) (o output s : List ℕ) (l : length s ≡ shareLen) (h : Passed F o output s) where
+  opened : Opened s
+  opened = opened-facts s (h .lawful) (h .opened)
+
+  few-bytes : trackOf s .«iv_size» ≤ 16
+  few-bytes = ranges (askedOf s) (opened .track) .iv-size
+
+  set-words : length (reference F o s) ≡ setLen
+  set-words = omega (arith, length-drop setAt s)
+
+  set-good : isDelta F o ≡ true → lawfulSet (trackOf s) (reference F o s) ≡ true
+  set-good d = held-facts (trackOf s) s (opened .reference) (delta-held F o s (h .held) d) .1
+
+  prft-good : isDelta F o ≡ true → prftOk s ≡ true
+  prft-good d = held-facts (trackOf s) s (opened .reference) (delta-held F o s (h .held) d) .0
+
+  set-long : length (set F o s) ≡ setLen
+  unfolding set
+  set-long =
+      new-long (trackOf s) (isDelta F o) (reference F o s) (saying F o) set-words set-good
+      (taken-facts (trackOf s) (isDelta F o) (reference F o s) (saying F o) (h .fields)) few-bytes (bmdt F o s)
+
+  done-long : length (accepted F o s) ≡ shareLen
+  unfolding accepted
+  done-long = accepted-long s l (isDelta F o) (sequence F o s) (prft F o s .prft) (set F o s) set-long
+
+-- a share's length stays, whatever the object's bytes are
+pub receive-keeps : (F : List Row) (o output : List ℕ) → Keeps (receiving F o output)
+unfolding receiving
+receive-keeps F o output =
+    record {
+      keeps =
+          λ s l.
+          let P : Out Took → Type 0 = λ a. length (a .words) ≡ shareLen in
+          climbs-all P (refusing output s) (receiveRungs F o output s) (done F o output s)
+          (λ k. refusal-either s (λ x. length x ≡ shareLen) k l (dropped-long s l))
+          (λ h. done-long F o output s l (passed F o output s h));
+    }
+
+-- no share but the named one is changed
+pub receive-others : (F : List Row) (o output : List ℕ) (i j : ℕ) → (i ≡ j → ⊥) → j < 8 → (t : List ℕ)
+    → shareAt (after (refused output) (receiving F o output) i t) j ≡ shareAt t j
+receive-others F o output i j d h t = others-stay Took (refused output) (receiving F o output) (receive-keeps F o output) i j d h t
+
+-- objects received on different slots: either order leaves the same table, and each is answered as it would be alone
+pub receive-apart : (F : List Row) (o output : List ℕ) (F′ : List Row) (o′ output′ : List ℕ) (i j : ℕ) → (i ≡ j → ⊥) → (t : List ℕ)
+    → Apart (refused output) (receiving F o output) (refused output′) (receiving F′ o′ output′) i j t
+receive-apart F o output F′ o′ output′ i j d t =
+    apart Took Took (refused output) (receiving F o output) (refused output′) (receiving F′ o′ output′) (receive-keeps F o output)
+    (receive-keeps F′ o′ output′) i j d t
+
+-- and beside any other call on another slot
+pub receive-beside : (Y : Type 0) (refuse : ℕ → Y) (g : List ℕ → Out Y) → Keeps g → (F : List Row) (o output : List ℕ) (i j : ℕ) → (i ≡ j → ⊥)
+    → (t : List ℕ) → Apart (refused output) (receiving F o output) refuse g i j t
+receive-beside Y refuse g k F o output i j d t =
+    apart Took Y (refused output) (receiving F o output) refuse g (receive-keeps F o output) k i j d t
+
+-- ---- lawful shares
+
+-- the count has 32 bits
+count-small : (F : List Row) (o s : List ℕ) → sequence F o s ≤ 0xffff_ffff
+unfolding sequence
+count-small F o s = omega arith
+
+-- a full object's `prft` keeps its ranges
+full-ranged : (F : List Row) (o s : List ℕ) → prft F o s .ok ≡ true → isDelta F o ≡ false → Ranged (prft F o s .prft)
+unfolding prft
+full-ranged F o s e d = rw d (prft-lawful (saying F o) s (rw d at e))
+
+done-lawful : (F : List Row) (o output s : List ℕ) → allLe 255 o ≡ true → length s ≡ shareLen → Passed F o output s → lawful Receiver (accepted F o s) ≡ true
+unfolding accepted set
+done-lawful F o output s b l h =
+    let v = value-facts F o s (h .values) in
+    let good : lawfulSet (trackOf s) (set F o s) ≡ true =
+    new-lawful (trackOf s) (isDelta F o) (reference F o s) (saying F o) (h .fields) (bmdt F o s) (v .0) (few-bytes F o output s l h)
+    (set-words F o output s l h) (set-good F o output s l h) (raw-bytes F o b) in
+    accepted-lawful s l (isDelta F o) (sequence F o s) (prft F o s .prft) (set F o s) (h .opened) (opened F o output s l h) (count-small F o s)
+    (prft-good F o output s l h) (full-ranged F o s (v .1)) good
+
+pub receive-stays-lawful : ReceiveStaysLawful
+unfolding receiving receiveRungs
+receive-stays-lawful F o output s b l h =
+    let Fine : List ℕ → Type 0 = λ x. lawful Receiver x ≡ true in
+    let P : Out Took → Type 0 = λ a. Fine (a .words) in
+    let refuse = refusing output s in
+    let rest : List Rung = headRungs F o ++ ((heldOk F o s else 11) ∷ (judgeRungs F o s ++ roomRungs F o output s)) in
+    let end : Out Took = done F o output s in
+    subst P (sym (ladder-append (openedRungs Receiver s) rest refuse end))
+    (climbs P refuse (openedRungs Receiver s) (ladder rest refuse end)
+    (subst Fine (sym (refusal-keeps s 18 refl)) h, (subst Fine (sym (refusal-keeps s 2 refl)) h, tt))
+    (λ q.
+    climbs-all P refuse rest end (λ k. refusal-either s Fine k h (dropped-lawful s l Receiver h (q .1 .0)))
+    (λ p. done-lawful F o output s b l (passed F o output s (q .0, (q .1 .0, p))))))

@@ -1,0 +1,119 @@
+-- `receiver::receive::accept` meets its contract, by the laws of `proofs/AcceptLaws.antt`. Assumes nothing.
+use mathlib.Core.Path.{_∙_}
+use denote.Ref.{now}
+use Rattle.receiver.proofs.AcceptLaws.{end-inside, count-small, sequence-is, writable, room, short, done-is}
+use borrow.Author.Needs.{needs}
+use Rattle.receiver.proofs.receive.accept.Statement.{statement}
+use Rattle.receiver.proofs.receive.accept.Tie as tie
+
+add-to : tie.Need-add-to
+add-to c = search needs
+
+sub-payload : tie.Need-sub-payload
+sub-payload c = end-inside _ _ _ _ _ (c .before .before .before .before .before .before .before .pre .0)
+
+sub-brands : tie.Need-sub-brands
+sub-brands c = search needs
+
+part-brands-start : tie.Need-part-brands-start
+part-brands-start c = search needs
+
+part-brands-end : tie.Need-part-brands-end
+part-brands-end c = search needs
+
+front-length-requires : tie.Need-front-length-requires
+front-length-requires c κs =
+    let b = c .before .before .before .before .before .before .before .before in
+    writable _ _ _ _ _ (b .pre .0) _ _ _ (b .pre .1)
+
+refuse-requires : tie.Need-refuse-requires
+refuse-requires c κs = search needs
+
+same-length : tie.Need-same-length
+same-length c = search needs
+
+same-length-2 : tie.Need-same-length-2
+same-length-2 c = search needs
+
+returns : tie.Need-returns
+returns c =
+    let f = c .before .before .before .before .before .before .before .before .before .before in
+    let b = f .before .before .before .before .before .before .before .before .before in
+    c .before .before .before .before .refuse .ensures
+    ∙ short _ _ _ _ _ (b .pre .0) _ _ _ (b .pre .1) (now (b .args .output)) _ (f .front-length .ensures)
+    (c .before .before .before .before .before .before .before .before .before .if1 .taken)
+
+slice-read-sequence : tie.Need-slice-read-sequence
+slice-read-sequence c = search needs
+
+add-sequence : tie.Need-add-sequence
+add-sequence c =
+    let b = c .before .before .before .before .before .before .before .before .before .before .before in
+    let z = count-small _ _ _ _ _ (b .pre .0) in
+    search needs
+
+put-front-requires : tie.Need-put-front-requires
+put-front-requires c κs =
+    let f = c .before .before .before in
+    let b = f .before .before .before .before .before .before .before .before .before in (
+      writable _ _ _ _ _ (b .pre .0) _ _ _ (b .pre .1),
+      room _ _ _ _ _ (b .pre .0) _ _ _ (b .pre .1) _ _ (f .front-length .ensures) (c .before .before .if1 .left) _,
+    )
+
+keep-requires : tie.Need-keep-requires
+keep-requires c κs =
+    let b = c .before .before .before .before .before .before .before .before .before .before .before .before .before .before .before .before in
+    (b .pre .0 .share, b .pre .1 .writable .set .long)
+
+sub-result : tie.Need-sub-result
+sub-result c =
+    let f = c .before .before .before .before .before .before .before .before .before .before in
+    end-inside _ _ _ _ _ (f .before .before .before .before .before .before .before .before .before .pre .0)
+
+part-result-start : tie.Need-part-result-start
+part-result-start c =
+    let f = c .before .before .before .before .before .before .before .before .before .before in
+    end-inside _ _ _ _ _ (f .before .before .before .before .before .before .before .before .before .pre .0)
+
+part-result-end : tie.Need-part-result-end
+part-result-end c = search needs
+
+same-length-3 : tie.Need-same-length-3
+same-length-3 c = search needs
+
+same-length-4 : tie.Need-same-length-4
+same-length-4 c = search needs
+
+returns-2 : tie.Need-returns-2
+returns-2 c =
+    let w = c .before .before .before .before .before .before .before in
+    let f = w .before .before .before .before in
+    let b = f .before .before .before .before .before .before .before .before .before in
+    done-is _ _ _ _ _ (b .pre .0) _ _ _ (b .pre .1) (now (b .args .output)) _ _ _ _ (sequence-is _ _ _ _ _ (b .pre .0)) (w .put-front .ensures .0)
+    (room _ _ _ _ _ (b .pre .0) _ _ _ (b .pre .1) _ _ (f .front-length .ensures) (w .before .before .before .if1 .left) _) (w .put-front .ensures .1)
+    (c .before .before .before .keep .ensures)
+
+pub accept-spec : {M : Type 1} → statement M
+accept-spec =
+    tie.close
+    (tie.spec
+    add-to
+    sub-payload
+    sub-brands
+    part-brands-start
+    part-brands-end
+    front-length-requires
+    refuse-requires
+    same-length
+    same-length-2
+    returns
+    slice-read-sequence
+    add-sequence
+    put-front-requires
+    keep-requires
+    sub-result
+    part-result-start
+    part-result-end
+    same-length-3
+    same-length-4
+    returns-2)

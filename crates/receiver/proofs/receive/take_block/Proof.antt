@@ -1,0 +1,80 @@
+-- `receiver::receive::take_block` meets its contract, by the laws of `proofs/ReceiveLaws.antt`. Assumes nothing.
+use mathlib.Core.Path.{refl, _∙_}
+use denote.Ref.{now}
+use Rattle.receiver.proofs.ReceiveLaws.{judged-stops, judged-climbs}
+use borrow.Author.Needs.{needs}
+use Rattle.receiver.proofs.receive.take_block.Statement.{statement}
+use Rattle.receiver.proofs.receive.take_block.Tie as tie
+
+slice-aggregate-judge : tie.Need-slice-aggregate-judge
+slice-aggregate-judge c = search needs
+
+slice-aggregate-judge-2 : tie.Need-slice-aggregate-judge-2
+slice-aggregate-judge-2 c = search needs
+
+slice-aggregate-judge-3 : tie.Need-slice-aggregate-judge-3
+slice-aggregate-judge-3 c = search needs
+
+judge-requires : tie.Need-judge-requires
+judge-requires c κs = (c .before .before .before .before .before .before .before .pre, (refl, refl, refl))
+
+refuse-requires : tie.Need-refuse-requires
+refuse-requires c κs = search needs
+
+same-length : tie.Need-same-length
+same-length c = search needs
+
+same-length-2 : tie.Need-same-length-2
+same-length-2 c = search needs
+
+returns : tie.Need-returns
+returns c =
+    let j = c .before .before .before .before .before .before .before .before .before .before .before .before .before in
+    c .before .before .before .before .refuse .ensures
+    ∙ judged-stops _ _ (now (j .before .before .before .before .before .before .before .before .args .output)) _ _ _ _ (j .judge .ensures)
+    (c .before .before .before .before .before .before .before .before .before .if1 .taken)
+
+slice-aggregate-accept : tie.Need-slice-aggregate-accept
+slice-aggregate-accept c = search needs
+
+slice-aggregate-accept-2 : tie.Need-slice-aggregate-accept-2
+slice-aggregate-accept-2 c = search needs
+
+accept-requires : tie.Need-accept-requires
+accept-requires c κs =
+    let j = c .before .before .before .before .before .before .before .before .before .before in (
+      j .before .before .before .before .before .before .before .before .pre,
+      j .judge .ensures .ready (c .before .before .before .before .before .before .if1 .left),
+    )
+
+same-length-3 : tie.Need-same-length-3
+same-length-3 c = search needs
+
+same-length-4 : tie.Need-same-length-4
+same-length-4 c = search needs
+
+returns-2 : tie.Need-returns-2
+returns-2 c =
+    let j = c .before .before .before .before .before .before .before .before .before .before .before .before .before .before .before in
+    c .before .before .before .before .accept .ensures
+    ∙ judged-climbs _ _ (now (j .before .before .before .before .before .before .before .before .args .output)) _ _ _ _ (j .judge .ensures)
+    (c .before .before .before .before .before .before .before .before .before .before .before .if1 .left)
+
+pub take-block-spec : {M : Type 1} → statement M
+take-block-spec =
+    tie.close
+    (tie.spec
+    slice-aggregate-judge
+    slice-aggregate-judge-2
+    slice-aggregate-judge-3
+    judge-requires
+    refuse-requires
+    same-length
+    same-length-2
+    returns
+    slice-aggregate-accept
+    slice-aggregate-accept-2
+    accept-requires
+    same-length-3
+    same-length-4
+    returns-2)

@@ -1,0 +1,147 @@
+-- One object, by 01's order of answers.
+use Prim.Native.Nat.{ℕ, _+_, _-_, _%_, _^_, _≤_}
+use mathlib.Core.Path.{_≡_}
+use mathlib.Core.Bool.{Bool, true, false, cond, not, _&&_, _||_}
+use mathlib.Core.List.{List, [], _∷_, _++_}
+use lib.Dec.{eqb, leb}
+use lib.ListN.{length, getD, take, drop, replicate}
+use lib.Seq.{slice}
+use Rattle.laws.specs.Tests.{_and_}
+use Rattle.laws.specs.Ladder.{Rung, _else_, ladder}
+use Rattle.wire.specs.declared.form.Row.{Row}
+use Rattle.track.specs.declared.Track.{Track}
+use Rattle.slots.specs.declared.share.Side.the-variants.{Receiver}
+use Rattle.slots.specs.Share.{acceptedAt, heldAt, prftAt, setAt, trackOf, dropped}
+use Rattle.slots.specs.Table.{Out, out}
+use Rattle.slots.specs.Calls.{openedRungs}
+use Rattle.block.specs.Entries.{lawful, isSome}
+use Rattle.block.specs.Events.{Event}
+use Rattle.chunk.specs.declared.outer.Prft.{Prft}
+use Rattle.chunk.specs.Front.{front}
+use Rattle.fields.specs.Said.{Says, numbers}
+use Rattle.reading.specs.Read.{setRungs, newWords}
+use Rattle.object.specs.declared.prft.Told.{Told}
+use Rattle.object.specs.Ids.{idsOk}
+use Rattle.object.specs.Bmdt.{bmdtOf}
+use Rattle.object.specs.Prft.{prftOf}
+use Rattle.object.specs.Values.{listed, allFit, boxes}
+use Rattle.object.specs.Sums.{sizesOk, protectedOk}
+use Rattle.receiver.specs.Object.{isDelta, headRungs, reads, entries, saying, payload}
+
+-- what a call hands back beside the table: the number, the front's length, the payload, and the output
+pub record Took : Type 0 where
+  pub number : ℕ
+  pub front : ℕ
+  pub payload : List ℕ
+  pub output : List ℕ
+
+abbrev pub took : ℕ → ℕ → List ℕ → List ℕ → Took
+took number front payload output = record { number = number; front = front; payload = payload; output = output }
+
+-- 01: "All but 0 write nothing to the output and hand back length 0 and an empty payload part"
+abbrev pub refused : List ℕ → ℕ → Took
+refused output k = took k 0 [] output
+
+-- 01: "Numbers 12 to 16 drop the slot's reference; every other refusal changes nothing"
+unfoldable pub afterRefusal : ℕ → List ℕ → List ℕ
+afterRefusal k s = cond (leb 12 k && leb k 16) (dropped s) s
+
+-- the words of a `prft` that a full object leaves
+unfoldable pub prftWords : Prft → List ℕ
+prftWords p = cond (p .stands) 1 0 ∷ p .ntp ∷ p .media ∷ p .version ∷ p .flags ∷ []
+
+-- the share s after an accepted object: the count, the reference, and with a full object its `prft`. 01: "The reference is the previous
+-- accepted chunk's set of moof fields, .. kept with the current full's `prft`."
+unfoldable pub keptWords : Bool → ℕ → Prft → List ℕ → List ℕ → List ℕ
+keptWords delta sequence prft set s =
+    take acceptedAt s ++ (sequence ∷ 1 ∷ (cond delta (slice prftAt setAt s) (prftWords prft) ++ set))
+
+-- an object o, received on the share s
+module _ (F : List Row) (o s : List ℕ) where
+  -- what it is read against
+  abbrev pub track : Track
+  track = trackOf s
+
+  abbrev pub reference : List ℕ
+  reference = drop setAt s
+
+  unfoldable pub bmdt : ℕ
+  bmdt = bmdtOf track (saying F o 10) reference
+
+  unfoldable pub prft : Told
+  prft = prftOf (isDelta F o) (saying F o) s
+
+  unfoldable pub events : List Event
+  events = listed F (saying F o 25)
+
+  abbrev pub brands : List ℕ
+  brands = numbers (saying F o 23)
+
+  -- the new set of moof fields
+  unfoldable pub set : List ℕ
+  set = newWords track (isDelta F o) reference (saying F o) bmdt
+
+  -- 01: "15 (all other values, payload, brand and event maxima)"; "16 brands; 16 emsg records in 4,096 list bytes; .. payload 16,777,216 bytes;
+  -- BMDT, .. 2^62-1"
+  unfoldable pub valuesOk : Bool
+  valuesOk =
+      (leb bmdt (2 ^ 62 - 1)
+      && (prft .ok
+      && (leb (length (payload F o)) 16777216
+      && (leb (length brands) 64 && (leb (length events) 16 && leb (length (numbers (saying F o 25))) 4096)))))
+      and allFit track bmdt events
+
+  -- 16: "sizes or protected sums disagree"
+  unfoldable pub sumsOk : Bool
+  sumsOk = sizesOk track set (length (payload F o)) and protectedOk track set (length (payload F o))
+
+  -- 11: "delta, and no reference held"
+  unfoldable pub heldOk : Bool
+  heldOk = not (isDelta F o) || not (eqb (getD s heldAt 0) 0)
+
+  -- 13: "id unknown, twice or forbidden here", and which ids stand together
+  unfoldable pub idsRight : Bool
+  idsRight = lawful (entries F o) and idsOk (isDelta F o) (not (eqb (getD s prftAt 0) 0)) (λ id. isSome (saying F o id))
+
+  -- 01: "12 (tuples, varints, emsg records), 13"
+  unfoldable pub splitRungs : List Rung
+  splitRungs = (reads F o else 12) ∷ (idsRight else 13) ∷ []
+
+  -- 01: "14 (deletions), .. 15 (all other values, ..), 16"
+  unfoldable pub valueRungs : List Rung
+  valueRungs = (valuesOk else 15) ∷ (sumsOk else 16) ∷ []
+
+  abbrev pub judgeRungs : List Rung
+  judgeRungs = splitRungs ++ (setRungs track (isDelta F o) reference (saying F o) ++ valueRungs)
+
+  -- 01: "`mfhd` counts accepted objects since opening from 1, 0 following 2^32-1."
+  unfoldable pub sequence : ℕ
+  sequence = (getD s acceptedAt 0 + 1) % 2 ^ 32
+
+  -- the front of the chunk
+  unfoldable pub chunk : List ℕ
+  chunk = front track sequence set (length (payload F o)) (prft .prft) (boxes track bmdt events) brands
+
+  -- the share after it is accepted
+  unfoldable pub accepted : List ℕ
+  accepted = keptWords (isDelta F o) sequence (prft .prft) set s
+
+-- a refusal with the number k, and what is done
+abbrev pub refusing : List ℕ → List ℕ → ℕ → Out Took
+refusing output s k = out (refused output k) (afterRefusal k s)
+
+-- 01: "The output holds the front: all of a chunk up to and with the `mdat` header .. Done reports the front's length; bytes past it stay."
+abbrev pub done : List Row → List ℕ → List ℕ → List ℕ → Out Took
+done F o output s = out (took 0 (length (chunk F o s)) (payload F o) (chunk F o s ++ drop (length (chunk F o s)) output)) (accepted F o s)
+
+-- 17: "output shorter than the front"
+abbrev pub roomRungs : List Row → List ℕ → List ℕ → List ℕ → List Rung
+roomRungs F o output s = (leb (length (chunk F o s)) (length output) else 17) ∷ []
+
+-- 01's order line from the share on: 18, 2, then the receiver's
+unfoldable pub receiveRungs : List Row → List ℕ → List ℕ → List ℕ → List Rung
+receiveRungs F o output s =
+    openedRungs Receiver s ++ (headRungs F o ++ ((heldOk F o s else 11) ∷ (judgeRungs F o s ++ roomRungs F o output s)))
+
+unfoldable pub receiving : List Row → List ℕ → List ℕ → List ℕ → Out Took
+receiving F o output s = ladder (receiveRungs F o output s) (refusing output s) (done F o output s)
