@@ -1,0 +1,6 @@
+pub mod FieldLaws
+pub mod WholeLaws
+pub mod FillLaws
+pub mod HeadLaws
+pub mod PlaceLaws
+pub mod BoxedLaws
