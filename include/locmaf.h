@@ -1,0 +1,64 @@
+/* LOCMAF for programs in C: the receiver of the proved codec.
+ *
+ * A receiver turns LOCMAF objects into CMAF chunks. It serves eight tracks, one to a slot (0 to 7), and keeps everything in a table of 64-bit
+ * numbers that the caller lends: an array of locmaf_receiver_words() numbers, all 0 at first. Nothing is allocated and nothing is kept elsewhere,
+ * so two tables can be used at once, also from two threads; one table must not be used by two threads at the same time. Tables are plain
+ * uint64_t arrays with the alignment of uint64_t; bytes need no alignment. Pointers must not be NULL, also where a length is 0, and lent buffers
+ * must not overlap. A call may use up to 400 KiB of stack (a hostile list of events); objects without events use about 11 KiB. */
+#ifndef LOCMAF_H
+#define LOCMAF_H
+
+#include <stddef.h>
+#include <stdint.h>
+
+#ifdef __cplusplus
+extern "C" {
+#endif
+
+/* What a call answers. On every number but 0 nothing is written to the output. 12 to 16 drop the slot's reference (deltas are answered with 11
+ * until the next full object); every other refusal changes nothing. */
+enum locmaf_number {
+    LOCMAF_DONE = 0,
+    LOCMAF_SLOT = 1,        /* slot number above 7 */
+    LOCMAF_NOT_OPEN = 2,    /* slot not open */
+    LOCMAF_OPEN = 3,        /* opening an open slot */
+    LOCMAF_PARAMETERS = 4,  /* bad parameters */
+    LOCMAF_SKIPPED = 10,    /* header id neither 23 nor 25: skipped */
+    LOCMAF_NO_REFERENCE = 11, /* delta, and no reference held */
+    LOCMAF_UNREADABLE = 12, /* object unreadable */
+    LOCMAF_IDS = 13,        /* id unknown, twice or forbidden here, or one missing that has to stand */
+    LOCMAF_SET = 14,        /* deletion, list length or resulting set unlawful */
+    LOCMAF_RANGE = 15,      /* value outside its range or maximum */
+    LOCMAF_SUMS = 16,       /* sizes or protected sums disagree */
+    LOCMAF_ROOM = 17,       /* output shorter than the front */
+    LOCMAF_TABLE = 18       /* table of the wrong length, or the named share unlawful */
+};
+
+/* How a track is protected. */
+enum locmaf_protection { LOCMAF_CLEAR = 0, LOCMAF_CENC = 1, LOCMAF_CBCS = 2 };
+
+/* The length of a table, in 64-bit numbers. */
+uint64_t locmaf_receiver_words(void);
+
+/* Opens a slot on a track: track_ID and timescale (1 to 2^32-1), the default sample description index (from 1), duration, size and flags of `trex`
+ * (flags in five bits: non_sync + 2 x depends_on + 8 x is_depended_on), protection, and the IV size: 8 or 16 for cenc, else 0. Answers the number. */
+uint64_t locmaf_receiver_open(uint64_t *table, size_t words, uint64_t slot, uint64_t track, uint64_t timescale, uint64_t description,
+                              uint64_t duration, uint64_t size, uint64_t flags, uint64_t protection, uint64_t iv_size);
+
+/* Closes a slot: its part of the table becomes 0. Answers the number. */
+uint64_t locmaf_receiver_close(uint64_t *table, size_t words, uint64_t slot);
+
+/* Starts a group in a slot: its reference is dropped. Answers the number. */
+uint64_t locmaf_receiver_start_group(uint64_t *table, size_t words, uint64_t slot);
+
+/* Receives one object. *number is the number. Where it is 0, the first *front bytes of the output are the chunk up to and with the `mdat` header, the
+ * bytes past them stay as they were, and the answer is the length of the payload: the last so many bytes of the object, which follow the front in
+ * the chunk and are never copied. Otherwise *front and the answer are 0. No front has more than 8,577 bytes. */
+uint64_t locmaf_receive(uint64_t *table, size_t words, uint64_t slot, const uint8_t *object, size_t object_len, uint8_t *output,
+                        size_t output_len, uint64_t *number, uint64_t *front);
+
+#ifdef __cplusplus
+}
+#endif
+
+#endif
