@@ -14,7 +14,7 @@ use Rattle.wire.specs.declared.zigzag.Coding.the-variants.{Plain, Delta}
 use Rattle.wire.specs.Zigzag.{reached, onReached}
 use Rattle.runs.specs.declared.Outcome.{Outcome}
 use Rattle.runs.specs.declared.Outcome.the-variants.{Done, Misfit, Outside}
-use Rattle.runs.specs.Run.{Filled, first}
+use Rattle.runs.specs.Run.{first}
 use Rattle.block.specs.Numbers.{numbersF, stepsF}
 use Rattle.track.specs.declared.Track.{Track}
 use Rattle.fieldset.specs.declared.lines.Want.{Want}

@@ -7,8 +7,8 @@ use mathlib.Core.Logic.{_⊎_, inl, inr, ⊎-elim}
 use mathlib.Core.Bool.{Bool, true, false, cond, false≢true}
 use mathlib.Core.List.{List, [], _∷_}
 use mathlib.Core.Option.{Option, none, some}
-use borrow.Author.Tests.{leb-true, eqb-false}
-use lib.Dec.{eqb, leb}
+use borrow.Author.Tests.{eqb-false}
+use lib.Dec.{eqb}
 use lib.ListN.{length, getD, replicate, length-replicate}
 use lib.Seq.{slice}
 use Rattle.laws.specs.Tests.{allLe}
@@ -18,7 +18,7 @@ use Rattle.wire.specs.declared.zigzag.Coding.{Coding}
 use Rattle.wire.specs.declared.zigzag.Coding.the-variants.{Plain, Delta}
 use Rattle.wire.specs.declared.zigzag.Reached.{Reached}
 use Rattle.wire.specs.declared.zigzag.Reached.the-variants.{To, Outside}
-use Rattle.wire.specs.Zigzag.{reached, onReached}
+use Rattle.wire.specs.Zigzag.{onReached}
 use Rattle.wire.proofs.ZigzagLaws.{reached-most}
 use Rattle.track.specs.declared.Track.{Track}
 use Rattle.fieldset.specs.Lines.{lines, lineFor, setLen}

@@ -1,13 +1,12 @@
 -- The base media decode time. 01: "Id 10 is absolute, written only if BMDT differs from the previous BMDT plus the previous effective durations."
 use Prim.Native.Nat.{ℕ, _+_, _*_, _≤_}
 use mathlib.Core.Path.{_≡_}
-use mathlib.Core.Bool.{cond, true}
+use mathlib.Core.Bool.{cond}
 use mathlib.Core.List.{List, [], _∷_}
 use mathlib.Core.Option.{Option, none, some}
 use lib.ListN.{length, getD}
-use Rattle.laws.specs.Tests.{sum, allLe}
+use Rattle.laws.specs.Tests.{sum}
 use Rattle.track.specs.declared.Track.{Track}
-use Rattle.track.specs.Track.{u32}
 use Rattle.fieldset.specs.Lines.{bmdtAt, setLen}
 use Rattle.fieldset.specs.Lawful.{has, valuesOf}
 use Rattle.chunk.specs.Front.{valueAt, countIn}

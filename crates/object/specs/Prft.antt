@@ -10,7 +10,6 @@ use Rattle.wire.specs.declared.zigzag.Coding.{Coding}
 use Rattle.wire.specs.declared.zigzag.Reached.{Reached}
 use Rattle.wire.specs.declared.zigzag.Reached.the-variants.{To}
 use Rattle.wire.specs.Zigzag.{reached, onReached}
-use Rattle.chunk.specs.declared.outer.Prft.{Prft}
 use Rattle.slots.specs.Share.{ntpAt, mediaTimeAt, versionAt, prftFlagsAt}
 use Rattle.fields.specs.Said.{Says}
 use Rattle.fields.specs.Cells.{codingFor}

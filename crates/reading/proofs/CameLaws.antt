@@ -9,8 +9,7 @@ use mathlib.Core.Bool.{Bool, true, false, false≢true, cond, not, _&&_, _||_}
 use mathlib.Core.List.{List, [], _∷_}
 use mathlib.Core.Option.{Option, none, some}
 use borrow.Author.Tests.{eqb-true, eqb-false, leb-true, le-leb, not-true}
-use lib.Dec.{eqb, leb}
-use lib.IntN.{ℤ, pos, negsuc, _+ℤ_}
+use lib.Dec.{eqb}
 use lib.ListN.{length, getD, take, drop, length-take, length-drop}
 use lib.Seq.{length-slice, getD-drop}
 use Rattle.laws.specs.Tests.{_and_, allLe}
@@ -18,7 +17,6 @@ use Rattle.laws.specs.Bytes.{de, Bytes}
 use Rattle.laws.proofs.TestLaws.{left, right, both, and-left, and-right}
 use Rattle.laws.proofs.BytesLaws.{bytes-take, bytes-drop, de-lt}
 use Rattle.wire.specs.declared.zigzag.Coding.{Coding}
-use Rattle.wire.specs.declared.zigzag.Coding.the-variants.{Plain, Delta}
 use Rattle.wire.specs.declared.zigzag.Reached.{Reached}
 use Rattle.wire.specs.declared.zigzag.Reached.the-variants.{To}
 use Rattle.wire.specs.declared.zigzag.Reached.the-variants.{Outside as Beyond}
@@ -34,7 +32,7 @@ use Rattle.fieldset.specs.declared.lines.Want.{Want}
 use Rattle.fieldset.specs.declared.lines.Want.the-variants.{One, LessOne, Count, Ivs, Sum}
 use Rattle.fieldset.specs.declared.lines.Line.{Line}
 use Rattle.fieldset.specs.declared.lines.Measure.{Measure}
-use Rattle.fieldset.specs.Lines.{every, lines, spare, lineFor, setLen, wanted, absentValue}
+use Rattle.fieldset.specs.Lines.{every, lines, spare, setLen, wanted, absentValue}
 use Rattle.fieldset.specs.Lawful.{inUse, lawful, measureOf}
 use Rattle.fieldset.proofs.LineLaws.{line-count, every-at, shaped}
 use Rattle.fieldset.proofs.RegionLaws.{used}

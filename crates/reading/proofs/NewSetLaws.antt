@@ -1,6 +1,5 @@
 -- The words of a new set that broke no rule are lawful. Assumes nothing.
-use Prim.Native.Nat.{ℕ, zero, suc, _-_, _^_, _≤_, _<_}
-use native.Mathlib.Nat.{not-suc-le-zero, le-of-suc-le-suc}
+use Prim.Native.Nat.{ℕ, _-_, _^_, _≤_, _<_}
 use native.Mathlib.Omega.{arith}
 use mathlib.Core.Path.{_≡_, refl, sym, _∙_, ap}
 use mathlib.Core.Bool.{Bool, true, false, cond}
@@ -21,7 +20,7 @@ use Rattle.track.specs.declared.Track.{Track}
 use Rattle.fieldset.specs.declared.lines.Want.the-variants.{Sum}
 use Rattle.fieldset.specs.declared.lines.Line.{Line}
 use Rattle.fieldset.specs.declared.lines.Measure.{Measure}
-use Rattle.fieldset.specs.Lines.{every, lines, spare, lineFor, setLen, wanted, Small}
+use Rattle.fieldset.specs.Lines.{lines, spare, lineFor, setLen, wanted, Small}
 use Rattle.fieldset.specs.Lawful.{has, valuesOf, marksOf, saizOk, setRules, sameIvSize, measureOf, lawful}
 use Rattle.fieldset.proofs.LineLaws.{every-at, line-count}
 use Rattle.fieldset.proofs.LawfulLaws.{Lawful, lawful-facts}

@@ -2,22 +2,17 @@
 use Prim.Native.Nat.{ℕ, _+_, _-_, _%_, _≤_, _<_}
 use native.Mathlib.Omega.{arith}
 use mathlib.Core.Path.{_≡_, refl, sym, _∙_, ap, subst}
-use mathlib.Core.Bool.{true}
 use mathlib.Core.List.{List, _++_}
-use borrow.Author.Tests.{le-leb, lt-leb, leb-true, not-true}
-use lib.Dec.{eqb, leb}
+use borrow.Author.Tests.{le-leb, lt-leb, leb-true}
 use lib.ListN.{length, getD, take, drop, length-drop}
 use lib.Seq.{take-all}
 use Rattle.laws.specs.Tests.{_and_}
 use Rattle.laws.specs.Ladder.{ladder}
 use Rattle.laws.proofs.LadderLaws.{broken, passed, top}
 use Rattle.laws.proofs.SliceLaws.{slice-lent}
-use Rattle.laws.proofs.TestLaws.{left, right}
 use Rattle.wire.specs.declared.form.Row.{Row}
 use Rattle.track.specs.declared.Track.{Track}
-use Rattle.track.specs.Track.{lawful as lawfulTrack}
-use Rattle.slots.specs.declared.share.Side.the-variants.{Receiver}
-use Rattle.slots.specs.Share.{trackAt, acceptedAt, u32, askedOf, trackOf, referenceOk, openOk, isOpen, lawful}
+use Rattle.slots.specs.Share.{acceptedAt, u32, lawful}
 use Rattle.slots.specs.Table.{out}
 use Rattle.chunk.specs.Events.{eventsOf}
 use Rattle.chunk.specs.Front.{front}
@@ -25,25 +20,14 @@ use Rattle.chunk.specs.Writable.{Writable}
 use Rattle.object.specs.declared.head.Place.{Place}
 use Rattle.receiver.specs.declared.judge.Judged.{Judged}
 use Rattle.receiver.specs.Object.{isDelta, blockEnd, payload}
-use Rattle.receiver.specs.Receive.{took, keptWords, track, prft, brands, set, sequence, chunk, accepted, refusing, done, roomRungs}
+use Rattle.receiver.specs.Receive.{took, keptWords, track, prft, brands, newSet, sequence, chunk, accepted, refusing, done, roomRungs}
 use Rattle.receiver.specs.Judge.{Judgeable, Ready}
-
--- a lawful share that is open: its parameters and its count
-pub open-parts : (s : List ℕ) → isOpen s ≡ true → lawful Receiver s ≡ true
-    → (lawfulTrack (askedOf s) ≡ true) × (getD s acceptedAt 0 ≤ u32)
-unfolding isOpen lawful openOk
-open-parts s o h =
-    let ok : (lawfulTrack (askedOf s) and leb (getD s acceptedAt 0) u32 and referenceOk (trackOf s) s) ≡ true =
-    rw (not-true (eqb (getD s trackAt 0) 0) o) at h in
-    (left _ _ ok, leb-true _ _ (left _ _ (right _ _ ok)))
+use Rattle.receiver.proofs.OpenLaws.{opened-facts}
 
 module _ (F : List Row) (o s : List ℕ) (t : Track) (p : Place) (a : Judgeable F o s t p) where
   -- the payload stands behind the block
   end-is : p .end ≡ blockEnd F o
   end-is = ap (λ (z : Place). z .end) (a .place)
-
-  pub end-inside : p .end ≤ length o
-  end-inside = omega (arith, end-is, a .inside)
 
   behind-is : drop (p .end) o ≡ payload F o
   unfolding payload
@@ -57,7 +41,7 @@ module _ (F : List Row) (o s : List ℕ) (t : Track) (p : Place) (a : Judgeable 
   payload-is = take-all (length o - p .end) (drop (p .end) o) (omega (arith, length-drop (p .end) o)) ∙ behind-is
 
   pub count-small : getD s acceptedAt 0 ≤ u32
-  count-small = open-parts s (a .opened) (a .lawful) .1
+  count-small = leb-true _ _ (opened-facts s (a .lawful) (a .opened) .accepted)
 
   pub sequence-is : (getD s acceptedAt 0 + 1) % 4294967296 ≡ sequence F o s
   unfolding sequence
@@ -106,7 +90,7 @@ module _ (F : List Row) (o s : List ℕ) (t : Track) (p : Place) (a : Judgeable 
           let l : n ≡ length (chunk F o s) = e ∙ ap length w in
           let d : p .delta ≡ isDelta F o = ap (λ (z : Place). z .delta) (a .place) in
           let y : after ≡ chunk F o s ++ drop (length (chunk F o s)) output = f ∙ (λ i. w i ++ drop (l i) output) in
-          let z : kept ≡ keptWords (isDelta F o) (sequence F o s) (prft F o s .prft) (set F o s) s =
+          let z : kept ≡ keptWords (isDelta F o) (sequence F o s) (prft F o s .prft) (newSet F o s) s =
           g ∙ (λ i. keptWords (d i) (u i) (r .time i) (r .words i) s) in
           passed _ 17 _ _ _ (le-leb (length (chunk F o s)) (length output) (omega arith))
           ((λ i. out (took 0 (l i) (payload-is i) (y i)) (z i)) ∙ top _ _)

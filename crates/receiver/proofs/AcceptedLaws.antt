@@ -21,7 +21,7 @@ use Rattle.slots.specs.declared.share.Side.the-variants.{Receiver}
 use Rattle.slots.specs.Share.{trackAt, acceptedAt, heldAt, prftAt, setAt, shareLen, u24, u32, asked, askedOf, trackOf, isOpen, acceptedOk, prftOk, referenceOk, openOk, lawful}
 use Rattle.chunk.specs.declared.outer.Prft.{Prft}
 use Rattle.receiver.specs.Receive.{prftWords, keptWords}
-use Rattle.receiver.proofs.PassedLaws.{Opened}
+use Rattle.receiver.proofs.OpenLaws.{Opened}
 
 -- ---- the words one after another
 

@@ -32,7 +32,7 @@ use Rattle.object.specs.Prft.{prftOf}
 use Rattle.object.specs.Values.{listed}
 use Rattle.object.proofs.ObjectLaws.{bmdt-sent, full-alone}
 use Rattle.receiver.specs.Object.{isDelta, headRungs, tuples, reads, entries, saying, payload}
-use Rattle.receiver.specs.Receive.{Took, refused, prftWords, keptWords, reference, bmdt, prft, events, set, heldOk, idsRight, splitRungs, valueRungs, sequence, accepted, refusing, done, receiveRungs, receiving}
+use Rattle.receiver.specs.Receive.{Took, refused, prftWords, keptWords, reference, bmdt, prft, events, newSet, heldOk, idsRight, splitRungs, valueRungs, sequence, accepted, refusing, done, receiveRungs, receiving}
 use Rattle.receiver.specs.Laws.{FullForgets, AnyOrder}
 use Rattle.receiver.proofs.HoldLaws.{nonzero, numbered, hold-front, hold-back, agree}
 use Rattle.receiver.proofs.SaidLaws.{head-inside, one-number}
@@ -153,7 +153,7 @@ module _ (F : List Row) (o s s′ : List ℕ) (d : isDelta F o ≡ false) (h : l
   start-same z q = rw q (bmdt-sent (trackOf s) z [] (reference F o s) ∙ sym (bmdt-sent (trackOf s′) z [] (reference F o s′)))
 
   forgot : Hold (early F o s) → Same F o o s s′
-  unfolding idsRight prft set events
+  unfolding idsRight prft newSet events
   forgot k =
       let ids = ids-stand (isDelta F o) _ _ d (right _ _ (early-ids F o s k)) in
       let ten = some-is (saying F o 10) (ids .0) in
@@ -249,7 +249,7 @@ module _ (F : List Row) (o o′ s : List ℕ) (es us : List Entry) (hr : headRun
   early-turned = λ j. openedRungs Receiver s ++ (hr j ++ ((held-turned j else 11) ∷ (reads-turned j else 12) ∷ (ids-turned j else 13) ∷ []))
 
   turned : Hold (early F o s) → Same F o o′ s s
-  unfolding idsRight bmdt prft events set sequence
+  unfolding idsRight bmdt prft events newSet sequence
   turned k =
       let q = says-turned (left _ _ (early-ids F o s k)) in
       record {

@@ -1,20 +1,20 @@
 -- Bytes of an object by its index: the part of an odd id, the brands, and what id 9 says. Assumes nothing.
 use Prim.Native.Nat.{ℕ, suc, _+_, _*_, _-_, _%_, _≤_, _<_}
 use native.Mathlib.Omega.{arith}
-use mathlib.Core.Path.{_≡_, refl, sym, _∙_, ap, subst}
-use mathlib.Core.Bool.{Bool, true, false, not, cond}
+use mathlib.Core.Path.{_≡_, refl}
+use mathlib.Core.Bool.{Bool, true, not}
 use mathlib.Core.List.{List, [], _∷_}
 use mathlib.Core.Option.{Option, none, some}
 use borrow.Author.Tests.{eqb-true, eq-eqb, ne-eqb, le-leb}
 use lib.Dec.{eqb}
-use lib.ListN.{length, getD, take, drop, take-append-drop}
+use lib.ListN.{length, getD}
 use lib.Seq.{slice, slice-empty}
 use Rattle.laws.specs.Tests.{_and_, allLe}
 use Rattle.laws.proofs.LadderLaws.{Hold}
-use Rattle.laws.proofs.TestLaws.{left, right, and-right, allLe-append}
+use Rattle.laws.proofs.TestLaws.{right, and-right}
 use Rattle.wire.specs.declared.form.Row.{Row}
 use Rattle.track.specs.declared.Track.{Track}
-use Rattle.block.specs.Entries.{body, Tells}
+use Rattle.block.specs.Entries.{Tells}
 use Rattle.fields.specs.Said.{Says, numbers, saysIn, Telling}
 use Rattle.reading.specs.Read.{brandsFit, fieldRungs, setRungs}
 use Rattle.reading.proofs.TellingLaws.{part-says}
@@ -32,24 +32,6 @@ each-le b (x ∷ xs) h = rw (le-leb x b (h 0)) (each-le b xs (λ i. h (suc i)))
 -- every byte of a slice of them
 pub all-bytes : (o : List ℕ) → ((i : ℕ) → getD o i 0 < 256) → allLe 255 o ≡ true
 all-bytes o h = each-le 255 o (λ i. let k = h i in omega arith)
-
--- and of a part
-cut-le : (b n : ℕ) (xs : List ℕ) → allLe b xs ≡ true → (allLe b (take n xs) and allLe b (drop n xs)) ≡ true
-cut-le b n xs h = sym (allLe-append b (take n xs) (drop n xs)) ∙ ap (allLe b) (take-append-drop n xs) ∙ h
-
-slice-le : (b f t : ℕ) (xs : List ℕ) → allLe b xs ≡ true → allLe b (slice f t xs) ≡ true
-slice-le b f t xs h = right _ _ (cut-le b f (take t xs) (left _ _ (cut-le b t xs h)))
-
--- what is said of id 9 is bytes of the object
-pub raw-bytes : (F : List Row) (o index : List ℕ) → allLe 255 o ≡ true → (zs : List ℕ) → saysIn F o index 9 ≡ some zs → allLe 255 zs ≡ true
-unfolding saysIn body
-raw-bytes F o index h zs e = go (eqb (getD index 27 0) 0) e
-  where
-    go : (b : Bool) → cond b none (some (slice (getD index 27 0 - 1) (getD index 27 0 - 1 + getD index 28 0) o)) ≡ some zs → allLe 255 zs ≡ true
-    go true q = let z : _≡_ {A = ℕ} 0 1 = cc in absurd (omega arith)
-    go false q =
-        let r : slice (getD index 27 0 - 1) (getD index 27 0 - 1 + getD index 28 0) o ≡ zs = cc in
-        subst (λ (ys : List ℕ). allLe 255 ys ≡ true) r (slice-le 255 (getD index 27 0 - 1) (getD index 27 0 - 1 + getD index 28 0) o h)
 
 -- ---- the part of an odd id
 

@@ -40,11 +40,12 @@ use Rattle.object.proofs.SumLaws.{lawful-summable, sizes-sized}
 use Rattle.receiver.specs.declared.judge.Part.{Part}
 use Rattle.receiver.specs.declared.judge.Judged.{Judged}
 use Rattle.receiver.specs.Object.{isDelta, blockEnd, saying, payload}
-use Rattle.receiver.specs.Receive.{track, reference, bmdt, prft, events, brands, set, valuesOk, sumsOk, valueRungs}
+use Rattle.receiver.specs.Receive.{track, reference, bmdt, prft, events, brands, newSet, valuesOk, sumsOk, valueRungs}
 use Rattle.receiver.specs.Judge.{partIn, noneJudged, Judgeable, Split, JudgedAs}
 use Rattle.object.proofs.ObjectLaws.{prft-says, prft-headed}
 use Rattle.receiver.proofs.ShareFacts.{reference-long, iv-most, delta-lawful, reference-timed, kept-small}
-use Rattle.receiver.proofs.BrandLaws.{raw-bytes, BrandsTold, brands-told, brands-fours}
+use Rattle.receiver.proofs.SaidLaws.{raw-bytes}
+use Rattle.receiver.proofs.BrandLaws.{BrandsTold, brands-told, brands-fours}
 
 -- ---- two tests, one after the other
 
@@ -246,7 +247,7 @@ module _ {F : List Row} {o s : List ℕ} {t : Track} {p : Place} {index ev : Lis
 
   module _ {x : List ℕ} (g : Gathered F o s t x) where
     raw : (zs : List ℕ) → saying F o 9 ≡ some zs → allLe 255 zs ≡ true
-    raw zs e = raw-bytes F o index (g .bytes) zs (ap (λ (f : Says). f 9) (w .split .says) ∙ e)
+    raw zs e = raw-bytes F o (g .bytes) zs e
 
     long : length (reference F o s) ≡ setLen
     long = reference-long s (w .head .share)
@@ -268,8 +269,8 @@ module _ {F : List Row} {o s : List ℕ} {t : Track} {p : Place} {index ev : Lis
     stored-long : length (store x 0 b) ≡ setLen
     stored-long = ap length stored ∙ new-long b
 
-    stored-set : store x 0 b ≡ set F o s
-    unfolding set
+    stored-set : store x 0 b ≡ newSet F o s
+    unfolding newSet
     stored-set =
         stored
         ∙ ap (λ (u : Track). newWords u (isDelta F o) (reference F o s) (saying F o) b) (w .head .track)
@@ -294,7 +295,7 @@ module _ {F : List Row} {o s : List ℕ} {t : Track} {p : Place} {index ev : Lis
             ez
             ∙ ap (λ (n : ℕ). sizesOk t (store x 0 b) n and protectedOk t (store x 0 b) n) (payload-is (w .head))
             ∙ ap (λ (v : List ℕ). sizesOk t v (length (payload F o)) and protectedOk t v (length (payload F o))) stored-set
-            ∙ ap (λ (u : Track). sizesOk u (set F o s) (length (payload F o)) and protectedOk u (set F o s) (length (payload F o))) (w .head .track)
+            ∙ ap (λ (u : Track). sizesOk u (newSet F o s) (length (payload F o)) and protectedOk u (newSet F o s) (length (payload F o))) (w .head .track)
 
         -- the sums disagree
         pub refuses-sums : (a : Judged) (v : List ℕ) → a ≡ noneJudged 16 → sumsOk F o s ≡ false → JudgedAs (valueRungs F o s) F o s a ws v

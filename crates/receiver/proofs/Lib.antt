@@ -1,5 +1,7 @@
 pub mod HoldLaws
+pub mod OpenLaws
 pub mod ShareFacts
+pub mod SaidLaws
 pub mod SplitLaws
 pub mod BrandLaws
 pub mod JudgeLaws
@@ -10,7 +12,6 @@ pub mod AcceptLaws
 pub mod ReceiveLaws
 pub mod PassedLaws
 pub mod AcceptedLaws
-pub mod SaidLaws
 pub mod SameLaws
 pub mod Theorems
 pub mod AlikeTheorems

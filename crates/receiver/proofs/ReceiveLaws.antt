@@ -24,7 +24,7 @@ use Rattle.receiver.specs.Object.{isDelta, headRungs}
 use Rattle.receiver.specs.Receive.{Took, heldOk, splitRungs, valueRungs, judgeRungs, roomRungs, refusing, done, receiveRungs, receiving}
 use Rattle.receiver.specs.Judge.{Judgeable, JudgedAs}
 use Rattle.receiver.proofs.HeadRungs.{head-stopped, head-opened}
-use Rattle.receiver.proofs.AcceptLaws.{open-parts}
+use Rattle.receiver.proofs.OpenLaws.{opened-facts}
 
 none-held : (d e : Bool) → (d && e) ≡ true → (not d || not e) ≡ false
 none-held true true h = refl
@@ -77,7 +77,7 @@ module _ (F : List Row) (o output s : List ℕ) where
 
     module _ (e : getD s trackAt 0 ≡ 0 → ⊥) where
       pub track-lawful : lawfulTrack (askedOf s) ≡ true
-      track-lawful = open-parts s (ajar s e) h .0
+      track-lawful = opened-facts s h (ajar s e) .track
 
       pub received-headless : (k : ℕ) → headOf F o ≡ Refused k → refusing output s k ≡ receiving F o output s
       unfolding receiving receiveRungs

@@ -27,7 +27,7 @@ use Rattle.reading.specs.Read.{setWords, measure, wasOf, countReached, countOf,
 use Rattle.object.specs.Values.{allFit, boxes}
 use Rattle.object.specs.Sums.{sizesOk, protectedOk}
 use Rattle.receiver.specs.Object.{isDelta, headRungs, saying, payload}
-use Rattle.receiver.specs.Receive.{took, reference, bmdt, prft, events, brands, set, valuesOk, sumsOk, heldOk, splitRungs, valueRungs, sequence, chunk, done, roomRungs, receiveRungs}
+use Rattle.receiver.specs.Receive.{took, reference, bmdt, prft, events, brands, newSet, valuesOk, sumsOk, heldOk, splitRungs, valueRungs, sequence, chunk, done, roomRungs, receiveRungs}
 
 -- ---- the rungs in two parts
 
@@ -52,7 +52,7 @@ pub record Same (F : List Row) (o o′ s s′ : List ℕ) : Type 0 where
   pub list : events F o s ≡ events F o′ s′
   pub listed : numbers (saying F o 25) ≡ numbers (saying F o′ 25)
   pub named : brands F o s ≡ brands F o′ s′
-  pub words : set F o s ≡ set F o′ s′
+  pub words : newSet F o s ≡ newSet F o′ s′
   pub rules : setRungs (trackOf s) (isDelta F o) (reference F o s) (saying F o) ≡ setRungs (trackOf s′) (isDelta F o′) (reference F o′ s′) (saying F o′)
   pub rest : payload F o ≡ payload F o′
   pub count : sequence F o s ≡ sequence F o′ s′

@@ -4,25 +4,25 @@ use native.Mathlib.Omega.{arith}
 use mathlib.Core.Path.{_≡_, refl, sym, _∙_, ap}
 use mathlib.Core.Bool.{Bool, true, false, cond, _&&_, _||_}
 use mathlib.Core.List.{List}
-use borrow.Author.Tests.{leb-true, not-true}
+use borrow.Author.Tests.{leb-true}
 use lib.Dec.{eqb, leb}
 use lib.ListN.{length, getD, take, drop, replicate, length-drop}
 use lib.Seq.{slice, getD-drop, getD-take, drop-drop}
 use Rattle.laws.specs.Tests.{_and_, allZero}
 use Rattle.laws.proofs.ListLaws.{drop-replicate}
-use Rattle.laws.proofs.TestLaws.{left, right, and-left, and-right, zeros-are}
+use Rattle.laws.proofs.TestLaws.{and-left, and-right, zeros-are}
 use Rattle.wire.specs.declared.form.Row.{Row}
-use Rattle.track.specs.Track.{lawful as lawfulTrack}
 use Rattle.track.proofs.TrackLaws.{ranges}
 use Rattle.fieldset.specs.Lines.{setLen}
 use Rattle.fieldset.specs.Lawful.{lawful as lawfulSet}
 use Rattle.slots.specs.declared.share.Side.the-variants.{Receiver}
-use Rattle.slots.specs.Share.{shareLen, trackAt, acceptedAt, heldAt, prftAt, ntpAt, versionAt, prftFlagsAt, mediaTimeAt, setAt, u24, u32, askedOf, trackOf, acceptedOk, prftOk, referenceOk, openOk, isOpen, lawful}
+use Rattle.slots.specs.Share.{shareLen, heldAt, prftAt, ntpAt, versionAt, prftFlagsAt, mediaTimeAt, setAt, u24, u32, askedOf, trackOf, prftOk, referenceOk, isOpen, lawful}
 use Rattle.block.proofs.AnswerLaws.{blank-zeros}
 use Rattle.object.specs.Bmdt.{Timed}
 use Rattle.receiver.specs.Object.{isDelta}
 use Rattle.receiver.specs.Receive.{heldOk}
 use Rattle.object.proofs.ObjectLaws.{lawful-timed, zeros-timed}
+use Rattle.receiver.proofs.OpenLaws.{Opened, opened-facts, held-facts, delta-held}
 
 -- a word of zeros
 zero-at : (xs : List ℕ) (i : ℕ) → allZero xs ≡ true → getD xs i 0 ≡ 0
@@ -49,33 +49,25 @@ module _ (s : List ℕ) (l : length s ≡ shareLen) where
       sym (getD-drop ntpAt (take setAt s) i 0 ∙ getD-take setAt s (ntpAt + i) 0 (omega arith)) ∙ zero-at (slice ntpAt setAt s) i e
 
   module _ (h : lawful Receiver s ≡ true) (o : isOpen s ≡ true) where
-    open-facts : (lawfulTrack (askedOf s) ≡ true) × (referenceOk (trackOf s) s ≡ true)
-    unfolding lawful openOk isOpen
-    open-facts =
-        let z : eqb (getD s trackAt 0) 0 ≡ false = not-true _ o in
-        let ok : (lawfulTrack (askedOf s) and acceptedOk Receiver (getD s acceptedAt 0) and referenceOk (trackOf s) s) ≡ true = rw z at h in
-        (left _ _ ok, right _ _ (right _ _ ok))
+    facts : Opened s
+    facts = opened-facts s h o
 
     -- the size of IVs
     pub iv-most : trackOf s .«iv_size» ≤ 16
-    iv-most = ranges (askedOf s) (open-facts .0) .iv-size
+    iv-most = ranges (askedOf s) (facts .track) .iv-size
 
     -- no reference is held, and then its words are zeros
     pub none-held : eqb (getD s heldAt 0) 0 ≡ true → allZero (drop prftAt s) ≡ true
     unfolding referenceOk
-    none-held e = rw e at (open-facts .1)
+    none-held e = rw e at (facts .reference)
 
     -- or one that is lawful, with its `prft`
     pub one-held : eqb (getD s heldAt 0) 0 ≡ false → (prftOk s ≡ true) × (lawfulSet (trackOf s) (drop setAt s) ≡ true)
-    unfolding referenceOk
-    one-held e =
-        let ok : (eqb (getD s heldAt 0) 1 and prftOk s and lawfulSet (trackOf s) (drop setAt s)) ≡ true = rw e at (open-facts .1) in
-        (left _ _ (right _ _ ok), right _ _ (right _ _ ok))
+    one-held e = held-facts (trackOf s) s (facts .reference) e
 
     -- a delta is read against a lawful set
     pub delta-lawful : (F : List Row) (ob : List ℕ) → heldOk F ob s ≡ true → isDelta F ob ≡ true → lawfulSet (trackOf s) (drop setAt s) ≡ true
-    unfolding heldOk
-    delta-lawful F ob k d = one-held (not-true _ (rw d at k)) .1
+    delta-lawful F ob k d = one-held (delta-held F ob s k d) .1
 
     -- a time that follows from the reference has 64 bits
     pub reference-timed : Timed (drop setAt s)

@@ -35,10 +35,11 @@ use Rattle.reading.proofs.CameLaws.{came-length}
 use Rattle.reading.proofs.NewSetLaws.{Taken, taken-facts, count-le, lengths, new-lawful}
 use Rattle.object.proofs.ObjectLaws.{prft-lawful}
 use Rattle.receiver.specs.Object.{isDelta, headRungs, saying}
-use Rattle.receiver.specs.Receive.{Took, refused, afterRefusal, reference, bmdt, prft, set, heldOk, judgeRungs, sequence, chunk, accepted, refusing, done, roomRungs, receiveRungs, receiving}
+use Rattle.receiver.specs.Receive.{Took, refused, afterRefusal, reference, bmdt, prft, newSet, heldOk, judgeRungs, sequence, chunk, accepted, refusing, done, roomRungs, receiveRungs, receiving}
 use Rattle.receiver.specs.Laws.{ReceiveExactly, ReceiveStaysLawful, Refused, ReceiveRefuses, PastStays, ReceivePast}
 use Rattle.receiver.proofs.HoldLaws.{climbs-all}
-use Rattle.receiver.proofs.PassedLaws.{Opened, opened-facts, held-facts, delta-held, Passed, passed, value-facts}
+use Rattle.receiver.proofs.OpenLaws.{Opened, opened-facts, held-facts, delta-held}
+use Rattle.receiver.proofs.PassedLaws.{Passed, passed, value-facts}
 use Rattle.receiver.proofs.AcceptedLaws.{Ranged, accepted-long, accepted-lawful}
 use Rattle.receiver.proofs.SaidLaws.{raw-bytes}
 
@@ -161,15 +162,15 @@ module _ (F : List Row) (o output s : List ℕ) (l : length s ≡ shareLen) (h :
   prft-good : isDelta F o ≡ true → prftOk s ≡ true
   prft-good d = held-facts (trackOf s) s (opened .reference) (delta-held F o s (h .held) d) .0
 
-  set-long : length (set F o s) ≡ setLen
-  unfolding set
+  set-long : length (newSet F o s) ≡ setLen
+  unfolding newSet
   set-long =
       new-long (trackOf s) (isDelta F o) (reference F o s) (saying F o) set-words set-good
       (taken-facts (trackOf s) (isDelta F o) (reference F o s) (saying F o) (h .fields)) few-bytes (bmdt F o s)
 
   done-long : length (accepted F o s) ≡ shareLen
   unfolding accepted
-  done-long = accepted-long s l (isDelta F o) (sequence F o s) (prft F o s .prft) (set F o s) set-long
+  done-long = accepted-long s l (isDelta F o) (sequence F o s) (prft F o s .prft) (newSet F o s) set-long
 
 -- a share's length stays, whatever the object's bytes are
 pub receive-keeps : (F : List Row) (o output : List ℕ) → Keeps (receiving F o output)
@@ -215,13 +216,13 @@ unfolding prft
 full-ranged F o s e d = rw d (prft-lawful (saying F o) s (rw d at e))
 
 done-lawful : (F : List Row) (o output s : List ℕ) → allLe 255 o ≡ true → length s ≡ shareLen → Passed F o output s → lawful Receiver (accepted F o s) ≡ true
-unfolding accepted set
+unfolding accepted newSet
 done-lawful F o output s b l h =
     let v = value-facts F o s (h .values) in
-    let good : lawfulSet (trackOf s) (set F o s) ≡ true =
+    let good : lawfulSet (trackOf s) (newSet F o s) ≡ true =
     new-lawful (trackOf s) (isDelta F o) (reference F o s) (saying F o) (h .fields) (bmdt F o s) (v .0) (few-bytes F o output s l h)
     (set-words F o output s l h) (set-good F o output s l h) (raw-bytes F o b) in
-    accepted-lawful s l (isDelta F o) (sequence F o s) (prft F o s .prft) (set F o s) (h .opened) (opened F o output s l h) (count-small F o s)
+    accepted-lawful s l (isDelta F o) (sequence F o s) (prft F o s .prft) (newSet F o s) (h .opened) (opened F o output s l h) (count-small F o s)
     (prft-good F o output s l h) (full-ranged F o s (v .1)) good
 
 pub receive-stays-lawful : ReceiveStaysLawful

@@ -1,23 +1,20 @@
 -- What the code works out of an object before it acts.
 use Prim.Native.Nat.{ℕ, _+_, _-_, _*_, _≤_}
 use mathlib.Core.Path.{_≡_}
-use mathlib.Core.Bool.{Bool, true, cond}
-use mathlib.Core.List.{List, [], _∷_}
+use mathlib.Core.Bool.{true, cond}
+use mathlib.Core.List.{List}
 use lib.Dec.{eqb}
 use lib.ListN.{length, getD, replicate}
 use lib.Seq.{slice}
-use Rattle.laws.specs.Tests.{allLe}
 use Rattle.laws.specs.Ladder.{Rung, ladder}
 use Rattle.wire.specs.declared.form.Row.{Row}
 use Rattle.track.specs.declared.Track.{Track}
-use Rattle.fieldset.specs.Lines.{setLen}
 use Rattle.slots.specs.declared.share.Side.the-variants.{Receiver}
 use Rattle.slots.specs.Share.{shareLen, isOpen, lawful}
 use Rattle.block.specs.Entries.{Tells}
 use Rattle.chunk.specs.Events.{eventsOf}
 use Rattle.chunk.specs.Writable.{Writable}
 use Rattle.fields.specs.Said.{saysIn, Telling}
-use Rattle.reading.specs.Read.{setRungs, newWords}
 use Rattle.object.specs.declared.head.Place.{Place}
 use Rattle.object.specs.Head.{placeOf}
 use Rattle.object.specs.Prft.{noPrft}
@@ -25,7 +22,7 @@ use Rattle.object.specs.Values.{boxes}
 use Rattle.receiver.specs.declared.judge.Part.{Part}
 use Rattle.receiver.specs.declared.judge.Judged.{Judged}
 use Rattle.receiver.specs.Object.{isDelta, blockAt, blockEnd, blockLength, saying, payload}
-use Rattle.receiver.specs.Receive.{track, reference, bmdt, prft, events, brands, set, heldOk, splitRungs, valueRungs, judgeRungs}
+use Rattle.receiver.specs.Receive.{track, bmdt, prft, events, brands, newSet, heldOk, splitRungs}
 
 -- the bytes of an odd id, by the index
 unfoldable pub partIn : List ℕ → ℕ → Part
@@ -61,7 +58,7 @@ pub record SplitAs (F : List Row) (o s : List ℕ) (number : ℕ) (index events 
 
 -- the scratch words have all that the front is made of
 pub record Ready (F : List Row) (o s : List ℕ) (j : Judged) (ws x : List ℕ) : Type 0 where
-  pub words : x ≡ set F o s
+  pub words : x ≡ newSet F o s
   pub time : j .prft ≡ prft F o s .prft
   pub list : eventsOf o ws (j .events) ≡ boxes (track F o s) (bmdt F o s) (events F o s)
   pub inside : j .brands .at + j .brands .len ≤ length o

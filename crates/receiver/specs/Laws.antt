@@ -1,7 +1,7 @@
 -- What is to be shown of receiving an object.
-use Prim.Native.Nat.{ℕ, _≤_, _<_}
+use Prim.Native.Nat.{ℕ, _≤_}
 use mathlib.Core.Path.{_≡_}
-use mathlib.Core.Bool.{true, false, cond, _&&_}
+use mathlib.Core.Bool.{true, false, _&&_}
 use mathlib.Core.List.{List, [], _++_, List·Permᴰ}
 use mathlib.Core.Option.{some}
 use lib.Dec.{leb}

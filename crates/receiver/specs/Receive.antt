@@ -1,10 +1,9 @@
 -- One object, by 01's order of answers.
-use Prim.Native.Nat.{ℕ, _+_, _-_, _%_, _^_, _≤_}
-use mathlib.Core.Path.{_≡_}
-use mathlib.Core.Bool.{Bool, true, false, cond, not, _&&_, _||_}
+use Prim.Native.Nat.{ℕ, _+_, _-_, _%_, _^_}
+use mathlib.Core.Bool.{Bool, cond, not, _&&_, _||_}
 use mathlib.Core.List.{List, [], _∷_, _++_}
 use lib.Dec.{eqb, leb}
-use lib.ListN.{length, getD, take, drop, replicate}
+use lib.ListN.{length, getD, take, drop}
 use lib.Seq.{slice}
 use Rattle.laws.specs.Tests.{_and_}
 use Rattle.laws.specs.Ladder.{Rung, _else_, ladder}
@@ -18,7 +17,7 @@ use Rattle.block.specs.Entries.{lawful, isSome}
 use Rattle.block.specs.Events.{Event}
 use Rattle.chunk.specs.declared.outer.Prft.{Prft}
 use Rattle.chunk.specs.Front.{front}
-use Rattle.fields.specs.Said.{Says, numbers}
+use Rattle.fields.specs.Said.{numbers}
 use Rattle.reading.specs.Read.{setRungs, newWords}
 use Rattle.object.specs.declared.prft.Told.{Told}
 use Rattle.object.specs.Ids.{idsOk}
@@ -53,8 +52,8 @@ prftWords p = cond (p .stands) 1 0 ∷ p .ntp ∷ p .media ∷ p .version ∷ p 
 -- the share s after an accepted object: the count, the reference, and with a full object its `prft`. 01: "The reference is the previous
 -- accepted chunk's set of moof fields, .. kept with the current full's `prft`."
 unfoldable pub keptWords : Bool → ℕ → Prft → List ℕ → List ℕ → List ℕ
-keptWords delta sequence prft set s =
-    take acceptedAt s ++ (sequence ∷ 1 ∷ (cond delta (slice prftAt setAt s) (prftWords prft) ++ set))
+keptWords delta sequence prft newSet s =
+    take acceptedAt s ++ (sequence ∷ 1 ∷ (cond delta (slice prftAt setAt s) (prftWords prft) ++ newSet))
 
 -- an object o, received on the share s
 module _ (F : List Row) (o s : List ℕ) where
@@ -78,8 +77,8 @@ module _ (F : List Row) (o s : List ℕ) where
   brands = numbers (saying F o 23)
 
   -- the new set of moof fields
-  unfoldable pub set : List ℕ
-  set = newWords track (isDelta F o) reference (saying F o) bmdt
+  unfoldable pub newSet : List ℕ
+  newSet = newWords track (isDelta F o) reference (saying F o) bmdt
 
   -- 01: "15 (all other values, payload, brand and event maxima)"; "16 brands; 16 emsg records in 4,096 list bytes; .. payload 16,777,216 bytes;
   -- BMDT, .. 2^62-1"
@@ -93,7 +92,7 @@ module _ (F : List Row) (o s : List ℕ) where
 
   -- 16: "sizes or protected sums disagree"
   unfoldable pub sumsOk : Bool
-  sumsOk = sizesOk track set (length (payload F o)) and protectedOk track set (length (payload F o))
+  sumsOk = sizesOk track newSet (length (payload F o)) and protectedOk track newSet (length (payload F o))
 
   -- 11: "delta, and no reference held"
   unfoldable pub heldOk : Bool
@@ -120,11 +119,11 @@ module _ (F : List Row) (o s : List ℕ) where
 
   -- the front of the chunk
   unfoldable pub chunk : List ℕ
-  chunk = front track sequence set (length (payload F o)) (prft .prft) (boxes track bmdt events) brands
+  chunk = front track sequence newSet (length (payload F o)) (prft .prft) (boxes track bmdt events) brands
 
   -- the share after it is accepted
   unfoldable pub accepted : List ℕ
-  accepted = keptWords (isDelta F o) sequence (prft .prft) set s
+  accepted = keptWords (isDelta F o) sequence (prft .prft) newSet s
 
 -- a refusal with the number k, and what is done
 abbrev pub refusing : List ℕ → List ℕ → ℕ → Out Took

@@ -69,6 +69,10 @@ pub fn short_lists() {
         0,
         0,
     );
+}
+
+// Lists with numbers about 2^61, 2^62 and 2^64, and about 2^31.
+pub fn wide_lists() {
     few(P62, 3, 0, 1, P62, 3, 0, 0, 0, 0, 0, 0);
     few(P62, 3, 4, 1, P62, 3, 0, 0, 1, P62, 3, 4);
     few(TOP, 1, 1, TOP, 0, 0, 0, 0, 0, 0, 0, 0);

@@ -13,6 +13,7 @@ fn main() {
     numbers::padded();
     numbers::places();
     lists::short_lists();
+    lists::wide_lists();
     lists::long_lists();
     made::troubles();
     made::empty();

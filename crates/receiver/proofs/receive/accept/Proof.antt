@@ -1,7 +1,8 @@
 -- `receiver::receive::accept` meets its contract, by the laws of `proofs/AcceptLaws.antt`. Assumes nothing.
 use mathlib.Core.Path.{_∙_}
 use denote.Ref.{now}
-use Rattle.receiver.proofs.AcceptLaws.{end-inside, count-small, sequence-is, writable, room, short, done-is}
+use Rattle.receiver.proofs.JudgeLaws.{end-inside}
+use Rattle.receiver.proofs.AcceptLaws.{count-small, sequence-is, writable, room, short, done-is}
 use borrow.Author.Needs.{needs}
 use Rattle.receiver.proofs.receive.accept.Statement.{statement}
 use Rattle.receiver.proofs.receive.accept.Tie as tie
@@ -10,7 +11,7 @@ add-to : tie.Need-add-to
 add-to c = search needs
 
 sub-payload : tie.Need-sub-payload
-sub-payload c = end-inside _ _ _ _ _ (c .before .before .before .before .before .before .before .pre .0)
+sub-payload c = end-inside (c .before .before .before .before .before .before .before .pre .0)
 
 sub-brands : tie.Need-sub-brands
 sub-brands c = search needs
@@ -68,12 +69,12 @@ keep-requires c κs =
 sub-result : tie.Need-sub-result
 sub-result c =
     let f = c .before .before .before .before .before .before .before .before .before .before in
-    end-inside _ _ _ _ _ (f .before .before .before .before .before .before .before .before .before .pre .0)
+    end-inside (f .before .before .before .before .before .before .before .before .before .pre .0)
 
 part-result-start : tie.Need-part-result-start
 part-result-start c =
     let f = c .before .before .before .before .before .before .before .before .before .before in
-    end-inside _ _ _ _ _ (f .before .before .before .before .before .before .before .before .before .pre .0)
+    end-inside (f .before .before .before .before .before .before .before .before .before .pre .0)
 
 part-result-end : tie.Need-part-result-end
 part-result-end c = search needs
