@@ -1,0 +1,3 @@
+pub mod EntryLaws
+pub mod SencLaws
+pub mod SizeLaws

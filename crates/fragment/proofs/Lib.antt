@@ -1,0 +1,4 @@
+pub mod WordLaws
+pub mod HeaderLaws
+pub mod DefaultLaws
+pub mod RowLaws

@@ -1,0 +1,4 @@
+pub mod Words
+pub mod Headers
+pub mod Defaults
+pub mod Rows

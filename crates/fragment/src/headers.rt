@@ -1,0 +1,41 @@
+// `mfhd` and `tfdt`.
+ghost use mathlib.Core.Path.{_≡_};
+ghost use mathlib.Core.Bool.{true};
+ghost use Rattle.shape.specs.Parts.{Inside};
+ghost use Rattle.fragment.specs.Headers.{mfhdOk, tfdtOk, bmdtOf};
+use shape::parts::Part;
+use tree::fields;
+
+// Version 0, flags 0, any sequence number.
+pub fn mfhd_ok(c: &[u8], b: Part) -> bool
+    requires { ⌜ Inside (now c) b ⌝ }
+    ensures { λ r. ⌜ r ≡ mfhdOk (now (c .entry)) b ⌝ }
+{
+    if b.len != 16 {
+        return false;
+    }
+    fields::u32_at(c, b.at + 8) == 0
+}
+
+// Version 0 with 32 bits or version 1 with 64, flags 0.
+pub fn tfdt_ok(c: &[u8], b: Part) -> bool
+    requires { ⌜ Inside (now c) b ⌝ }
+    ensures { λ r. ⌜ r ≡ tfdtOk (now (c .entry)) b ⌝ }
+{
+    if b.len < 16 {
+        return false;
+    }
+    let word = fields::u32_at(c, b.at + 8);
+    ((b.len == 16) & (word == 0)) | ((b.len == 20) & (word == 0x100_0000))
+}
+
+pub fn bmdt_of(c: &[u8], b: Part) -> u64
+    requires { ⌜ Inside (now c) b ⌝ }
+    requires { ⌜ tfdtOk (now c) b ≡ true ⌝ }
+    ensures { λ r. ⌜ r ≡ bmdtOf (now (c .entry)) b ⌝ }
+{
+    if fields::u32_at(c, b.at + 8) == 0 {
+        return fields::u32_at(c, b.at + 12);
+    }
+    fields::u64_at(c, b.at + 12)
+}

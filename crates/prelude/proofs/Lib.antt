@@ -1,0 +1,6 @@
+pub mod NumberLaws
+pub mod StypLaws
+pub mod PrftLaws
+pub mod ZeroLaws
+pub mod EmsgLaws
+pub mod EventLaws

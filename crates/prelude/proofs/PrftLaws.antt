@@ -1,0 +1,122 @@
+-- The `prft` by its length and version. Assumes nothing.
+use Prim.Native.Nat.{ℕ, _+_, _/_, _%_, _^_, _≤_, _<_}
+use native.Mathlib.Omega.{arith}
+use mathlib.Core.Path.{_≡_, refl, sym, _∙_, ap, subst}
+use mathlib.Core.Bool.{Bool, true, false, _&&_, _||_}
+use mathlib.Core.List.{List}
+use borrow.Author.Tests.{eqb-true, eqb-false, eq-eqb, ne-eqb}
+use lib.Dec.{eqb}
+use lib.ListN.{length}
+use Rattle.laws.specs.Bytes.{Bytes}
+use Rattle.laws.proofs.TestLaws.{and-left, and-right}
+use Rattle.shape.specs.declared.parts.Part.{Part}
+use Rattle.shape.specs.Parts.{Inside}
+use Rattle.chunk.specs.Writable.{Headed}
+use Rattle.prelude.specs.Fields.{versionAt}
+use Rattle.tree.specs.Numbers.{u32, u64}
+use Rattle.prelude.specs.Prft.{prftOk, mediaTime, prftOf, prftTrack}
+use Rattle.prelude.proofs.NumberLaws.{number-lt}
+
+-- one of two tests holds
+either : {P : Type 0} (a b : Bool) → (a || b) ≡ true → (a ≡ true → P) → (b ≡ true → P) → P
+either true b e f g = f refl
+either false b e f g = g e
+
+neither : (a b : Bool) → b ≡ false → (a && b) ≡ false
+neither true b e = e
+neither false b e = refl
+
+module _ (c : List ℕ) (b : Part) where
+  -- ---- what code finds
+
+  pub prft-short : b .len < 28 → eqb (b .len) 0 ≡ prftOk c b
+  unfolding prftOk
+  prft-short h =
+      let p : eqb (b .len) 28 ≡ false = ne-eqb (b .len) 28 (λ e. omega arith) in
+      let q : eqb (b .len) 32 ≡ false = ne-eqb (b .len) 32 (λ e. omega arith) in
+      rw (neither (eqb (versionAt c b) 0) _ p, neither (eqb (versionAt c b) 1) _ q) (sym (or-end (eqb (b .len) 0)))
+    where
+      or-end : (a : Bool) → (a || false) ≡ a
+      or-end true = refl
+      or-end false = refl
+
+  pub prft-long : (w : ℕ) → w ≡ u32 c (b .at + 8) → 28 ≤ b .len
+      → ((eqb (w / 0x100_0000) 0 && eqb (b .len) 28) || (eqb (w / 0x100_0000) 1 && eqb (b .len) 32)) ≡ prftOk c b
+  unfolding prftOk
+  prft-long w e h = rw (e, ne-eqb (b .len) 0 (λ z. omega arith))
+
+  -- ---- what a test that holds says of a box that stands
+
+  pub record PrftFits : Type 0 where
+    pub long : 28 ≤ b .len
+    pub wide : (versionAt c b ≡ 0 → ⊥) → 32 ≤ b .len
+    pub version : versionAt c b ≤ 1
+
+  pub prft-fits : prftOk c b ≡ true → 0 < b .len → PrftFits
+  unfolding prftOk
+  prft-fits e h =
+      either (eqb (b .len) 0) _ e (λ z. absurd (let q : b .len ≡ 0 = eqb-true (b .len) 0 z in omega arith))
+      (λ z.
+      either (eqb (versionAt c b) 0 && eqb (b .len) 28) _ z
+      (λ y.
+      let v : versionAt c b ≡ 0 = eqb-true (versionAt c b) 0 (and-left _ (eqb (b .len) 28) y) in
+      let l : b .len ≡ 28 = eqb-true (b .len) 28 (and-right (eqb (versionAt c b) 0) _ y) in
+      record { long = omega arith; wide = λ n. absurd (n v); version = omega arith })
+      (λ y.
+      let v : versionAt c b ≡ 1 = eqb-true (versionAt c b) 1 (and-left _ (eqb (b .len) 32) y) in
+      let l : b .len ≡ 32 = eqb-true (b .len) 32 (and-right (eqb (versionAt c b) 1) _ y) in
+      record { long = omega arith; wide = λ n. omega arith; version = omega arith }))
+
+  -- a word of a version that isn't 0
+  pub media-long : (w : ℕ) → prftOk c b ≡ true → 0 < b .len → w ≡ u32 c (b .at + 8) → (w / 0x100_0000 ≡ 0 → ⊥) → 32 ≤ b .len
+  media-long w e h ew n = prft-fits e h .wide (λ z. n (ap (λ (v : ℕ). v / 0x100_0000) ew ∙ z))
+
+  -- ---- its fields
+
+  pub media-short : (w m : ℕ) → w ≡ u32 c (b .at + 8) → w / 0x100_0000 ≡ 0 → m ≡ u32 c (b .at + 24) → m ≡ mediaTime c b
+  unfolding mediaTime
+  media-short w m e z em = rw (← e, eq-eqb (w / 0x100_0000) 0 z) em
+
+  pub media-wide : (w m : ℕ) → w ≡ u32 c (b .at + 8) → (w / 0x100_0000 ≡ 0 → ⊥) → m ≡ u64 c (b .at + 24) → m ≡ mediaTime c b
+  unfolding mediaTime
+  media-wide w m e z em = rw (← e, ne-eqb (w / 0x100_0000) 0 z) em
+
+  pub prft-none : b .len ≡ 0 → record { stands = false; ntp = 0; media = 0; version = 0; flags = 0 } ≡ prftOf c b
+  unfolding prftOf
+  prft-none h = rw (eq-eqb (b .len) 0 h)
+
+  pub prft-some : (b .len ≡ 0 → ⊥) → (w n m : ℕ) → w ≡ u32 c (b .at + 8) → n ≡ u64 c (b .at + 16) → m ≡ mediaTime c b
+      → record { stands = true; ntp = n; media = m; version = w / 0x100_0000; flags = w % 0x100_0000 } ≡ prftOf c b
+  unfolding prftOf
+  prft-some h w n m ew en em = rw (ne-eqb (b .len) 0 h, ew, en, em)
+
+  pub track-none : (ours : ℕ) → b .len ≡ 0 → ours ≡ prftTrack c b ours
+  unfolding prftTrack
+  track-none ours h = rw (eq-eqb (b .len) 0 h)
+
+  pub track-some : (ours : ℕ) → (b .len ≡ 0 → ⊥) → u32 c (b .at + 12) ≡ prftTrack c b ours
+  unfolding prftTrack
+  track-some ours h = rw (ne-eqb (b .len) 0 h)
+
+  -- ---- it can be written again: its version and flags fit their fields
+  pub prft-headed : prftOk c b ≡ true → Headed (prftOf c b)
+  prft-headed e = by (eqb (b .len) 0) refl
+    where
+      by : (t : Bool) → eqb (b .len) 0 ≡ t → Headed (prftOf c b)
+      by true q = subst Headed (prft-none (eqb-true (b .len) 0 q)) (record { version = omega arith; flags = omega arith })
+      by false q =
+          let n = eqb-false (b .len) 0 q in
+          let f = prft-fits e (omega (arith, n)) in
+          subst Headed (prft-some n (u32 c (b .at + 8)) (u64 c (b .at + 16)) (mediaTime c b) refl refl refl)
+          (record { version = omega (arith, f .version); flags = omega arith })
+
+  -- its media time has 32 bits in version 0
+  pub prft-media : Bytes c → Inside c b → prftOk c b ≡ true → prftOf c b .version ≡ 0 → prftOf c b .media < 2 ^ 32
+  unfolding prftOf mediaTime
+  prft-media h n e = by (eqb (b .len) 0) refl
+    where
+      by : (t : Bool) → eqb (b .len) 0 ≡ t → prftOf c b .version ≡ 0 → prftOf c b .media < 2 ^ 32
+      by true q = rw q (λ z. omega arith)
+      by false q =
+          let f = prft-fits e (omega (arith, eqb-false (b .len) 0 q)) in
+          rw q (λ z. rw (eq-eqb (versionAt c b) 0 z) (number-lt c 4 (b .at + 24) h (omega (arith, f .long, n .within))))

@@ -1,0 +1,4 @@
+pub mod Fields
+pub mod Styp
+pub mod Prft
+pub mod Emsg

@@ -1,0 +1,4 @@
+pub mod PartLaws
+pub mod RunLaws
+pub mod TopLaws
+pub mod InnerLaws
