@@ -33,7 +33,7 @@ use Rattle.fields.proofs.RoomLaws.{wanted-room}
 use Rattle.reading.specs.declared.read.Against.{Against}
 use Rattle.reading.specs.Read.{measure, storeAll, brandsFit, marksIn, marks, setWords, noFields, newWords}
 use Rattle.reading.specs.Read.{countReached, countOf, cameOf, subsamples, came, fieldOf, fieldRungs, Readable, Measured, TakenAll, ReadAs}
-use Rattle.reading.proofs.SetLaws.{eleven-for, Fits, AllFit, words-length, stored-words, eleven-values}
+use Rattle.reading.proofs.SetLaws.{eleven-for, Fits, AllFit, words-length, stored-words, eleven-values, parted}
 use Rattle.reading.proofs.CameLaws.{came-early, late-first, second-eleven, came-length}
 use Rattle.reading.proofs.StandingLaws.{marks-said}
 
@@ -45,10 +45,6 @@ every-append p [] ys = refl
 every-append p (l ∷ xs) ys = ap (λ (b : Bool). p l and b) (every-append p xs ys) ∙ sym (and-assoc (p l) (every p xs) (every p ys))
 
 -- the lines before id 11, its own, and those after it
-parted : lines ≡ slice 0 9 lines ++ (slice 9 10 lines ++ slice 10 14 lines)
-unfolding lines
-parted = refl
-
 every-parted : (p : Line → Bool) → every p lines ≡ (every p (slice 0 9 lines) and (every p (slice 9 10 lines) and every p (slice 10 14 lines)))
 every-parted p =
     ap (every p) parted
@@ -120,7 +116,7 @@ last-tests true false s z h = refl
 last-tests false u s z h = refl
 
 -- a field that has room
-fits-of : (l : Line) (h : Held) → ((vs : List ℕ) → h ≡ some vs → length vs ≤ l .room) → Fits l h
+pub fits-of : (l : Line) (h : Held) → ((vs : List ℕ) → h ≡ some vs → length vs ≤ l .room) → Fits l h
 fits-of l none k = tt
 fits-of l (some vs) k = k vs refl
 

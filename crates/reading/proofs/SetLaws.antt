@@ -247,7 +247,7 @@ module _ (f : Line → Held) (n : ℕ) (xs ys zs : List Line) (a b end : ℕ) (t
       (sym (regions-append f xs (ys ++ zs) ∙ ap (λ (w : List ℕ). regionsOf f xs ++ w) (regions-append f ys zs)))
 
 -- the table: the lines before id 11, its own, and those after it
-parted : lines ≡ slice 0 9 lines ++ (slice 9 10 lines ++ slice 10 14 lines)
+pub parted : lines ≡ slice 0 9 lines ++ (slice 9 10 lines ++ slice 10 14 lines)
 unfolding lines
 parted = refl
 

@@ -23,6 +23,7 @@ use Rattle.receiver.specs.Object.{isDelta, blockEnd, payload}
 use Rattle.receiver.specs.Receive.{took, keptWords, track, prft, brands, newSet, sequence, chunk, accepted, refusing, done, roomRungs}
 use Rattle.receiver.specs.Judge.{Judgeable, Ready}
 use Rattle.receiver.proofs.OpenLaws.{opened-facts}
+use Rattle.receiver.proofs.JudgeLaws.{payload-long}
 
 module _ (F : List Row) (o s : List ℕ) (t : Track) (p : Place) (a : Judgeable F o s t p) where
   -- the payload stands behind the block
@@ -32,9 +33,6 @@ module _ (F : List Row) (o s : List ℕ) (t : Track) (p : Place) (a : Judgeable 
   behind-is : drop (p .end) o ≡ payload F o
   unfolding payload
   behind-is = ap (λ (z : ℕ). drop z o) end-is
-
-  payload-long : length o - p .end ≡ length (payload F o)
-  payload-long = sym (length-drop (p .end) o) ∙ ap length behind-is
 
   -- as it is handed back
   payload-is : take (length o - p .end) (drop (p .end) o) ≡ payload F o
@@ -58,7 +56,7 @@ module _ (F : List Row) (o s : List ℕ) (t : Track) (p : Place) (a : Judgeable 
     pub writable : Writable t x (length o - p .end) (j .prft) o ws (j .events) named
     writable =
         subst (λ (z : Track). Writable z x (length o - p .end) (j .prft) o ws (j .events) named) (sym (a .track))
-        (subst (λ (z : ℕ). Writable (track F o s) x z (j .prft) o ws (j .events) named) (sym payload-long)
+        (subst (λ (z : ℕ). Writable (track F o s) x z (j .prft) o ws (j .events) named) (sym (payload-long a))
         (subst (λ (z : List ℕ). Writable (track F o s) x (length (payload F o)) (j .prft) o ws (j .events) z) (sym brands-are) (r .writable)))
 
     abbrev written : ℕ → List ℕ
@@ -66,7 +64,7 @@ module _ (F : List Row) (o s : List ℕ) (t : Track) (p : Place) (a : Judgeable 
 
     front-is : written (sequence F o s) ≡ chunk F o s
     unfolding chunk
-    front-is = λ i. front (a .track i) (sequence F o s) (r .words i) (payload-long i) (r .time i) (r .list i) (brands-are i)
+    front-is = λ i. front (a .track i) (sequence F o s) (r .words i) (payload-long a i) (r .time i) (r .list i) (brands-are i)
 
     -- what its length is, whatever the sequence number, is at most as much as there is
     pub room : (n m : ℕ) → ((q : ℕ) → n ≡ length (written q)) → n ≤ m → (q : ℕ) → length (written q) ≤ m

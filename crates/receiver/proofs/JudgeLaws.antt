@@ -135,9 +135,9 @@ module _ {F : List Row} {o s : List ℕ} {t : Track} {p : Place} (j : Judgeable 
       let e : p .end ≡ blockEnd F o = ap (λ (q : Place). q .end) (j .place) in
       omega (arith, j .inside)
 
-  payload-is : length o - p .end ≡ length (payload F o)
+  pub payload-long : length o - p .end ≡ length (payload F o)
   unfolding payload
-  payload-is = ap (λ (q : Place). length o - q .end) (j .place) ∙ sym (length-drop (blockEnd F o) o)
+  payload-long = ap (λ (q : Place). length o - q .end) (j .place) ∙ sym (length-drop (blockEnd F o) o)
 
   -- the size of IVs
   pub iv-small : t .«iv_size» ≤ 16
@@ -197,7 +197,7 @@ module _ {F : List Row} {o s : List ℕ} {t : Track} {p : Place} {index ev : Lis
   pub plain-is : (leb b 0x3fff_ffff_ffff_ffff
       && (r .ok && (leb (length o - p .end) 16777216 && (leb (q .len) 64 && (leb (getD index 77 0) 16 && leb (getD index 76 0) 4096)))))
       ≡ plainOk F o s
-  plain-is = rw (bmdt-is, prft-is, payload-is (w .head), brands-are .long, events-many, events-size)
+  plain-is = rw (bmdt-is, prft-is, payload-long (w .head), brands-are .long, events-many, events-size)
 
   -- it fails
   pub refuses-plain : (a : Judged) (ws x : List ℕ) → a ≡ noneJudged 15 → plainOk F o s ≡ false → JudgedAs (valueRungs F o s) F o s a ws x
@@ -218,7 +218,7 @@ module _ {F : List Row} {o s : List ℕ} {t : Track} {p : Place} {index ev : Lis
     events-lent = told .inside
 
     pub payload-most : length o - p .end ≤ 16777216
-    payload-most = omega (arith, plain .carried, payload-is (w .head))
+    payload-most = omega (arith, plain .carried, payload-long (w .head))
 
     module _ {z : Bool} {ws : List ℕ} (read : EventsRead t b o ev (getD index 77 0) z ws) where
       -- the values are in range where its events are
@@ -293,7 +293,7 @@ module _ {F : List Row} {o s : List ℕ} {t : Track} {p : Place} {index ev : Lis
         unfolding sumsOk
         sums-are =
             ez
-            ∙ ap (λ (n : ℕ). sizesOk t (store x 0 b) n and protectedOk t (store x 0 b) n) (payload-is (w .head))
+            ∙ ap (λ (n : ℕ). sizesOk t (store x 0 b) n and protectedOk t (store x 0 b) n) (payload-long (w .head))
             ∙ ap (λ (v : List ℕ). sizesOk t v (length (payload F o)) and protectedOk t v (length (payload F o))) stored-set
             ∙ ap (λ (u : Track). sizesOk u (newSet F o s) (length (payload F o)) and protectedOk u (newSet F o s) (length (payload F o))) (w .head .track)
 
@@ -319,7 +319,7 @@ module _ {F : List Row} {o s : List ℕ} {t : Track} {p : Place} {index ev : Lis
         sized : sumsOk F o s ≡ true → Sized (store x 0 b) (length (payload F o))
         sized h =
             let e : (sizesOk t (store x 0 b) (length o - p .end) and protectedOk t (store x 0 b) (length o - p .end)) ≡ true = sym ez ∙ sums-are ∙ h in
-            rw (← payload-is (w .head)) (sizes-sized t (store x 0 b) (length o - p .end) (left _ _ e) (payload-most ok))
+            rw (← payload-long (w .head)) (sizes-sized t (store x 0 b) (length o - p .end) (left _ _ e) (payload-most ok))
 
         writable : sumsOk F o s ≡ true → Writable (track F o s) (store x 0 b) (length (payload F o)) (r .prft) o ws (getD index 77 0) (brands F o s)
         writable h =

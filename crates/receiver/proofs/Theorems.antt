@@ -5,32 +5,30 @@ use native.Mathlib.Omega.{arith}
 use mathlib.Core.Path.{_≡_, refl, sym, _∙_, ap, subst}
 use mathlib.Core.Bool.{Bool, true, false, _&&_}
 use mathlib.Core.List.{List, _∷_, _++_}
-use mathlib.Core.Option.{none, some}
 use borrow.Author.Tests.{le-leb}
 use lib.Dec.{leb}
-use lib.ListN.{length, getD, take, drop, replicate, length-append, length-drop, length-replicate}
-use lib.Seq.{length-take-le, drop-append-seam}
+use lib.ListN.{length, getD, drop, length-append, length-drop}
+use lib.Seq.{drop-append-seam}
 use Rattle.laws.specs.Tests.{allLe, sum}
 use Rattle.laws.specs.Ladder.{Rung, _else_, ladder, Given}
 use Rattle.laws.proofs.LadderLaws.{numberOf, given, climbs, ladder-append, ladder-seen}
 use Rattle.wire.specs.declared.form.Row.{Row}
 use Rattle.track.specs.declared.Track.{Track}
 use Rattle.track.proofs.TrackLaws.{ranges}
-use Rattle.fieldset.specs.declared.lines.Line.{Line}
 use Rattle.fieldset.specs.Lines.{lines, spare, setLen, wanted, Small}
 use Rattle.fieldset.specs.Lawful.{lawful as lawfulSet}
 use Rattle.fields.specs.Said.{Says}
-use Rattle.fields.specs.Cells.{Held}
 use Rattle.fields.proofs.RoomLaws.{wanted-room}
 use Rattle.slots.specs.declared.share.Side.the-variants.{Receiver}
-use Rattle.slots.specs.Share.{shareLen, heldAt, setAt, askedOf, trackOf, prftOk, lawful, dropped}
+use Rattle.slots.specs.Share.{shareLen, setAt, askedOf, trackOf, prftOk, lawful, dropped}
 use Rattle.slots.specs.Table.{Out, shareAt, tableRungs, onTable}
 use Rattle.slots.specs.Calls.{openedRungs}
 use Rattle.slots.specs.Laws.{after, Keeps, Apart}
-use Rattle.slots.proofs.Lawful.{dropped-lawful}
+use Rattle.slots.proofs.Lawful.{dropped-lawful, dropped-long}
 use Rattle.slots.proofs.Apart.{apart, others-stay}
 use Rattle.reading.specs.Read.{newWords, came, countOf, fieldOf}
-use Rattle.reading.proofs.SetLaws.{Fits, AllFit, words-length}
+use Rattle.reading.proofs.RungLaws.{fits-of}
+use Rattle.reading.proofs.SetLaws.{AllFit, words-length}
 use Rattle.reading.proofs.CameLaws.{came-length}
 use Rattle.reading.proofs.NewSetLaws.{Taken, taken-facts, count-le, lengths, new-lawful}
 use Rattle.object.proofs.ObjectLaws.{prft-lawful}
@@ -116,16 +114,6 @@ receive-past F o output s =
     P a = PastStays output (a .answer)
 
 -- ---- the share's length
-
-dropped-long : (s : List ℕ) → length s ≡ shareLen → length (dropped s) ≡ shareLen
-unfolding dropped
-dropped-long s l =
-    omega (arith, length-append (take heldAt s) (replicate 987 0), length-replicate {A = ℕ} 987 0, length-take-le heldAt s (omega arith))
-
--- a field has room where its values have
-fits-of : (l : Line) (h : Held) → ((vs : List ℕ) → h ≡ some vs → length vs ≤ l .room) → Fits l h
-fits-of l none k = tt
-fits-of l (some vs) k = k vs refl
 
 -- the words of a new set that broke no rule are as many as they should be, whatever the object's bytes are
 module _ (t : Track) (delta : Bool) (r : List ℕ) (says : Says) (words : length r ≡ setLen) (good : delta ≡ true → lawfulSet t r ≡ true)

@@ -1,13 +1,11 @@
 -- What each return of the calls on a share shows. Assumes nothing.
 use Prim.Native.Nat.{ℕ, _-_, _≤_}
 use native.Mathlib.Omega.{arith}
-use mathlib.Core.Path.{_≡_, refl, sym, _∙_, ap}
-use mathlib.Core.Bool.{Bool, true, false, not, cond}
+use mathlib.Core.Path.{_≡_, _∙_, ap}
+use mathlib.Core.Bool.{true, false, not}
 use mathlib.Core.List.{List, [], _∷_, _++_, append-nil}
 use borrow.Author.Tests.{eq-eqb, ne-eqb}
 use lib.ListN.{length, getD, take, drop, replicate, drop-of-length-le}
-use Rattle.laws.specs.Ladder.{ladder}
-use Rattle.laws.specs.Tests.{allZero}
 use Rattle.laws.proofs.LadderLaws.{broken, passed, top}
 use Rattle.laws.proofs.ListLaws.{drop-replicate}
 use Rattle.laws.proofs.StoreLaws.{cleared}
@@ -16,7 +14,7 @@ use Rattle.track.specs.declared.Asked.{Asked}
 use Rattle.track.specs.Track.{lawful as lawfulTrack}
 use Rattle.slots.specs.declared.share.Side.{Side}
 use Rattle.slots.specs.Share.{trackAt, acceptedAt, heldAt, shareLen, paramWords, isOpen, lawful, fresh, opened, dropped}
-use Rattle.slots.specs.Table.{Out, out, onShare}
+use Rattle.slots.specs.Table.{out, onShare}
 use Rattle.slots.specs.Calls.{opening, closing, grouping}
 
 -- by its first word a share is open, or isn't

@@ -1,17 +1,15 @@
 -- The calls keep the share's length and its lawfulness, each gives its numbers exactly when its rule says, and does what 01 says. Assumes nothing.
-use Prim.Native.Nat.{ℕ, _+_, _-_, _*_, _<_, _≤_}
+use Prim.Native.Nat.{ℕ, _+_, _-_, _*_, _<_}
 use native.Mathlib.Omega.{arith}
 use mathlib.Core.Path.{_≡_, refl, sym, _∙_, ap, subst}
-use mathlib.Core.Logic.{_⊎_, inl, inr}
-use mathlib.Core.Bool.{Bool, true, false, not, cond, false≢true}
-use mathlib.Core.List.{List, [], _∷_, _++_}
+use mathlib.Core.Bool.{true, false}
+use mathlib.Core.List.{List, _++_}
 use borrow.Author.Tests.{eq-eqb, ne-eqb, not-true}
 use native.Mathlib.Nat.{add-zero}
-use lib.Dec.{eqb, leb}
+use lib.Dec.{eqb}
 use lib.ListN.{length, getD, take, drop, replicate, length-append, length-replicate, List·getD-append}
 use lib.Seq.{length-take-le, getD-take, getD-append-add, drop-append-add}
-use Rattle.laws.specs.Gate.{gate}
-use Rattle.laws.specs.Ladder.{Rung, _else_, ladder, Given}
+use Rattle.laws.specs.Ladder.{Rung, ladder, Given}
 use Rattle.laws.specs.Tests.{_and_, allZero}
 use Rattle.laws.proofs.LadderLaws.{given, numberOf, climbs, ladder-append, ladder-seen}
 use Rattle.laws.proofs.ListLaws.{drop-replicate, take-replicate}
@@ -22,7 +20,7 @@ use Rattle.track.specs.Track.{lawful as lawfulTrack}
 use Rattle.track.proofs.TrackLaws.{id-from-one}
 use Rattle.slots.specs.declared.share.Side.{Side}
 use Rattle.slots.specs.declared.share.Side.the-variants.{Encoder, Receiver}
-use Rattle.slots.specs.Share.{shareLen, trackAt, acceptedAt, heldAt, prftAt, askedOf, trackOf, isOpen, acceptedOk, referenceOk, openOk, lawful, fresh, opened, dropped, paramWords, asked}
+use Rattle.slots.specs.Share.{shareLen, trackAt, acceptedAt, heldAt, askedOf, trackOf, isOpen, acceptedOk, referenceOk, openOk, lawful, fresh, opened, dropped, paramWords, asked}
 use Rattle.slots.specs.Table.{Out, out, itself, tableLen, shareAt, tableRungs, onShare, onTable}
 use Rattle.slots.specs.Calls.{openRungs, openedRungs, opening, closing, grouping}
 use Rattle.slots.specs.Laws.{Keeps, StaysLawful, FreshLawful, OpenExactly, CloseExactly, GroupExactly, OpenStores, CloseZeroes, GroupDrops, RefusalKeeps}
@@ -36,7 +34,7 @@ opened-long a = omega (arith, length-append (paramWords a) (replicate 988 0), le
 fresh-long : length fresh ≡ shareLen
 fresh-long = length-replicate {A = ℕ} shareLen 0
 
-dropped-long : (s : List ℕ) → length s ≡ shareLen → length (dropped s) ≡ shareLen
+pub dropped-long : (s : List ℕ) → length s ≡ shareLen → length (dropped s) ≡ shareLen
 unfolding dropped
 dropped-long s l =
     omega (arith, length-append (take heldAt s) (replicate 987 0), length-replicate {A = ℕ} 987 0, length-take-le heldAt s (omega arith))

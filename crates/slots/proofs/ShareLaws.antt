@@ -1,8 +1,8 @@
 -- What the tests of a share's words come to. Assumes nothing.
-use Prim.Native.Nat.{ℕ, _+_, _-_, _≤_}
+use Prim.Native.Nat.{ℕ, _+_, _-_}
 use native.Mathlib.Omega.{arith}
-use mathlib.Core.Path.{_≡_, refl, sym, _∙_, ap}
-use mathlib.Core.Bool.{Bool, true, false, not, cond, _&&_, _||_}
+use mathlib.Core.Path.{_≡_, sym, _∙_, ap}
+use mathlib.Core.Bool.{Bool, true, false, _&&_, _||_}
 use mathlib.Core.List.{List, [], _∷_, _++_}
 use borrow.Author.Tests.{eq-eqb, ne-eqb}
 use borrow.Rule.Slice.PartAt.{part-to-end}
@@ -10,11 +10,10 @@ use lib.Dec.{eqb, leb}
 use lib.ListN.{length, getD, take, drop}
 use lib.Seq.{sets, sets-eq, slice}
 use Rattle.laws.specs.Tests.{_and_, allZero, allBits}
-use Rattle.laws.proofs.TestLaws.{bits-zero, and-is}
+use Rattle.laws.proofs.TestLaws.{bits-zero}
 use Rattle.laws.proofs.SliceLaws.{slice-to-end}
 use Rattle.track.specs.declared.Asked.{Asked}
 use Rattle.track.specs.declared.Track.{Track}
-use Rattle.track.specs.Track.{narrow}
 use Rattle.track.specs.Track.{lawful as lawfulTrack}
 use Rattle.fieldset.specs.Lawful.{lawful as lawfulSet}
 use Rattle.slots.specs.declared.share.Side.{Side}
