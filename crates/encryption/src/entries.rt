@@ -9,7 +9,7 @@ ghost use Rattle.encryption.specs.Entries.{entriesOf, pairsAt, mapLength
 use shape::parts;
 use shape::parts::Part;
 use track::Track;
-use tree::fields;
+use tree::numbers;
 
 // The entries of a `senc`: whether they have subsamples, how many they are, the bytes of an IV, and where the first stands.
 pub struct Entries {
@@ -32,8 +32,8 @@ pub fn entries_of(t: Track, c: &[u8], b: Part) -> Entries
     ensures { λ r. ⌜ (r ≡ entriesOf t (now (c .entry)) b) × ((r .count < 2 ^ 32) × (r .iv < 2 ^ 8)) ⌝ }
 {
     Entries {
-        map: fields::u32_at(c, b.at + 8) == 2,
-        count: fields::u32_at(c, b.at + 12),
+        map: numbers::u32_at(c, b.at + 8) == 2,
+        count: numbers::u32_at(c, b.at + 12),
         iv: t.iv_size as usize,
         at: b.at + 16,
     }
@@ -47,7 +47,7 @@ pub fn pairs_at(c: &[u8], e: Entries, at: usize) -> usize
     if !e.map {
         return 0;
     }
-    fields::u16_at(c, at + e.iv) as usize
+    numbers::u16_at(c, at + e.iv) as usize
 }
 
 // The bytes of an entry after its IV, if it has so many subsamples.
@@ -101,7 +101,7 @@ fn senc_filled(t: Track, c: &[u8], b: Part) -> Filled
     if e.map {
         return walk_entries(c, e, parts::end_of(b));
     }
-    if fields::u32_at(c, b.at + 8) != 0 {
+    if numbers::u32_at(c, b.at + 8) != 0 {
         return Filled::Wrong;
     }
     if b.len as u64 != 16 + e.iv as u64 * e.count {
@@ -134,7 +134,7 @@ pub fn senc_count(c: &[u8], b: Part) -> u64
     if b.len < 16 {
         return 0;
     }
-    fields::u32_at(c, b.at + 12)
+    numbers::u32_at(c, b.at + 12)
 }
 
 // How many subsamples it has.

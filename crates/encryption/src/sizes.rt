@@ -5,7 +5,7 @@ ghost use Prim.Native.Nat.{_≤_, _<_, _^_};
 ghost use Rattle.shape.specs.Parts.{Inside};
 ghost use Rattle.encryption.specs.Sizes.{saizOk, saizCount, infoSize, saioOk, leadsTo};
 use shape::parts::Part;
-use tree::fields;
+use tree::numbers;
 
 // ---- saiz
 
@@ -17,9 +17,9 @@ pub fn saiz_ok(c: &[u8], b: Part) -> bool
     if b.len < 17 {
         return b.len == 0;
     }
-    let bare = fields::u32_at(c, b.at + 8) == 0;
-    let count = fields::u32_at(c, b.at + 13);
-    if fields::u8_at(c, b.at + 12) == 0 {
+    let bare = numbers::u32_at(c, b.at + 8) == 0;
+    let count = numbers::u32_at(c, b.at + 13);
+    if numbers::u8_at(c, b.at + 12) == 0 {
         return bare & (b.len as u64 == 17 + count);
     }
     bare & (b.len == 17)
@@ -33,7 +33,7 @@ pub fn saiz_count(c: &[u8], b: Part) -> u64
     if b.len < 17 {
         return 0;
     }
-    fields::u32_at(c, b.at + 13)
+    numbers::u32_at(c, b.at + 13)
 }
 
 // What the `saiz` says of a sample.
@@ -42,11 +42,11 @@ pub fn info_size(c: &[u8], b: Part, i: usize) -> u64
     requires { ⌜ (saizOk (now c) b ≡ true) × (i < saizCount (now c) b) ⌝ }
     ensures { λ r. ⌜ (r ≡ infoSize (now (c .entry)) b i) × (r < 2 ^ 8) ⌝ }
 {
-    let default = fields::u8_at(c, b.at + 12);
+    let default = numbers::u8_at(c, b.at + 12);
     if default != 0 {
         return default;
     }
-    fields::u8_at(c, b.at + 17 + i)
+    numbers::u8_at(c, b.at + 17 + i)
 }
 
 // ---- saio
@@ -59,8 +59,8 @@ pub fn saio_ok(c: &[u8], b: Part) -> bool
     if b.len < 16 {
         return b.len == 0;
     }
-    let count = fields::u32_at(c, b.at + 12);
-    (fields::u32_at(c, b.at + 8) == 0) & (b.len as u64 == 16 + 4 * count)
+    let count = numbers::u32_at(c, b.at + 12);
+    (numbers::u32_at(c, b.at + 8) == 0) & (b.len as u64 == 16 + 4 * count)
 }
 
 // Whether its one offset leads from the start of the `moof` to the place.
@@ -71,5 +71,5 @@ pub fn leads_to(c: &[u8], b: Part, moof: Part, at: usize) -> bool
     if b.len != 20 {
         return false;
     }
-    fields::u32_at(c, b.at + 16) == (at - moof.at) as u64
+    numbers::u32_at(c, b.at + 16) == (at - moof.at) as u64
 }

@@ -8,7 +8,7 @@ use crate::words::bit;
 use media::flags::SampleFlags;
 use shape::parts::Part;
 use track::Track;
-use tree::fields;
+use tree::numbers;
 
 // What the samples have where the `trun` has no column for it: the `tfhd`'s, and where it has none either, the track's. So a field that the
 // `tfhd` doesn't have can't differ from the track's.
@@ -35,7 +35,7 @@ pub fn tfhd_ok(c: &[u8], b: Part) -> bool
     if b.len < 16 {
         return false;
     }
-    let word = fields::u32_at(c, b.at + 8);
+    let word = numbers::u32_at(c, b.at + 8);
     let own = 0x2 * bit(word, 0x2)
         + (0x8 * bit(word, 0x8) + (0x10 * bit(word, 0x10) + 0x20 * bit(word, 0x20)));
     (word == 0x2_0000 + own) & (b.len as u64 == 16 + 4 * fields_in(word))
@@ -49,12 +49,12 @@ fn field_of(c: &[u8], b: Part, flag: u64, other: u64) -> u64
     requires { ⌜ other < 2 ^ 32 ⌝ }
     ensures { λ r. ⌜ (r ≡ fieldOf (now (c .entry)) b flag other) × (r < 2 ^ 32) ⌝ }
 {
-    let word = fields::u32_at(c, b.at + 8);
+    let word = numbers::u32_at(c, b.at + 8);
     if bit(word, flag) == 0 {
         return other;
     }
     let before = fields_in(word % flag) as usize;
-    fields::u32_at(c, b.at + 16 + 4 * before)
+    numbers::u32_at(c, b.at + 16 + 4 * before)
 }
 
 pub fn defaults_of(t: Track, c: &[u8], b: Part) -> Defaults
@@ -64,7 +64,7 @@ pub fn defaults_of(t: Track, c: &[u8], b: Part) -> Defaults
 {
     let own = SampleFlags::of_five(t.flags as u64);
     Defaults {
-        track: fields::u32_at(c, b.at + 12),
+        track: numbers::u32_at(c, b.at + 12),
         description: field_of(c, b, 0x2, t.description as u64),
         duration: field_of(c, b, 0x8, t.duration as u64),
         size: field_of(c, b, 0x10, t.size as u64),

@@ -4,7 +4,7 @@ ghost use mathlib.Core.Bool.{true};
 ghost use Rattle.shape.specs.Parts.{Inside};
 ghost use Rattle.fragment.specs.Headers.{mfhdOk, tfdtOk, bmdtOf};
 use shape::parts::Part;
-use tree::fields;
+use tree::numbers;
 
 // Version 0, flags 0, any sequence number.
 pub fn mfhd_ok(c: &[u8], b: Part) -> bool
@@ -14,7 +14,7 @@ pub fn mfhd_ok(c: &[u8], b: Part) -> bool
     if b.len != 16 {
         return false;
     }
-    fields::u32_at(c, b.at + 8) == 0
+    numbers::u32_at(c, b.at + 8) == 0
 }
 
 // Version 0 with 32 bits or version 1 with 64, flags 0.
@@ -25,7 +25,7 @@ pub fn tfdt_ok(c: &[u8], b: Part) -> bool
     if b.len < 16 {
         return false;
     }
-    let word = fields::u32_at(c, b.at + 8);
+    let word = numbers::u32_at(c, b.at + 8);
     ((b.len == 16) & (word == 0)) | ((b.len == 20) & (word == 0x100_0000))
 }
 
@@ -34,8 +34,8 @@ pub fn bmdt_of(c: &[u8], b: Part) -> u64
     requires { ⌜ tfdtOk (now c) b ≡ true ⌝ }
     ensures { λ r. ⌜ r ≡ bmdtOf (now (c .entry)) b ⌝ }
 {
-    if fields::u32_at(c, b.at + 8) == 0 {
-        return fields::u32_at(c, b.at + 12);
+    if numbers::u32_at(c, b.at + 8) == 0 {
+        return numbers::u32_at(c, b.at + 12);
     }
-    fields::u64_at(c, b.at + 12)
+    numbers::u64_at(c, b.at + 12)
 }

@@ -7,7 +7,7 @@ ghost use Rattle.fragment.specs.Rows.{columnsIn, runFlagsOk, runHead, ru
 ghost use Rattle.fragment.specs.Rows.{dataOffset, firstFlags, isColumn, hasColumn, cell, sizeAt};
 use crate::words::bit;
 use shape::parts::Part;
-use tree::fields;
+use tree::numbers;
 
 // A `trun`: version and flags as one word, the samples, where the first row stands, and the bytes of a row.
 pub struct Run {
@@ -70,8 +70,8 @@ pub fn trun_ok(c: &[u8], b: Part) -> bool
     if b.len < 20 {
         return false;
     }
-    let word = fields::u32_at(c, b.at + 8);
-    let count = fields::u32_at(c, b.at + 12);
+    let word = numbers::u32_at(c, b.at + 8);
+    let count = numbers::u32_at(c, b.at + 12);
     run_flags_ok(word) & (b.len as u64 == run_head(word) + run_width(word) * count)
 }
 
@@ -80,10 +80,10 @@ pub fn run_of(c: &[u8], b: Part) -> Run
     requires { ⌜ trunOk (now c) b ≡ true ⌝ }
     ensures { λ r. ⌜ (r ≡ runOf (now (c .entry)) b) × (r .count < 2 ^ 32) ⌝ }
 {
-    let word = fields::u32_at(c, b.at + 8);
+    let word = numbers::u32_at(c, b.at + 8);
     Run {
         word,
-        count: fields::u32_at(c, b.at + 12),
+        count: numbers::u32_at(c, b.at + 12),
         rows: b.at + run_head(word) as usize,
         width: run_width(word) as usize,
     }
@@ -95,7 +95,7 @@ pub fn data_offset(c: &[u8], b: Part) -> u64
     requires { ⌜ trunOk (now c) b ≡ true ⌝ }
     ensures { λ r. ⌜ (r ≡ dataOffset (now (c .entry)) b) × (r < 2 ^ 32) ⌝ }
 {
-    fields::u32_at(c, b.at + 16)
+    numbers::u32_at(c, b.at + 16)
 }
 
 // The first sample's flags; none set where they don't stand.
@@ -104,11 +104,11 @@ pub fn first_flags(c: &[u8], b: Part) -> u64
     requires { ⌜ trunOk (now c) b ≡ true ⌝ }
     ensures { λ r. ⌜ (r ≡ firstFlags (now (c .entry)) b) × (r < 2 ^ 32) ⌝ }
 {
-    let word = fields::u32_at(c, b.at + 8);
+    let word = numbers::u32_at(c, b.at + 8);
     if bit(word, FIRST) == 0 {
         return 0;
     }
-    fields::u32_at(c, b.at + 20)
+    numbers::u32_at(c, b.at + 20)
 }
 
 pub fn has(r: Run, column: u64) -> bool
@@ -127,7 +127,7 @@ pub fn cell(c: &[u8], r: Run, column: u64, i: usize) -> u64
     ensures { λ v. ⌜ (v ≡ cell (now (c .entry)) r column i) × (v < 2 ^ 32) ⌝ }
 {
     let before = columns_in(r.word % column) as usize;
-    fields::u32_at(c, r.rows + r.width * i + 4 * before)
+    numbers::u32_at(c, r.rows + r.width * i + 4 * before)
 }
 
 // The size of a sample.

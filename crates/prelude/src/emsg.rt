@@ -10,7 +10,7 @@ use boxes::kinds;
 use shape::parts::Part;
 use shape::parts::box_at;
 use shape::parts::end_of;
-use tree::fields;
+use tree::numbers;
 
 // The place of the first zero byte from a place on, before another; where there is none, the other, or the place itself if that is past it.
 fn zero_from(c: &[u8], from: usize, to: usize) -> usize
@@ -38,7 +38,7 @@ fn emsg_ok(c: &[u8], b: Part) -> bool
     let end = end_of(b);
     let scheme = zero_from(c, b.at + 32, end);
     let value = zero_from(c, scheme + 1, end);
-    (value < end) & (fields::u32_at(c, b.at + 8) == 0x100_0000)
+    (value < end) & (numbers::u32_at(c, b.at + 8) == 0x100_0000)
 }
 
 // Whether each of the k `emsg` boxes from the place on is as it must be.
@@ -85,10 +85,10 @@ fn keep_event(c: &[u8], b: Part, events: &mut [u64], at: usize)
         (scheme - from) as u64,
         (scheme + 1) as u64,
         (value - (scheme + 1)) as u64,
-        fields::u32_at(c, b.at + 12),
-        fields::u64_at(c, b.at + 16),
-        fields::u32_at(c, b.at + 24),
-        fields::u32_at(c, b.at + 28),
+        numbers::u32_at(c, b.at + 12),
+        numbers::u64_at(c, b.at + 16),
+        numbers::u32_at(c, b.at + 24),
+        numbers::u32_at(c, b.at + 28),
         (value + 1) as u64,
         (end - (value + 1)) as u64,
     ];

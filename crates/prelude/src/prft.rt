@@ -6,7 +6,7 @@ ghost use Rattle.shape.specs.Parts.{Inside};
 ghost use Rattle.prelude.specs.Prft.{prftOk, mediaTime, prftOf, prftTrack};
 use chunk::outer::Prft;
 use shape::parts::Part;
-use tree::fields;
+use tree::numbers;
 
 // Version 0 with a media time of 32 bits, or version 1 with one of 64; any flags; or no box.
 pub fn prft_ok(c: &[u8], b: Part) -> bool
@@ -16,7 +16,7 @@ pub fn prft_ok(c: &[u8], b: Part) -> bool
     if b.len < 28 {
         return b.len == 0;
     }
-    let version = fields::u32_at(c, b.at + 8) / 0x100_0000;
+    let version = numbers::u32_at(c, b.at + 8) / 0x100_0000;
     ((version == 0) & (b.len == 28)) | ((version == 1) & (b.len == 32))
 }
 
@@ -26,11 +26,11 @@ fn media_time(c: &[u8], b: Part) -> u64
     requires { ⌜ (prftOk (now c) b ≡ true) × (0 < b .len) ⌝ }
     ensures { λ r. ⌜ r ≡ mediaTime (now (c .entry)) b ⌝ }
 {
-    let version = fields::u32_at(c, b.at + 8) / 0x100_0000;
+    let version = numbers::u32_at(c, b.at + 8) / 0x100_0000;
     if version == 0 {
-        return fields::u32_at(c, b.at + 24);
+        return numbers::u32_at(c, b.at + 24);
     }
-    fields::u64_at(c, b.at + 24)
+    numbers::u64_at(c, b.at + 24)
 }
 
 pub fn prft_of(c: &[u8], b: Part) -> Prft
@@ -47,8 +47,8 @@ pub fn prft_of(c: &[u8], b: Part) -> Prft
             flags: 0,
         };
     }
-    let word = fields::u32_at(c, b.at + 8);
-    let ntp = fields::u64_at(c, b.at + 16);
+    let word = numbers::u32_at(c, b.at + 8);
+    let ntp = numbers::u64_at(c, b.at + 16);
     let media = media_time(c, b);
     Prft {
         stands: true,
@@ -68,5 +68,5 @@ pub fn prft_track(c: &[u8], b: Part, ours: u64) -> u64
     if b.len == 0 {
         return ours;
     }
-    fields::u32_at(c, b.at + 12)
+    numbers::u32_at(c, b.at + 12)
 }

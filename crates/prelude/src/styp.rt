@@ -3,7 +3,7 @@ ghost use mathlib.Core.Path.{_≡_};
 ghost use Rattle.shape.specs.Parts.{Inside};
 ghost use Rattle.prelude.specs.Styp.{stypOk, brandsIn, minorVersion};
 use shape::parts::Part;
-use tree::fields;
+use tree::numbers;
 
 // A major brand, a minor version and whole compatible brands; or no box.
 pub fn styp_ok(b: Part) -> bool
@@ -29,5 +29,5 @@ pub fn minor_version(c: &[u8], b: Part) -> u64
     if b.len < 16 {
         return 0;
     }
-    fields::u32_at(c, b.at + 12)
+    numbers::u32_at(c, b.at + 12)
 }

@@ -1,4 +1,4 @@
-pub mod FieldLaws
+pub mod NumberLaws
 pub mod WholeLaws
 pub mod FillLaws
 pub mod HeadLaws

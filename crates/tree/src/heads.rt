@@ -4,7 +4,7 @@ ghost use Prim.Native.Nat.{_≤_};
 ghost use lib.ListN.{length, drop};
 ghost use Rattle.tree.specs.Whole.{container};
 ghost use Rattle.tree.specs.Heads.{headOf};
-use crate::fields;
+use crate::numbers;
 use boxes::kinds;
 
 // A box that stands in its list in full, by its size and its type; or bytes that are no such box.
@@ -22,14 +22,14 @@ pub fn head_at(b: &[u8], at: usize) -> Head
     if left < 8 {
         return Head::Broken;
     }
-    let size = fields::u32_at(b, at) as usize;
+    let size = numbers::u32_at(b, at) as usize;
     if size < 8 {
         return Head::Broken;
     }
     if left < size {
         return Head::Broken;
     }
-    Head::Stands(size, fields::u32_at(b, at + 4))
+    Head::Stands(size, numbers::u32_at(b, at + 4))
 }
 
 // Whether a list of boxes stands inside a box of this type.

@@ -4,9 +4,9 @@ ghost use mathlib.Core.Path.{_≡_};
 ghost use Prim.Native.Nat.{_≤_};
 ghost use lib.ListN.{length};
 ghost use Rattle.tree.specs.Whole.{whole, wholeBox};
-use crate::fields;
 use crate::heads;
 use crate::heads::Head;
+use crate::numbers;
 use crate::walk;
 
 // The deepest nesting that is checked by calls. A chunk that is accepted has a `traf` in a `moof` and no more.
@@ -43,7 +43,7 @@ fn box_whole(b: &[u8], budget: usize) -> bool
     requires { ⌜ 4 ≤ length (now b) ⌝ }
     ensures { λ r. ⌜ r ≡ wholeBox (now (b .entry)) ⌝ }
 {
-    let kind = fields::u32_at(b, 0);
+    let kind = numbers::u32_at(b, 0);
     if !heads::is_container(kind) {
         return true;
     }

@@ -11,7 +11,7 @@ use Rattle.laws.proofs.GateLaws.{failed, held}
 use Rattle.tree.specs.Whole.{whole}
 use Rattle.tree.proofs.HeadLaws.{HeadAt, head-at}
 use Rattle.tree.proofs.PlaceLaws.{Passed, passed-none, passed-all, passed-broken, whole-boxwise, box-off, box-on, box-leaf, box-list}
-use Rattle.tree.proofs.fields.u32_at.Reads as u32-at-reads
+use Rattle.tree.proofs.numbers.u32_at.Reads as u32-at-reads
 use Rattle.tree.proofs.heads.head_at.Reads as head-at-reads
 use Rattle.tree.proofs.heads.is_container.Reads as is-container-reads
 use Rattle.tree.proofs.walk.walk_whole.Reads as walk-whole-reads

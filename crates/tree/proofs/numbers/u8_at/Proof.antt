@@ -1,9 +1,9 @@
--- `tree::fields::u8_at` meets its contract, by one byte. Assumes nothing.
+-- `tree::numbers::u8_at` meets its contract, by one byte. Assumes nothing.
 use native.Mathlib.Omega.{arith}
 use borrow.Author.Needs.{needs}
-use Rattle.tree.proofs.FieldLaws.{de-one}
-use Rattle.tree.proofs.fields.u8_at.Statement.{statement}
-use Rattle.tree.proofs.fields.u8_at.Tie as tie
+use Rattle.tree.proofs.NumberLaws.{de-one}
+use Rattle.tree.proofs.numbers.u8_at.Statement.{statement}
+use Rattle.tree.proofs.numbers.u8_at.Tie as tie
 
 shared-slice-read-result : tie.Need-shared-slice-read-result
 shared-slice-read-result c = search needs

@@ -1,9 +1,9 @@
--- `tree::fields::u64_at` meets its contract, by the two halves of a number. Assumes nothing.
+-- `tree::numbers::u64_at` meets its contract, by the two halves of a number. Assumes nothing.
 use native.Mathlib.Omega.{arith}
 use borrow.Author.Needs.{needs}
-use Rattle.tree.proofs.FieldLaws.{de-halves}
-use Rattle.tree.proofs.fields.u64_at.Statement.{statement}
-use Rattle.tree.proofs.fields.u64_at.Tie as tie
+use Rattle.tree.proofs.NumberLaws.{de-halves}
+use Rattle.tree.proofs.numbers.u64_at.Statement.{statement}
+use Rattle.tree.proofs.numbers.u64_at.Tie as tie
 
 u32-at-requires : tie.Need-u32-at-requires
 u32-at-requires c κs = search needs

@@ -1,9 +1,9 @@
--- `tree::fields::u32_at` meets its contract, by the two halves of a number. Assumes nothing.
+-- `tree::numbers::u32_at` meets its contract, by the two halves of a number. Assumes nothing.
 use native.Mathlib.Omega.{arith}
 use borrow.Author.Needs.{needs}
-use Rattle.tree.proofs.FieldLaws.{de-halves}
-use Rattle.tree.proofs.fields.u32_at.Statement.{statement}
-use Rattle.tree.proofs.fields.u32_at.Tie as tie
+use Rattle.tree.proofs.NumberLaws.{de-halves}
+use Rattle.tree.proofs.numbers.u32_at.Statement.{statement}
+use Rattle.tree.proofs.numbers.u32_at.Tie as tie
 
 u16-at-requires : tie.Need-u16-at-requires
 u16-at-requires c κs = search needs
