@@ -45,7 +45,7 @@ def whole(header, block, payload=b""):
     return varint(header) + varint(len(block)) + block + payload
 
 
-class Session:
+class Conversation:
     """Asks the oracle, and collects the commands and the lines that are expected."""
 
     def __init__(self, oracle):
@@ -270,7 +270,7 @@ def by_chance(s, count):
 
 
 def main():
-    s = Session(sys.argv[1:])
+    s = Conversation(sys.argv[1:])
     s.ask("new")
     examples(s)
     by_chance(s, 600)
