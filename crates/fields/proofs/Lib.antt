@@ -5,3 +5,4 @@ pub mod SaidLaws
 pub mod TakeLaws
 pub mod MarkedLaws
 pub mod RoomLaws
+pub mod SetLaws

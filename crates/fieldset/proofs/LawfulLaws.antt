@@ -252,6 +252,13 @@ lawful-facts t w e =
       iv-size = right _ _ e₆;
     }
 
+-- lawful words, from all that is asked of them
+pub lawful-all : (t : Track) (w : List ℕ) → Lawful t w → lawful t w ≡ true
+unfolding lawful
+lawful-all t w h =
+    both _ _ (le-leb _ _ (h .count)) (both _ _ (h .saiz) (both _ _ (le-leb _ _ (h .bmdt)) (both _ _ (le-leb _ _ (h .subsamples))
+    (both _ _ (h .regions) (both _ _ (h .rules) (h .iv-size))))))
+
 -- lawful words, region by region
 pub lawful-region : (t : Track) (w : List ℕ) (i : ℕ) → lawful t w ≡ true → i < 14 → Region (measureOf t w) (getD lines i spare) w
 lawful-region t w i e h = region-facts _ _ w (region-at (measureOf t w) w i (lawful-facts t w e .regions) h)

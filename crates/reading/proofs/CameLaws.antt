@@ -41,7 +41,8 @@ use Rattle.fields.specs.declared.cells.Cell.{Cell}
 use Rattle.fields.specs.Said.{Says, Saying, omitted, deleted, sent, unsent, saying, sayingOf, among, numbers}
 use Rattle.fields.specs.Cells.{Came, Held, well, misfit, beyond, missing, codingFor, codingOf, isIvs, packed, filledAs, stood, oldValues, carried, sentOne, sentList, cellOf}
 use Rattle.fields.specs.Cells.{came as cameWith}
-use Rattle.reading.specs.Read.{measure, wasOf, cameOf, standsBy, stands}
+use Rattle.fields.specs.Words.{measure, wasOf}
+use Rattle.reading.specs.Read.{cameOf, standsBy, stands}
 
 -- ---- what lengths go by
 

@@ -1,6 +1,5 @@
 pub mod TellingLaws
 pub mod DeletionLaws
-pub mod SetLaws
 pub mod CameLaws
 pub mod LeafLaws
 pub mod ReadableLaws

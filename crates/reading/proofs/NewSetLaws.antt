@@ -5,10 +5,10 @@ use mathlib.Core.Path.{_≡_, refl, sym, _∙_, ap}
 use mathlib.Core.Bool.{Bool, true, false, cond}
 use mathlib.Core.List.{List, [], _∷_}
 use mathlib.Core.Option.{Option, none, some}
-use borrow.Author.Tests.{leb-true, le-leb}
+use borrow.Author.Tests.{leb-true}
 use lib.ListN.{length, getD}
 use Rattle.laws.specs.Tests.{allLe, sum}
-use Rattle.laws.proofs.TestLaws.{left, right, both}
+use Rattle.laws.proofs.TestLaws.{left, right}
 use Rattle.laws.proofs.LadderLaws.{Hold}
 use Rattle.wire.specs.declared.zigzag.Coding.{Coding}
 use Rattle.wire.specs.declared.zigzag.Reached.{Reached}
@@ -23,20 +23,14 @@ use Rattle.fieldset.specs.declared.lines.Measure.{Measure}
 use Rattle.fieldset.specs.Lines.{lines, spare, lineFor, setLen, wanted, Small}
 use Rattle.fieldset.specs.Lawful.{has, valuesOf, marksOf, saizOk, setRules, sameIvSize, measureOf, lawful}
 use Rattle.fieldset.proofs.LineLaws.{every-at, line-count}
-use Rattle.fieldset.proofs.LawfulLaws.{Lawful, lawful-facts}
+use Rattle.fieldset.proofs.LawfulLaws.{Lawful, lawful-facts, lawful-all}
 use Rattle.fields.specs.Said.{Says, numbers}
 use Rattle.fields.specs.Cells.{Held, codingFor}
 use Rattle.fields.proofs.RoomLaws.{wanted-room}
-use Rattle.reading.specs.Read.{setWords, measure, wasOf, countFrom, countReached, countOf, cameOf, subsamples, came, fieldOf, stands, marks, newWords, fieldRungs, setRungs}
-use Rattle.reading.proofs.SetLaws.{eleven-for, AllFit, Keeps, Within, keeps-fits, map-same, words-start, words-count, words-marks, words-around, around-id, words-regions}
+use Rattle.fields.specs.Words.{setWords, measure, wasOf}
+use Rattle.reading.specs.Read.{countFrom, countReached, countOf, cameOf, subsamples, came, fieldOf, stands, marks, newWords, fieldRungs, setRungs}
+use Rattle.fields.proofs.SetLaws.{eleven-for, AllFit, Keeps, Within, keeps-fits, map-same, words-start, words-count, words-marks, words-around, around-id, words-regions}
 use Rattle.reading.proofs.CameLaws.{came-early, came-length, came-fits, came-stands}
-
--- lawful words, from all that is asked of them
-pub lawful-all : (t : Track) (w : List ℕ) → Lawful t w → lawful t w ≡ true
-unfolding lawful
-lawful-all t w h =
-    both _ _ (le-leb _ _ (h .count)) (both _ _ (h .saiz) (both _ _ (le-leb _ _ (h .bmdt)) (both _ _ (le-leb _ _ (h .subsamples))
-    (both _ _ (h .regions) (both _ _ (h .rules) (h .iv-size))))))
 
 -- a count that was reached is at most 64 where the old one is
 count-within : (coding : Coding) (o : Option (List ℕ)) (old : ℕ) → old ≤ 64 → onReached (countFrom coding o old) (λ n. n) 0 ≤ 64

@@ -18,9 +18,10 @@ use Rattle.fieldset.specs.Lawful.{lawful}
 use Rattle.fields.specs.Said.{Says, scalarIn, saysIn, Telling}
 use Rattle.reading.specs.declared.read.Against.{Against}
 use Rattle.reading.specs.Deletions.{MarkedAs}
-use Rattle.reading.specs.Read.{againstOf, countFrom, countReached, newWords, setWords, noFields, fieldRungs, setRungs, Readable, ReadAs}
+use Rattle.fields.specs.Words.{setWords, noFields}
+use Rattle.reading.specs.Read.{againstOf, countFrom, countReached, newWords, fieldRungs, setRungs, Readable, ReadAs}
 use Rattle.reading.proofs.TellingLaws.{scalar-says, all-marked}
-use Rattle.reading.proofs.SetLaws.{words-none}
+use Rattle.fields.proofs.SetLaws.{words-none}
 use Rattle.wire.proofs.ZigzagLaws.{reached-most}
 use Rattle.reading.proofs.ReadableLaws.{was-small}
 use Rattle.reading.proofs.RungLaws.{refused}

@@ -23,7 +23,8 @@ use Rattle.fields.specs.Cells.{codingFor, cellOf, stood, said, Spans, Takeable}
 use Rattle.fields.proofs.RoomLaws.{takeable}
 use Rattle.fields.proofs.MarkedLaws.{kinded, said-is, spans, marked-omitted, marked-deleted, marked-sent}
 use Rattle.reading.specs.declared.read.Against.{Against}
-use Rattle.reading.specs.Read.{wasOf, cameOf, standsBy, stands, wordStands, brandsIn, brandsFit, Readable, Measured}
+use Rattle.fields.specs.Words.{wasOf}
+use Rattle.reading.specs.Read.{cameOf, standsBy, stands, wordStands, brandsIn, brandsFit, Readable, Measured}
 
 -- the lengths of a lawful reference are small
 pub was-small : (t : Track) (delta : Bool) (r : List ℕ) → t .«iv_size» ≤ 16 → (delta ≡ true → lawful t r ≡ true) → Small (wasOf t delta r)

@@ -31,9 +31,10 @@ use Rattle.fields.specs.Said.{Says, numbers, saysIn}
 use Rattle.fields.specs.Cells.{Came, Held, wordsOf}
 use Rattle.fields.proofs.RoomLaws.{wanted-room}
 use Rattle.reading.specs.declared.read.Against.{Against}
-use Rattle.reading.specs.Read.{measure, storeAll, brandsFit, marksIn, marks, setWords, noFields, newWords}
+use Rattle.fields.specs.Words.{measure, storeAll, setWords, noFields}
+use Rattle.reading.specs.Read.{brandsFit, marksIn, marks, newWords}
 use Rattle.reading.specs.Read.{countReached, countOf, cameOf, subsamples, came, fieldOf, fieldRungs, Readable, Measured, TakenAll, ReadAs}
-use Rattle.reading.proofs.SetLaws.{eleven-for, Fits, AllFit, words-length, stored-words, eleven-values, parted}
+use Rattle.fields.proofs.SetLaws.{eleven-for, Fits, AllFit, words-length, stored-words, eleven-values, parted}
 use Rattle.reading.proofs.CameLaws.{came-early, late-first, second-eleven, came-length}
 use Rattle.reading.proofs.StandingLaws.{marks-said}
 

@@ -14,7 +14,8 @@ use Rattle.fieldset.specs.Lines.{every, lines, spare, setLen}
 use Rattle.fieldset.proofs.LineLaws.{line-count}
 use Rattle.fields.specs.declared.cells.Cell.{Cell}
 use Rattle.fields.specs.Cells.{Came, wordsOf, told, TakenAs}
-use Rattle.reading.specs.Read.{storeAll, TakenAll}
+use Rattle.fields.specs.Words.{storeAll}
+use Rattle.reading.specs.Read.{TakenAll}
 
 -- a test of the lines so far, and of those that are left: one line more
 rest-next : (p : Line → Bool) (from to i : ℕ) (b q : Bool) → i < to → to ≤ 14 → q ≡ p (getD lines i spare)

@@ -1,12 +1,11 @@
 -- The set of moof fields that an object gives, and what is asked of it, step by step in the order of 01.
-use Prim.Native.Nat.{ℕ, _+_, _-_, _/_, _%_, _≤_}
+use Prim.Native.Nat.{ℕ, _%_, _≤_}
 use mathlib.Core.Path.{_≡_}
 use mathlib.Core.Bool.{Bool, true, false, cond, not, _&&_, _||_}
-use mathlib.Core.List.{List, [], _∷_, _++_, map}
+use mathlib.Core.List.{List, [], _∷_, map}
 use mathlib.Core.Option.{Option, none, some}
 use lib.Dec.{eqb, leb}
-use lib.ListN.{length, getD, replicate}
-use lib.Seq.{sets}
+use lib.ListN.{length, getD}
 use Rattle.laws.specs.Tests.{_and_, sum}
 use Rattle.laws.specs.Ladder.{Rung, _else_, ladder}
 use Rattle.wire.specs.declared.form.Row.{Row}
@@ -18,41 +17,15 @@ use Rattle.track.specs.declared.Track.{Track}
 use Rattle.fieldset.specs.declared.lines.Line.{Line}
 use Rattle.fieldset.specs.declared.lines.Measure.{Measure}
 use Rattle.fieldset.specs.Lines.{lines, lineFor, every, setLen, Small}
-use Rattle.fieldset.specs.Lawful.{saizOk, setRules, sameIvSize, measureOf, lawful}
+use Rattle.fieldset.specs.Lawful.{saizOk, setRules, sameIvSize, lawful}
 use Rattle.fields.specs.declared.said.Word.{Word}
 use Rattle.fields.specs.declared.said.Word.the-variants.{Omitted, Deleted, Sent}
 use Rattle.fields.specs.declared.cells.Cell.{Cell}
 use Rattle.reading.specs.declared.read.Against.{Against}
 use Rattle.fields.specs.Said.{Says, Saying, omitted, deleted, sent, numbers, sayingOf, wordIn, saysIn, AllMarked}
 use Rattle.reading.specs.Deletions.{deletionsOk}
-use Rattle.fields.specs.Cells.{Came, Held, codingFor, cellOf, stood, wordsOf}
-
--- ---- the words of a set
-
--- a field's region: its mark, its values, and zeros up to its room
-unfoldable pub regionOf : Line → Held → List ℕ
-regionOf l none = replicate (1 + l .room) 0
-regionOf l (some vs) = 1 ∷ (vs ++ replicate (l .room - length vs) 0)
-
-unfoldable pub regionsOf : (Line → Held) → List Line → List ℕ
-regionsOf f [] = []
-regionsOf f (l ∷ ls) = regionOf l (f l) ++ regionsOf f ls
-
--- BMDT, the sample count, and the fields in the order of the table
-unfoldable pub setWords : ℕ → ℕ → (Line → Held) → List ℕ
-setWords bmdt n f = bmdt ∷ n ∷ regionsOf f lines
-
--- no field stands
-abbrev pub noFields : Line → Held
-noFields l = none
-
--- ---- what an object is read against: a delta against the reference, a full object against nothing
-
-abbrev pub measure : Track → ℕ → ℕ → Measure
-measure t n k = record { count = n; ivs = t .«iv_size» / 8; sum = k }
-
-abbrev pub wasOf : Track → Bool → List ℕ → Measure
-wasOf t delta r = cond delta (measureOf t r) (record { count = 0; ivs = 0; sum = 0 })
+use Rattle.fields.specs.Cells.{Came, Held, codingFor, cellOf, stood}
+use Rattle.fields.specs.Words.{setWords, measure, wasOf, storeAll}
 
 -- 01: "Id 14 absent means same count."
 unfoldable pub countFrom : Coding → Option (List ℕ) → ℕ → Reached
@@ -145,11 +118,6 @@ pub record Readable (F : List Row) (o index gone : List ℕ) (t : Track) (a : Ag
 pub record Measured (m : Measure) : Type 0 where
   pub small : Small m
   pub few : m .sum ≤ 256
-
--- the words x with each field of a run of lines stored at its place
-unfoldable pub storeAll : (Line → Held) → List Line → List ℕ → List ℕ
-storeAll f [] x = x
-storeAll f (l ∷ ls) x = storeAll f ls (sets x (l .place) (wordsOf (f l)))
 
 -- a run of lines was taken: what was answered, and where all is right what is stored
 pub record TakenAll (f : Line → Came) (ls : List Line) (before : List ℕ) (c : Cell) (after : List ℕ) : Type 0 where

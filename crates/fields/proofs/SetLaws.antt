@@ -22,9 +22,9 @@ use Rattle.fieldset.specs.Lawful.{has, inUse, valuesOf, marksOf, regionOk, regi
 use Rattle.fieldset.proofs.LineLaws.{tiles, tiled, line-count}
 use Rattle.fieldset.proofs.RegionLaws.{unused, used}
 use Rattle.block.specs.Entries.{isSome}
 use Rattle.fields.specs.Said.{numbers}
 use Rattle.fields.specs.Cells.{Held, wordsOf}
-use Rattle.reading.specs.Read.{regionOf, regionsOf, setWords, noFields, storeAll}
+use Rattle.fields.specs.Words.{regionOf, regionsOf, setWords, noFields, storeAll}
 
 -- a field's values have room in its region
 abbrev pub Fits : Line → Held → Type 0
@@ -163,7 +163,7 @@ store-here pre l h post e fit =
     ∙ ap (λ (z : List ℕ). pre ++ z) (sets-before (wordsOf h) (replicate (1 + l .room) 0) post 0 k ∙ ap (λ (z : List ℕ). z ++ post) (store-zeros l h fit))
 
 -- the fields of a run of lines, stored into empty regions among other words
-store-run : (f : Line → Held) (pre : List ℕ) (ls : List Line) (post : List ℕ) (end : ℕ) → tiles (length pre) ls end ≡ true → RunFits f ls
+pub store-run : (f : Line → Held) (pre : List ℕ) (ls : List Line) (post : List ℕ) (end : ℕ) → tiles (length pre) ls end ≡ true → RunFits f ls
     → storeAll f ls (pre ++ (regionsOf noFields ls ++ post)) ≡ pre ++ (regionsOf f ls ++ post)
 unfolding tiles regionsOf storeAll
 store-run f pre [] post end t h = refl
