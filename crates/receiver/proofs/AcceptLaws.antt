@@ -12,17 +12,20 @@ use Rattle.laws.proofs.LadderLaws.{broken, passed, top}
 use Rattle.laws.proofs.SliceLaws.{slice-lent}
 use Rattle.wire.specs.declared.form.Row.{Row}
 use Rattle.track.specs.declared.Track.{Track}
+use Rattle.slots.specs.declared.share.Side.the-variants.{Receiver}
 use Rattle.slots.specs.Share.{acceptedAt, u32, lawful}
 use Rattle.slots.specs.Table.{out}
 use Rattle.chunk.specs.Events.{eventsOf}
 use Rattle.chunk.specs.Front.{front}
 use Rattle.chunk.specs.Writable.{Writable}
 use Rattle.object.specs.declared.head.Place.{Place}
+use Rattle.exchange.specs.Took.{took}
+use Rattle.exchange.specs.Kept.{keptWords}
+use Rattle.exchange.proofs.OpenLaws.{opened-facts}
 use Rattle.receiver.specs.declared.judge.Judged.{Judged}
 use Rattle.receiver.specs.Object.{isDelta, blockEnd, payload}
-use Rattle.receiver.specs.Receive.{took, keptWords, track, prft, brands, newSet, sequence, chunk, accepted, refusing, done, roomRungs}
+use Rattle.receiver.specs.Receive.{track, prft, brands, newSet, sequence, chunk, accepted, refusing, done, roomRungs}
 use Rattle.receiver.specs.Judge.{Judgeable, Ready}
-use Rattle.receiver.proofs.OpenLaws.{opened-facts}
 use Rattle.receiver.proofs.JudgeLaws.{payload-long}
 
 module _ (F : List Row) (o s : List ℕ) (t : Track) (p : Place) (a : Judgeable F o s t p) where
@@ -39,7 +42,7 @@ module _ (F : List Row) (o s : List ℕ) (t : Track) (p : Place) (a : Judgeable 
   payload-is = take-all (length o - p .end) (drop (p .end) o) (omega (arith, length-drop (p .end) o)) ∙ behind-is
 
   pub count-small : getD s acceptedAt 0 ≤ u32
-  count-small = leb-true _ _ (opened-facts s (a .lawful) (a .opened) .accepted)
+  count-small = leb-true _ _ (opened-facts Receiver s (a .lawful) (a .opened) .accepted)
 
   pub sequence-is : (getD s acceptedAt 0 + 1) % 4294967296 ≡ sequence F o s
   unfolding sequence

@@ -31,10 +31,12 @@ use Rattle.object.specs.Bmdt.{bmdtOf}
 use Rattle.object.specs.Prft.{prftOf}
 use Rattle.object.specs.Values.{listed}
 use Rattle.object.proofs.ObjectLaws.{bmdt-sent, full-alone}
+use Rattle.exchange.specs.Took.{Took, refused}
+use Rattle.exchange.specs.Kept.{prftWords, keptWords}
+use Rattle.exchange.proofs.HoldLaws.{nonzero, numbered, hold-front, hold-back, agree}
 use Rattle.receiver.specs.Object.{isDelta, headRungs, tuples, reads, entries, saying, payload}
-use Rattle.receiver.specs.Receive.{Took, refused, prftWords, keptWords, reference, bmdt, prft, events, newSet, heldOk, idsRight, splitRungs, valueRungs, sequence, accepted, refusing, done, receiveRungs, receiving}
+use Rattle.receiver.specs.Receive.{reference, bmdt, prft, events, newSet, heldOk, idsRight, splitRungs, valueRungs, sequence, accepted, refusing, done, receiveRungs, receiving}
 use Rattle.receiver.specs.Laws.{FullForgets, AnyOrder}
-use Rattle.receiver.proofs.HoldLaws.{nonzero, numbered, hold-front, hold-back, agree}
 use Rattle.receiver.proofs.SaidLaws.{head-inside, one-number}
 use Rattle.receiver.proofs.SameLaws.{early, late, two-parts, Same, same-late, same-took, words-full, rules-full}
 

@@ -26,7 +26,7 @@ use Rattle.protected.proofs.ProtectableLaws.{lawful-protectable}
 use Rattle.fields.specs.Said.{Says, numbers, scalarIn}
 use Rattle.reading.specs.Read.{countOf, fieldOf, newWords, setRungs}
 use Rattle.reading.proofs.TellingLaws.{scalar-says}
-use Rattle.reading.proofs.SetLaws.{words-bmdt, words-length}
+use Rattle.fields.proofs.SetLaws.{words-bmdt, words-length}
 use Rattle.reading.proofs.NewSetLaws.{taken-facts, new-fits, new-lawful}
 use Rattle.object.specs.declared.head.Place.{Place}
 use Rattle.object.specs.declared.prft.Told.{Told}

@@ -1,5 +1,3 @@
-pub mod HoldLaws
-pub mod OpenLaws
 pub mod ShareFacts
 pub mod SaidLaws
 pub mod SplitLaws
@@ -7,11 +5,10 @@ pub mod BrandLaws
 pub mod JudgeLaws
 pub mod ClimbLaws
 pub mod HeadRungs
-pub mod KeepLaws
+pub mod RefusalLaws
 pub mod AcceptLaws
 pub mod ReceiveLaws
 pub mod PassedLaws
-pub mod AcceptedLaws
 pub mod SameLaws
 pub mod Theorems
 pub mod AlikeTheorems

@@ -15,9 +15,9 @@ use Rattle.slots.specs.declared.share.Side.the-variants.{Receiver}
 use Rattle.slots.specs.Share.{trackOf, isOpen, lawful}
 use Rattle.slots.specs.Calls.{openedRungs}
 use Rattle.reading.specs.Read.{setRungs}
+use Rattle.exchange.proofs.HoldLaws.{hold-front, hold-back}
 use Rattle.receiver.specs.Object.{isDelta, headRungs, saying}
 use Rattle.receiver.specs.Receive.{reference, bmdt, prft, valuesOk, heldOk, splitRungs, valueRungs, judgeRungs, chunk, roomRungs, receiveRungs}
-use Rattle.receiver.proofs.HoldLaws.{hold-front, hold-back}
 
 -- no rule is broken
 pub record Passed (F : List Row) (o output s : List ℕ) : Type 0 where

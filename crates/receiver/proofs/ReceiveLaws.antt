@@ -19,12 +19,13 @@ use Rattle.reading.specs.Read.{setRungs, fieldRungs}
 use Rattle.object.specs.declared.head.Place.{Place}
 use Rattle.object.specs.declared.head.Head.the-variants.{Block, Refused}
 use Rattle.object.specs.Head.{headOf}
+use Rattle.exchange.specs.Took.{Took}
+use Rattle.exchange.proofs.OpenLaws.{opened-facts}
 use Rattle.receiver.specs.declared.judge.Judged.{Judged}
 use Rattle.receiver.specs.Object.{isDelta, headRungs}
-use Rattle.receiver.specs.Receive.{Took, heldOk, splitRungs, valueRungs, judgeRungs, roomRungs, refusing, done, receiveRungs, receiving}
+use Rattle.receiver.specs.Receive.{heldOk, splitRungs, valueRungs, judgeRungs, roomRungs, refusing, done, receiveRungs, receiving}
 use Rattle.receiver.specs.Judge.{Judgeable, JudgedAs}
 use Rattle.receiver.proofs.HeadRungs.{head-stopped, head-opened}
-use Rattle.receiver.proofs.OpenLaws.{opened-facts}
 
 none-held : (d e : Bool) → (d && e) ≡ true → (not d || not e) ≡ false
 none-held true true h = refl
@@ -77,7 +78,7 @@ module _ (F : List Row) (o output s : List ℕ) where
 
     module _ (e : getD s trackAt 0 ≡ 0 → ⊥) where
       pub track-lawful : lawfulTrack (askedOf s) ≡ true
-      track-lawful = opened-facts s h (ajar s e) .track
+      track-lawful = opened-facts Receiver s h (ajar s e) .track
 
       pub received-headless : (k : ℕ) → headOf F o ≡ Refused k → refusing output s k ≡ receiving F o output s
       unfolding receiving receiveRungs

@@ -23,11 +23,13 @@ use Rattle.chunk.specs.Front.{front}
 use Rattle.fields.specs.Said.{Says, Saying, omitted, deleted, sent, numbers, sayingOf}
 use Rattle.fields.specs.Cells.{oldValues, cellOf}
 use Rattle.reading.specs.Deletions.{deletionsOk}
-use Rattle.reading.specs.Read.{setWords, measure, wasOf, countReached, countOf, cameOf, subsamples, came, brandsFit, stands, marks, newWords, fieldRungs, setRungs}
+use Rattle.fields.specs.Words.{setWords, measure, wasOf}
+use Rattle.reading.specs.Read.{countReached, countOf, cameOf, subsamples, came, brandsFit, stands, marks, newWords, fieldRungs, setRungs}
 use Rattle.object.specs.Values.{allFit, boxes}
 use Rattle.object.specs.Sums.{sizesOk, protectedOk}
+use Rattle.exchange.specs.Took.{took}
 use Rattle.receiver.specs.Object.{isDelta, headRungs, saying, payload}
-use Rattle.receiver.specs.Receive.{took, reference, bmdt, prft, events, brands, newSet, valuesOk, sumsOk, heldOk, splitRungs, valueRungs, sequence, chunk, done, roomRungs, receiveRungs}
+use Rattle.receiver.specs.Receive.{reference, bmdt, prft, events, brands, newSet, valuesOk, sumsOk, heldOk, splitRungs, valueRungs, sequence, chunk, done, roomRungs, receiveRungs}
 
 -- ---- the rungs in two parts
 

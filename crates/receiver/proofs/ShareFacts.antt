@@ -2,9 +2,9 @@
 use Prim.Native.Nat.{ℕ, _+_, _≤_}
 use native.Mathlib.Omega.{arith}
 use mathlib.Core.Path.{_≡_, refl, sym, _∙_, ap}
-use mathlib.Core.Bool.{Bool, true, false, cond, _&&_, _||_}
+use mathlib.Core.Bool.{Bool, true, false, cond, not, _&&_, _||_}
 use mathlib.Core.List.{List}
-use borrow.Author.Tests.{leb-true}
+use borrow.Author.Tests.{leb-true, not-true}
 use lib.Dec.{eqb, leb}
 use lib.ListN.{length, getD, take, drop, replicate, length-drop}
 use lib.Seq.{slice, getD-drop, getD-take, drop-drop}
@@ -19,10 +19,15 @@ use Rattle.slots.specs.declared.share.Side.the-variants.{Receiver}
 use Rattle.slots.specs.Share.{shareLen, heldAt, prftAt, ntpAt, versionAt, prftFlagsAt, mediaTimeAt, setAt, u24, u32, askedOf, trackOf, prftOk, referenceOk, isOpen, lawful}
 use Rattle.block.proofs.AnswerLaws.{blank-zeros}
 use Rattle.object.specs.Bmdt.{Timed}
+use Rattle.object.proofs.ObjectLaws.{lawful-timed, zeros-timed}
+use Rattle.exchange.proofs.OpenLaws.{Opened, opened-facts, held-facts}
 use Rattle.receiver.specs.Object.{isDelta}
 use Rattle.receiver.specs.Receive.{heldOk}
-use Rattle.object.proofs.ObjectLaws.{lawful-timed, zeros-timed}
-use Rattle.receiver.proofs.OpenLaws.{Opened, opened-facts, held-facts, delta-held}
+
+-- a reference is held where a delta is not refused for it
+pub delta-held : (F : List Row) (o s : List ℕ) → heldOk F o s ≡ true → isDelta F o ≡ true → eqb (getD s heldAt 0) 0 ≡ false
+unfolding heldOk
+delta-held F o s h d = let n : not (eqb (getD s heldAt 0) 0) ≡ true = rw d at h in not-true _ n
 
 -- a word of zeros
 zero-at : (xs : List ℕ) (i : ℕ) → allZero xs ≡ true → getD xs i 0 ≡ 0
@@ -49,8 +54,8 @@ module _ (s : List ℕ) (l : length s ≡ shareLen) where
       sym (getD-drop ntpAt (take setAt s) i 0 ∙ getD-take setAt s (ntpAt + i) 0 (omega arith)) ∙ zero-at (slice ntpAt setAt s) i e
 
   module _ (h : lawful Receiver s ≡ true) (o : isOpen s ≡ true) where
-    facts : Opened s
-    facts = opened-facts s h o
+    facts : Opened Receiver s
+    facts = opened-facts Receiver s h o
 
     -- the size of IVs
     pub iv-most : trackOf s .«iv_size» ≤ 16

@@ -20,7 +20,7 @@ use Rattle.fieldset.specs.Lawful.{lawful as lawfulSet}
 use Rattle.fields.specs.Said.{Says}
 use Rattle.fields.proofs.RoomLaws.{wanted-room}
 use Rattle.slots.specs.declared.share.Side.the-variants.{Receiver}
-use Rattle.slots.specs.Share.{shareLen, setAt, askedOf, trackOf, prftOk, lawful, dropped}
+use Rattle.slots.specs.Share.{shareLen, setAt, u32, askedOf, trackOf, acceptedOk, prftOk, lawful, dropped}
 use Rattle.slots.specs.Table.{Out, shareAt, tableRungs, onTable}
 use Rattle.slots.specs.Calls.{openedRungs}
 use Rattle.slots.specs.Laws.{after, Keeps, Apart}
@@ -28,17 +28,19 @@ use Rattle.slots.proofs.Lawful.{dropped-lawful, dropped-long}
 use Rattle.slots.proofs.Apart.{apart, others-stay}
 use Rattle.reading.specs.Read.{newWords, came, countOf, fieldOf}
 use Rattle.reading.proofs.RungLaws.{fits-of}
-use Rattle.reading.proofs.SetLaws.{AllFit, words-length}
+use Rattle.fields.proofs.SetLaws.{AllFit, words-length}
 use Rattle.reading.proofs.CameLaws.{came-length}
 use Rattle.reading.proofs.NewSetLaws.{Taken, taken-facts, count-le, lengths, new-lawful}
 use Rattle.object.proofs.ObjectLaws.{prft-lawful}
+use Rattle.exchange.specs.Took.{Took, refused}
+use Rattle.exchange.proofs.HoldLaws.{climbs-all}
+use Rattle.exchange.proofs.OpenLaws.{Opened, opened-facts, held-facts}
+use Rattle.exchange.proofs.AcceptedLaws.{Ranged, accepted-long, accepted-lawful}
 use Rattle.receiver.specs.Object.{isDelta, headRungs, saying}
-use Rattle.receiver.specs.Receive.{Took, refused, afterRefusal, reference, bmdt, prft, newSet, heldOk, judgeRungs, sequence, chunk, accepted, refusing, done, roomRungs, receiveRungs, receiving}
+use Rattle.receiver.specs.Receive.{afterRefusal, reference, bmdt, prft, newSet, heldOk, judgeRungs, sequence, chunk, accepted, refusing, done, roomRungs, receiveRungs, receiving}
 use Rattle.receiver.specs.Laws.{ReceiveExactly, ReceiveStaysLawful, Refused, ReceiveRefuses, PastStays, ReceivePast}
-use Rattle.receiver.proofs.HoldLaws.{climbs-all}
-use Rattle.receiver.proofs.OpenLaws.{Opened, opened-facts, held-facts, delta-held}
+use Rattle.receiver.proofs.ShareFacts.{delta-held}
 use Rattle.receiver.proofs.PassedLaws.{Passed, passed, value-facts}
-use Rattle.receiver.proofs.AcceptedLaws.{Ranged, accepted-long, accepted-lawful}
 use Rattle.receiver.proofs.SaidLaws.{raw-bytes}
 
 -- ---- numbers
@@ -135,8 +137,8 @@ module _ (t : Track) (delta : Bool) (r : List ℕ) (says : Says) (words : length
 
 -- what an object that broke no rule is read against
 module _ (F : List Row) (o output s : List ℕ) (l : length s ≡ shareLen) (h : Passed F o output s) where
-  opened : Opened s
-  opened = opened-facts s (h .lawful) (h .opened)
+  opened : Opened Receiver s
+  opened = opened-facts Receiver s (h .lawful) (h .opened)
 
   few-bytes : trackOf s .«iv_size» ≤ 16
   few-bytes = ranges (askedOf s) (opened .track) .iv-size
@@ -194,9 +196,9 @@ receive-beside Y refuse g k F o output i j d t =
 -- ---- lawful shares
 
 -- the count has 32 bits
-count-small : (F : List Row) (o s : List ℕ) → sequence F o s ≤ 0xffff_ffff
+count-ok : (F : List Row) (o s : List ℕ) → acceptedOk Receiver (sequence F o s) ≡ true
 unfolding sequence
-count-small F o s = omega arith
+count-ok F o s = le-leb (sequence F o s) u32 (omega arith)
 
 -- a full object's `prft` keeps its ranges
 full-ranged : (F : List Row) (o s : List ℕ) → prft F o s .ok ≡ true → isDelta F o ≡ false → Ranged (prft F o s .prft)
@@ -210,7 +212,7 @@ done-lawful F o output s b l h =
     let good : lawfulSet (trackOf s) (newSet F o s) ≡ true =
     new-lawful (trackOf s) (isDelta F o) (reference F o s) (saying F o) (h .fields) (bmdt F o s) (v .0) (few-bytes F o output s l h)
     (set-words F o output s l h) (set-good F o output s l h) (raw-bytes F o b) in
-    accepted-lawful s l (isDelta F o) (sequence F o s) (prft F o s .prft) (newSet F o s) (h .opened) (opened F o output s l h) (count-small F o s)
+    accepted-lawful s l (isDelta F o) (sequence F o s) (prft F o s .prft) (newSet F o s) Receiver (h .opened) (opened F o output s l h) (count-ok F o s)
     (prft-good F o output s l h) (full-ranged F o s (v .1)) good
 
 pub receive-stays-lawful : ReceiveStaysLawful

@@ -13,8 +13,9 @@ use Rattle.slots.specs.declared.share.Side.the-variants.{Receiver}
 use Rattle.slots.specs.Share.{shareLen, heldAt, lawful, dropped}
 use Rattle.slots.specs.Table.{Out, shareAt, tableRungs, onTable}
 use Rattle.block.specs.Entries.{Entry}
+use Rattle.exchange.specs.Took.{Took, refused}
 use Rattle.receiver.specs.Object.{isDelta, headRungs, tuples, payload}
-use Rattle.receiver.specs.Receive.{Took, refused, receiveRungs, receiving}
+use Rattle.receiver.specs.Receive.{receiveRungs, receiving}
 
 -- each number is given exactly when its rule is broken and none before it, in the order of 01
 abbrev pub ReceiveExactly : Type 0

@@ -3,8 +3,7 @@ use Prim.Native.Nat.{ℕ, _+_, _-_, _%_, _^_}
 use mathlib.Core.Bool.{Bool, cond, not, _&&_, _||_}
 use mathlib.Core.List.{List, [], _∷_, _++_}
 use lib.Dec.{eqb, leb}
-use lib.ListN.{length, getD, take, drop}
-use lib.Seq.{slice}
+use lib.ListN.{length, getD, drop}
 use Rattle.laws.specs.Tests.{_and_}
 use Rattle.laws.specs.Ladder.{Rung, _else_, ladder}
 use Rattle.wire.specs.declared.form.Row.{Row}
@@ -15,7 +14,6 @@ use Rattle.slots.specs.Table.{Out, out}
 use Rattle.slots.specs.Calls.{openedRungs}
 use Rattle.block.specs.Entries.{lawful, isSome}
 use Rattle.block.specs.Events.{Event}
-use Rattle.chunk.specs.declared.outer.Prft.{Prft}
 use Rattle.chunk.specs.Front.{front}
 use Rattle.fields.specs.Said.{numbers}
 use Rattle.reading.specs.Read.{setRungs, newWords}
@@ -25,35 +23,13 @@ use Rattle.object.specs.Bmdt.{bmdtOf}
 use Rattle.object.specs.Prft.{prftOf}
 use Rattle.object.specs.Values.{listed, allFit, boxes}
 use Rattle.object.specs.Sums.{sizesOk, protectedOk}
+use Rattle.exchange.specs.Took.{Took, took, refused}
+use Rattle.exchange.specs.Kept.{keptWords}
 use Rattle.receiver.specs.Object.{isDelta, headRungs, reads, entries, saying, payload}
-
--- what a call hands back beside the table: the number, the front's length, the payload, and the output
-pub record Took : Type 0 where
-  pub number : ℕ
-  pub front : ℕ
-  pub payload : List ℕ
-  pub output : List ℕ
-
-abbrev pub took : ℕ → ℕ → List ℕ → List ℕ → Took
-took number front payload output = record { number = number; front = front; payload = payload; output = output }
-
--- 01: "All but 0 write nothing to the output and hand back length 0 and an empty payload part"
-abbrev pub refused : List ℕ → ℕ → Took
-refused output k = took k 0 [] output
 
 -- 01: "Numbers 12 to 16 drop the slot's reference; every other refusal changes nothing"
 unfoldable pub afterRefusal : ℕ → List ℕ → List ℕ
 afterRefusal k s = cond (leb 12 k && leb k 16) (dropped s) s
-
--- the words of a `prft` that a full object leaves
-unfoldable pub prftWords : Prft → List ℕ
-prftWords p = cond (p .stands) 1 0 ∷ p .ntp ∷ p .media ∷ p .version ∷ p .flags ∷ []
-
--- the share s after an accepted object: the count, the reference, and with a full object its `prft`. 01: "The reference is the previous
--- accepted chunk's set of moof fields, .. kept with the current full's `prft`."
-unfoldable pub keptWords : Bool → ℕ → Prft → List ℕ → List ℕ → List ℕ
-keptWords delta sequence prft newSet s =
-    take acceptedAt s ++ (sequence ∷ 1 ∷ (cond delta (slice prftAt setAt s) (prftWords prft) ++ newSet))
 
 -- an object o, received on the share s
 module _ (F : List Row) (o s : List ℕ) where

@@ -1,20 +1,17 @@
 // The call: one object.
 ghost use mathlib.Core.Path.{_≡_};
 ghost use mathlib.Core.List.{_++_};
-ghost use Prim.Native.Nat.{_+_};
-ghost use lib.ListN.{length, take};
+ghost use lib.ListN.{length};
 ghost use Rattle.laws.specs.Ladder.{ladder};
 ghost use Rattle.wire.specs.Form.{rows};
 ghost use Rattle.wire.specs.declared.form.Form.the-variants.{Rfc9000};
-ghost use Rattle.fieldset.specs.Lines.{setLen};
-ghost use Rattle.slots.specs.Share.{setAt, shareLen};
+ghost use Rattle.slots.specs.Share.{shareLen};
 ghost use Rattle.slots.specs.Table.{out, onTable};
-ghost use Rattle.receiver.specs.Receive.{took, refused, afterRefusal, keptWords, judgeRungs, roomRungs, refusing, done, receiving};
+ghost use Rattle.exchange.specs.Took.{took, refused};
+ghost use Rattle.receiver.specs.Receive.{afterRefusal, judgeRungs, roomRungs, refusing, done, receiving};
 ghost use Rattle.receiver.specs.Judge.{Judgeable, Ready};
 use crate::judge;
 use crate::judge::Judged;
-use chunk::outer::Prft;
-use fieldset::lines;
 use object::head::Head;
 use object::head::Place;
 use slots::calls::TABLE;
@@ -23,35 +20,6 @@ use slots::share::SHARE;
 use slots::share::Side;
 use track::Track;
 use wire::form::Form;
-
-// The words of a set into the share.
-fn copy_set(s: &mut [u64], x: &[u64])
-    requires { ⌜ (length (now s) ≡ shareLen) × (length (now x) ≡ setLen) ⌝ }
-    ensures { λ r. ⌜ now (s .exit) ≡ take setAt (now (s .entry)) ++ now (x .entry) ⌝ }
-{
-    let mut i = 0;
-    while i < lines::SET {
-        s[share::SET + i] = x[i];
-        i += 1;
-    }
-}
-
-// The reference after an accepted object. A full object replaces all of it, its prft included.
-fn keep(s: &mut [u64], delta: bool, prft: Prft, sequence: u64, x: &[u64])
-    requires { ⌜ (length (now s) ≡ shareLen) × (length (now x) ≡ setLen) ⌝ }
-    ensures { λ r. ⌜ now (s .exit) ≡ keptWords delta sequence prft (now (x .entry)) (now (s .entry)) ⌝ }
-{
-    s[share::ACCEPTED] = sequence;
-    s[share::HELD] = 1;
-    if !delta {
-        s[share::PRFT] = if prft.stands { 1 } else { 0 };
-        s[share::NTP] = prft.ntp;
-        s[share::MEDIA_TIME] = prft.media;
-        s[share::VERSION] = prft.version;
-        s[share::PRFT_FLAGS] = prft.flags;
-    }
-    copy_set(s, x);
-}
 
 // A refusal: 12 to 16 drop the reference, every other number changes nothing.
 fn refuse<'a>(
@@ -114,7 +82,7 @@ fn accept<'a>(
         brands,
         &mut *output,
     );
-    keep(s, p.delta, prft, sequence, x);
+    exchange::keep::keep(s, p.delta, prft, sequence, x);
     *number = 0;
     *front = n as u64;
     &o[end..]

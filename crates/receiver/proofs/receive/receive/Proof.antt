@@ -3,7 +3,8 @@ use denote.Ref.{now}
 use Rattle.wire.specs.declared.form.Form.the-variants.{Rfc9000}
 use Rattle.wire.specs.Form.{rows}
 use Rattle.slots.proofs.TableLaws.{wrong-length, wrong-slot, on-share}
-use Rattle.receiver.specs.Receive.{refused, receiving}
+use Rattle.exchange.specs.Took.{refused}
+use Rattle.receiver.specs.Receive.{receiving}
 use borrow.Author.Needs.{needs}
 use Rattle.receiver.proofs.receive.receive.Statement.{statement}
 use Rattle.receiver.proofs.receive.receive.Tie as tie

@@ -1,4 +1,4 @@
--- `receiver::receive::refuse` meets its contract, by the laws of `proofs/KeepLaws.antt`. Assumes nothing.
+-- `receiver::receive::refuse` meets its contract, by the laws of `proofs/RefusalLaws.antt`. Assumes nothing.
 use Prim.Native.Nat.{ℕ}
 use mathlib.Core.Path.{_≡_, _∙_, ap}
 use mathlib.Core.Logic.{⊎-elim}
@@ -6,8 +6,9 @@ use mathlib.Core.List.{List, []}
 use lib.ListN.{length}
 use denote.Ref.{now}
 use Rattle.slots.specs.Table.{out}
-use Rattle.receiver.specs.Receive.{took, afterRefusal}
-use Rattle.receiver.proofs.KeepLaws.{refusal-drops, refusal-keeps, refusal-long}
+use Rattle.exchange.specs.Took.{took}
+use Rattle.receiver.specs.Receive.{afterRefusal}
+use Rattle.receiver.proofs.RefusalLaws.{refusal-drops, refusal-keeps, refusal-long}
 use borrow.Author.Needs.{needs}
 use Rattle.receiver.proofs.receive.refuse.Statement.{statement}
 use Rattle.receiver.proofs.receive.refuse.Tie as tie

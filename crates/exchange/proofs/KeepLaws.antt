@@ -1,21 +1,19 @@
--- The words that an accepted object leaves in a share, and those that a refusal does. Assumes nothing.
+-- The words that an accepted object leaves in a share, stored one after another. Assumes nothing.
 use Prim.Native.Nat.{ℕ, suc, _+_, _-_, _≤_, _<_}
 use native.Mathlib.Nat.{add-zero}
 use native.Mathlib.Numerals.{add-one}
 use native.Mathlib.Omega.{arith}
 use mathlib.Core.Path.{_≡_, refl, sym, _∙_, ap}
-use mathlib.Core.Bool.{Bool, true, false, cond, not, _&&_}
+use mathlib.Core.Bool.{Bool, true, false, cond, not}
 use mathlib.Core.List.{List, [], _∷_, _++_, append-assoc, append-nil}
 use borrow.Author.Tests.{not-true, not-false}
-use lib.Dec.{leb}
-use lib.ListN.{length, getD, set, take, drop, replicate, length-set, length-append, length-replicate, drop-of-length-le}
+use lib.ListN.{length, getD, set, take, drop, length-set, length-append, drop-of-length-le}
 use lib.Seq.{slice, sets, sets-eq, length-sets, length-take-le, take-all, take-suc-set, drop-cons, take-append-add, slice-empty}
 use Rattle.laws.proofs.SliceLaws.{slice-lent}
-use Rattle.laws.proofs.StoreLaws.{cleared}
 use Rattle.chunk.specs.declared.outer.Prft.{Prft}
 use Rattle.fieldset.specs.Lines.{setLen}
-use Rattle.slots.specs.Share.{acceptedAt, heldAt, prftAt, setAt, shareLen, dropped}
-use Rattle.receiver.specs.Receive.{prftWords, keptWords, afterRefusal}
+use Rattle.slots.specs.Share.{acceptedAt, prftAt, setAt, shareLen}
+use Rattle.exchange.specs.Kept.{prftWords, keptWords}
 
 -- ---- the loop of `copy_set`: i of the n words of x stand from a place on, which has n words behind it
 
@@ -123,28 +121,3 @@ module _ (delta : Bool) (p : Prft) (q : ℕ) (x s₀ : List ℕ) (l : length s�
 -- and with the set, still as many
 pub copied-long : (x s₀ s : List ℕ) → length s₀ ≡ shareLen → length x ≡ setLen → length s ≡ length s₀ → length (take setAt s ++ x) ≡ length s₀
 copied-long x s₀ s l k e = omega (arith, length-append (take setAt s) x, length-take-le setAt s (omega arith))
-
--- ---- a refusal
-
-dropped-long : (s : List ℕ) → length s ≡ shareLen → length (dropped s) ≡ length s
-unfolding dropped
-dropped-long s l = omega (arith, length-append (take heldAt s) (replicate 987 0), length-replicate {A = ℕ} 987 0, length-take-le heldAt s (omega arith))
-
-module _ (k : ℕ) (s : List ℕ) where
-  pub refusal-drops : length s ≡ shareLen → leb 12 k && leb k 16 ≡ true → cleared s heldAt shareLen ≡ afterRefusal k s
-  unfolding afterRefusal dropped
-  refusal-drops l e =
-      let z : length s ≤ shareLen = omega arith in
-      rw e (ap (λ (r : List ℕ). take heldAt s ++ r) (rw (drop-of-length-le s z) (append-nil (replicate 987 0))))
-
-  pub refusal-keeps : leb 12 k && leb k 16 ≡ false → s ≡ afterRefusal k s
-  unfolding afterRefusal
-  refusal-keeps e = rw e
-
-  pub refusal-long : length s ≡ shareLen → length (afterRefusal k s) ≡ length s
-  unfolding afterRefusal
-  refusal-long l = go (leb 12 k && leb k 16)
-    where
-      go : (b : Bool) → length (cond b (dropped s) s) ≡ length s
-      go true = dropped-long s l
-      go false = refl

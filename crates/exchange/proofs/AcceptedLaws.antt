@@ -17,11 +17,11 @@ use Rattle.track.specs.Track.{lawful as lawfulTrack}
 use Rattle.track.specs.declared.Track.{Track}
 use Rattle.fieldset.specs.Lines.{setLen}
 use Rattle.fieldset.specs.Lawful.{lawful as lawfulSet}
-use Rattle.slots.specs.declared.share.Side.the-variants.{Receiver}
+use Rattle.slots.specs.declared.share.Side.{Side}
 use Rattle.slots.specs.Share.{trackAt, acceptedAt, heldAt, prftAt, setAt, shareLen, u24, u32, asked, askedOf, trackOf, isOpen, acceptedOk, prftOk, referenceOk, openOk, lawful}
 use Rattle.chunk.specs.declared.outer.Prft.{Prft}
-use Rattle.receiver.specs.Receive.{prftWords, keptWords}
-use Rattle.receiver.proofs.OpenLaws.{Opened}
+use Rattle.exchange.specs.Kept.{prftWords, keptWords}
+use Rattle.exchange.proofs.OpenLaws.{Opened}
 
 -- ---- the words one after another
 
@@ -172,15 +172,14 @@ module _ (s : List ℕ) (l : length s ≡ shareLen) where
     accepted-reference t a b =
         rw accepted-mark (both _ _ refl (both _ _ (accepted-prft ∙ a) (ap (lawfulSet t) accepted-set ∙ b)))
 
-    -- it is lawful where the new set is, and the `prft` that is kept
-    pub accepted-lawful : isOpen s ≡ true → Opened s → n ≤ 0xffff_ffff → (delta ≡ true → prftOk s ≡ true) → (delta ≡ false → Ranged p)
-        → lawfulSet (trackOf s) w ≡ true → lawful Receiver (keptWords delta n p w s) ≡ true
+    -- it is lawful where the new set is, the count, and the `prft` that is kept
+    pub accepted-lawful : (side : Side) → isOpen s ≡ true → Opened side s → acceptedOk side n ≡ true → (delta ≡ true → prftOk s ≡ true)
+        → (delta ≡ false → Ranged p) → lawfulSet (trackOf s) w ≡ true → lawful side (keptWords delta n p w s) ≡ true
     unfolding lawful openOk isOpen
-    accepted-lawful o h m a b c =
+    accepted-lawful side o h m a b c =
         let z : eqb (getD (keptWords delta n p w s) trackAt 0) 0 ≡ false =
         ap (λ (k : ℕ). eqb k 0) (accepted-kept 0 (omega arith)) ∙ not-true _ o in
-        let count : acceptedOk Receiver (getD (keptWords delta n p w s) acceptedAt 0) ≡ true =
-        ap (acceptedOk Receiver) accepted-count ∙ le-leb n u32 m in
+        let count : acceptedOk side (getD (keptWords delta n p w s) acceptedAt 0) ≡ true = ap (acceptedOk side) accepted-count ∙ m in
         let kept : referenceOk (trackOf (keptWords delta n p w s)) (keptWords delta n p w s) ≡ true =
         ap (λ x. referenceOk (narrow x) (keptWords delta n p w s)) accepted-asked
         ∙ accepted-reference (trackOf s) (five-ok delta p a b) c in

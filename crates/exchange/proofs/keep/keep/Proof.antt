@@ -1,13 +1,13 @@
--- `receiver::receive::keep` meets its contract, by the laws of `proofs/KeepLaws.antt`. Assumes nothing.
+-- `exchange::keep::keep` meets its contract, by the laws of `proofs/KeepLaws.antt`. Assumes nothing.
 use native.Mathlib.Omega.{arith}
 use mathlib.Core.Path.{_∙_, ap}
 use mathlib.Core.Logic.{⊎-elim}
 use lib.ListN.{length, length-set}
 use denote.Ref.{now}
-use Rattle.receiver.proofs.KeepLaws.{Kept, kept-full, kept-delta, marked, unmarked, copied-long}
+use Rattle.exchange.proofs.KeepLaws.{Kept, kept-full, kept-delta, marked, unmarked, copied-long}
 use borrow.Author.Needs.{needs}
-use Rattle.receiver.proofs.receive.keep.Statement.{statement}
-use Rattle.receiver.proofs.receive.keep.Tie as tie
+use Rattle.exchange.proofs.keep.keep.Statement.{statement}
+use Rattle.exchange.proofs.keep.keep.Tie as tie
 
 -- the share where the two ways meet
 after : (c : tie.Joined1) → let a = c .before .before .before .args in Kept (a .delta) (a .prft) (a .sequence) (now (a .x)) (now (a .s)) (c .if1 .s)

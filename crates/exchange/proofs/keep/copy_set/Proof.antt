@@ -1,11 +1,11 @@
--- `receiver::receive::copy_set` meets its contract, by the laws of `proofs/KeepLaws.antt`. Assumes nothing.
+-- `exchange::keep::copy_set` meets its contract, by the laws of `proofs/KeepLaws.antt`. Assumes nothing.
 use Prim.Native.Nat.{_-_}
 use Rattle.fieldset.specs.Lines.{setLen}
 use Rattle.slots.specs.Share.{setAt}
-use Rattle.receiver.proofs.KeepLaws.{Filling, start, next, end}
+use Rattle.exchange.proofs.KeepLaws.{Filling, start, next, end}
 use borrow.Author.Needs.{needs}
-use Rattle.receiver.proofs.receive.copy_set.Statement.{statement}
-use Rattle.receiver.proofs.receive.copy_set.Tie as tie
+use Rattle.exchange.proofs.keep.copy_set.Statement.{statement}
+use Rattle.exchange.proofs.keep.copy_set.Tie as tie
 
 abbrev Inv-loop : tie.InvT-loop
 Inv-loop s₀ x i₀ s i = Filling x s₀ setAt setLen s i

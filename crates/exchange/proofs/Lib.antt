@@ -1,0 +1,4 @@
+pub mod HoldLaws
+pub mod OpenLaws
+pub mod KeepLaws
+pub mod AcceptedLaws

@@ -1,0 +1,18 @@
+-- The words of the reference that is kept in a share.
+use Prim.Native.Nat.{ℕ}
+use mathlib.Core.Bool.{Bool, cond}
+use mathlib.Core.List.{List, [], _∷_, _++_}
+use lib.ListN.{take}
+use lib.Seq.{slice}
+use Rattle.slots.specs.Share.{acceptedAt, prftAt, setAt}
+use Rattle.chunk.specs.declared.outer.Prft.{Prft}
+
+-- the words of a `prft` that a full object leaves
+unfoldable pub prftWords : Prft → List ℕ
+prftWords p = cond (p .stands) 1 0 ∷ p .ntp ∷ p .media ∷ p .version ∷ p .flags ∷ []
+
+-- the share s after an accepted object: the count, the reference, and with a full object its `prft`. 01: "The reference is the previous
+-- accepted chunk's set of moof fields, .. kept with the current full's `prft`."
+unfoldable pub keptWords : Bool → ℕ → Prft → List ℕ → List ℕ → List ℕ
+keptWords delta sequence prft newSet s =
+    take acceptedAt s ++ (sequence ∷ 1 ∷ (cond delta (slice prftAt setAt s) (prftWords prft) ++ newSet))

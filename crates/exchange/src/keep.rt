@@ -1,0 +1,39 @@
+// The reference into the share.
+ghost use mathlib.Core.Path.{_≡_};
+ghost use mathlib.Core.List.{_++_};
+ghost use lib.ListN.{length, take};
+ghost use Rattle.fieldset.specs.Lines.{setLen};
+ghost use Rattle.slots.specs.Share.{setAt, shareLen};
+ghost use Rattle.exchange.specs.Kept.{keptWords};
+use chunk::outer::Prft;
+use fieldset::lines;
+use slots::share;
+
+// The words of a set into the share.
+fn copy_set(s: &mut [u64], x: &[u64])
+    requires { ⌜ (length (now s) ≡ shareLen) × (length (now x) ≡ setLen) ⌝ }
+    ensures { λ r. ⌜ now (s .exit) ≡ take setAt (now (s .entry)) ++ now (x .entry) ⌝ }
+{
+    let mut i = 0;
+    while i < lines::SET {
+        s[share::SET + i] = x[i];
+        i += 1;
+    }
+}
+
+// The reference after an accepted object. A full object replaces all of it, its prft included.
+pub fn keep(s: &mut [u64], delta: bool, prft: Prft, sequence: u64, x: &[u64])
+    requires { ⌜ (length (now s) ≡ shareLen) × (length (now x) ≡ setLen) ⌝ }
+    ensures { λ r. ⌜ now (s .exit) ≡ keptWords delta sequence prft (now (x .entry)) (now (s .entry)) ⌝ }
+{
+    s[share::ACCEPTED] = sequence;
+    s[share::HELD] = 1;
+    if !delta {
+        s[share::PRFT] = if prft.stands { 1 } else { 0 };
+        s[share::NTP] = prft.ntp;
+        s[share::MEDIA_TIME] = prft.media;
+        s[share::VERSION] = prft.version;
+        s[share::PRFT_FLAGS] = prft.flags;
+    }
+    copy_set(s, x);
+}
