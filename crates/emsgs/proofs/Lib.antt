@@ -1,0 +1,6 @@
+pub mod NumberLaws
+pub mod RecordLaws
+pub mod ListLaws
+pub mod SumLoop
+pub mod FitLoop
+pub mod WriteLoop

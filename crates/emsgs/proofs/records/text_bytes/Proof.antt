@@ -1,0 +1,23 @@
+-- `emsgs::records::text_bytes` meets its contract: a size and so many bytes. Assumes nothing.
+use native.Mathlib.Omega.{arith}
+use Rattle.emsgs.specs.Records.{textBytes}
+use Rattle.emsgs.proofs.NumberLaws.{size-most}
+use borrow.Author.Needs.{needs}
+use Rattle.emsgs.proofs.records.text_bytes.Statement.{statement}
+use Rattle.emsgs.proofs.records.text_bytes.Tie as tie
+
+size-requires : tie.Need-size-requires
+size-requires c κs = search needs
+
+add-result : tie.Need-add-result
+add-result c = omega (arith, c .size .ensures, size-most (c .before .args .form) (c .before .args .n), c .before .pre)
+
+returns : tie.Need-returns
+unfolding textBytes
+returns c = (
+  omega (arith, c .size .ensures),
+  omega (arith, c .size .ensures, size-most (c .before .args .form) (c .before .args .n), c .before .pre),
+)
+
+pub text-bytes-spec : {M : Type 1} → statement M
+text-bytes-spec = tie.close (tie.spec size-requires add-result returns)
