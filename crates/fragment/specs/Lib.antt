@@ -2,3 +2,4 @@ pub mod Words
 pub mod Headers
 pub mod Defaults
 pub mod Rows
+pub mod Samples
