@@ -1,0 +1,69 @@
+-- What a function says of the numbers from one on: its length, its parts, and the loop that stores it. Assumes nothing.
+use Prim.Native.Nat.{ℕ, zero, suc, _+_, _-_, _≤_, _<_}
+use native.Mathlib.Nat.{add-zero, sub-zero, not-suc-le-zero, le-of-suc-le-suc}
+use native.Mathlib.Numerals.{add-one}
+use native.Mathlib.Omega.{arith}
+use mathlib.Core.Path.{_≡_, refl, _∙_, ap}
+use mathlib.Core.List.{List, [], _∷_, map}
+use lib.ListN.{length, getD, set, take, length-set}
+use lib.Seq.{sets}
+use Rattle.fragment.specs.Samples.{eachFrom}
+
+-- one for each number
+pub each-length : (f : ℕ → ℕ) (k i : ℕ) → length (eachFrom f k i) ≡ k
+unfolding eachFrom
+each-length f zero i = refl
+each-length f (suc k) i = ap suc (each-length f k (suc i))
+
+-- the first, and those after it
+pub each-here : (f : ℕ → ℕ) (n i : ℕ) → i < n → eachFrom f (n - i) i ≡ f i ∷ eachFrom f (n - (i + 1)) (suc i)
+unfolding eachFrom
+each-here f n i h = let e : n - i ≡ suc (n - (i + 1)) = omega arith in rw e
+
+-- none is left
+pub each-none : (f : ℕ → ℕ) (n i : ℕ) → n ≤ i → eachFrom f (n - i) i ≡ []
+unfolding eachFrom
+each-none f n i h = let e : n - i ≡ 0 = omega arith in rw e
+
+-- the very first
+pub each-first : (f : ℕ → ℕ) (k : ℕ) → 0 < k → getD (eachFrom f k 0) 0 0 ≡ f 0
+unfolding eachFrom
+each-first f zero h = absurd (not-suc-le-zero h)
+each-first f (suc k) h = refl
+
+-- the values of another function on them
+pub each-map : (g f : ℕ → ℕ) (k i : ℕ) → map g (eachFrom f k i) ≡ eachFrom (λ j. g (f j)) k i
+unfolding eachFrom
+each-map g f zero i = refl
+each-map g f (suc k) i = ap (λ (l : List ℕ). g (f i) ∷ l) (each-map g f k (suc i))
+
+-- some of them from the front
+pub each-take : (f : ℕ → ℕ) (j k i : ℕ) → j ≤ k → take j (eachFrom f k i) ≡ eachFrom f j i
+unfolding eachFrom
+each-take f zero zero i h = refl
+each-take f zero (suc k) i h = refl
+each-take f (suc j) zero i h = absurd (not-suc-le-zero h)
+each-take f (suc j) (suc k) i h = ap (λ (l : List ℕ). f i ∷ l) (each-take f j k (suc i) (le-of-suc-le-suc h))
+
+-- i of n values are stored from a place on; the rest of them gives the whole
+pub record Storing (f : ℕ → ℕ) (x₀ : List ℕ) (from n : ℕ) (x : List ℕ) (i : ℕ) : Type 0 where
+  pub room : from + n ≤ length x₀
+  pub same : length x ≡ length x₀
+  pub left : sets x (from + i) (eachFrom f (n - i) i) ≡ sets x₀ from (eachFrom f n 0)
+
+module _ (f : ℕ → ℕ) (x₀ : List ℕ) (from n : ℕ) where
+  pub store-start : from + n ≤ length x₀ → Storing f x₀ from n x₀ 0
+  store-start h = record { room = h; same = refl; left = rw (add-zero, sub-zero) }
+
+  module _ (x : List ℕ) (i : ℕ) (h : Storing f x₀ from n x i) where
+    pub store-end : n ≤ i → x ≡ sets x₀ from (eachFrom f n 0)
+    store-end k = rw (each-none f n i k) at (h .left)
+
+    pub store-next : i < n → (v : ℕ) → v ≡ f i → Storing f x₀ from n (set x (from + i) v) (i + 1)
+    store-next lt v e =
+        let p : from + (i + 1) ≡ suc (from + i) = omega arith in
+        record {
+          room = h .room;
+          same = length-set x (from + i) v ∙ h .same;
+          left = rw (p, e, add-one) (rw (each-here f n i lt, add-one) at (h .left));
+        }

@@ -1,0 +1,13 @@
+pub mod CellLaws
+pub mod EachLaws
+pub mod EntryLengths
+pub mod EntryLoops
+pub mod EntryStores
+pub mod EntryWalk
+pub mod FitLaws
+pub mod MarkLaws
+pub mod ProtectionLaws
+pub mod ReadyLaws
+pub mod SizeLaws
+pub mod StoreTwice
+pub mod StoredLaws

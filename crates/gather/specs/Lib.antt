@@ -1,0 +1,5 @@
+pub mod Entries
+pub mod Set
+pub mod Ways
+pub mod Stored
+pub mod Gatherable

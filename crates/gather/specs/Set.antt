@@ -1,0 +1,95 @@
+-- The set of moof fields of a chunk: which ids stand, and their values. 01, "Full objects".
+use Prim.Native.Nat.{ℕ, _+_, _-_, _%_, _≤_, _<_, _^_}
+use mathlib.Core.Path.{_≡_}
+use mathlib.Core.Bool.{Bool, true, cond, not, _&&_}
+use mathlib.Core.List.{List, [], _∷_, map}
+use mathlib.Core.Option.{none, some}
+use lib.Dec.{eqb, leb}
+use lib.ListN.{length, getD, take}
+use Rattle.laws.specs.Tests.{_and_}
+use Rattle.media.specs.Flags.{fiveOf}
+use Rattle.track.specs.declared.Track.{Track}
+use Rattle.shape.specs.declared.inner.Inner.{Inner}
+use Rattle.fieldset.specs.declared.lines.Line.{Line}
+use Rattle.fields.specs.Cells.{Held}
+use Rattle.fields.specs.Words.{setWords}
+use Rattle.fragment.specs.declared.defaults.Defaults.{Defaults}
+use Rattle.fragment.specs.declared.rows.Run.{Run}
+use Rattle.fragment.specs.Words.{bitOf}
+use Rattle.fragment.specs.Headers.{bmdtOf}
+use Rattle.fragment.specs.Defaults.{defaultsOf}
+use Rattle.fragment.specs.Rows.{durations, offsets, sampleFlags, first, runOf, hasColumn, firstFlags}
+use Rattle.fragment.specs.Samples.{columnOf, sizesOf}
+use Rattle.encryption.specs.declared.entries.Entries.{Entries}
+use Rattle.encryption.specs.Entries.{entriesOf}
+use Rattle.gather.specs.Entries.{allIvs, allCounts, allClear, allProtected}
+
+-- a field with these values, where it stands
+unfoldable pub heldIf : Bool → List ℕ → Held
+heldIf stands values = cond stands (some values) none
+
+-- all numbers of a list are the same
+unfoldable pub allSame : ℕ → List ℕ → Bool
+allSame v [] = true
+allSame v (x ∷ xs) = eqb x v and allSame v xs
+
+-- a composition offset with 2^31 added: a signed number of 32 bits, and so one without a sign below 2^31, is the same with its highest bit turned
+abbrev pub raised : ℕ → ℕ
+raised v = (v + 0x8000_0000) % 0x1_0000_0000
+
+module _ (t : Track) (c : List ℕ) (f : Inner) where
+  abbrev pub defaults : Defaults
+  defaults = defaultsOf t c (f .tfhd)
+
+  abbrev pub run : Run
+  run = runOf c (f .trun)
+
+  abbrev pub sizes : List ℕ
+  sizes = sizesOf c run (defaults .size)
+
+  -- the size that all samples have, if they are equal
+  abbrev pub size : ℕ
+  size = getD sizes 0 0
+
+  abbrev pub equal : Bool
+  equal = allSame size sizes
+
+  abbrev pub several : Bool
+  several = leb 2 (run .count)
+
+  abbrev pub entries : Entries
+  entries = entriesOf t c (f .senc)
+
+  -- a `senc` stands, and has IVs; or subsamples
+  abbrev pub hasIvs : Bool
+  hasIvs = not (eqb (f .senc .len) 0) && not (eqb (entries .iv) 0)
+
+  abbrev pub hasMap : Bool
+  hasMap = not (eqb (f .senc .len) 0) && entries .map
+
+  -- 01: "Id 2, 4, 8: `tfhd` has it and it differs from trex. Id 3, 5, 7, 12: `trun` has it. Samples above 1: sizes unequal, id 1 with all but the last;
+  -- equal, id 6, unless trex is that size and not 0 .. Ids 9, 11, 13, 15 as `senc` has them. Id 16 if the IV size differs from the parameter", which cuts
+  -- the entries, so that it doesn't.
+  unfoldable pub heldFor : ℕ → Held
+  heldFor id =
+      cond (eqb id 1) (heldIf (several && not equal) (take (run .count - 1) sizes))
+      (cond (eqb id 2) (heldIf (not (eqb (defaults .description) (t .description))) (defaults .description ∷ []))
+      (cond (eqb id 3) (heldIf (hasColumn run durations) (columnOf c run durations))
+      (cond (eqb id 4) (heldIf (not (eqb (defaults .duration) (t .duration))) (defaults .duration ∷ []))
+      (cond (eqb id 5) (heldIf (hasColumn run offsets) (map raised (columnOf c run offsets)))
+      (cond (eqb id 6) (heldIf (several && (equal && not (eqb size (t .size) && not (eqb size 0)))) (size ∷ []))
+      (cond (eqb id 7) (heldIf (hasColumn run sampleFlags) (map fiveOf (columnOf c run sampleFlags)))
+      (cond (eqb id 8) (heldIf (not (eqb (fiveOf (defaults .flags)) (t .flags))) (fiveOf (defaults .flags) ∷ []))
+      (cond (eqb id 9) (heldIf hasIvs (allIvs c entries (entries .count) (entries .at)))
+      (cond (eqb id 11) (heldIf hasMap (allCounts c entries (entries .count) (entries .at)))
+      (cond (eqb id 12) (heldIf (eqb (bitOf (run .word) first) 1) (fiveOf (firstFlags c (f .trun)) ∷ []))
+      (cond (eqb id 13) (heldIf hasMap (allClear c entries (entries .count) (entries .at)))
+      (cond (eqb id 15) (heldIf hasMap (allProtected c entries (entries .count) (entries .at)))
+      none))))))))))))
+
+  abbrev pub fieldOf : Line → Held
+  fieldOf l = heldFor (l .id)
+
+  -- the words of the set
+  unfoldable pub chunkSet : List ℕ
+  chunkSet = setWords (bmdtOf c (f .tfdt)) (run .count) fieldOf
