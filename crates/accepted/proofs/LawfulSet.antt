@@ -1,0 +1,194 @@
+-- The set of moof fields of an accepted chunk is lawful. Assumes nothing.
+use Prim.Native.Nat.{ℕ, zero, suc, _+_, _-_, _^_, _≤_, _<_}
+use native.Mathlib.Omega.{arith}
+use mathlib.Core.Path.{_≡_, refl, sym, _∙_, ap}
+use mathlib.Core.Bool.{Bool, true, false, not, _&&_}
+use mathlib.Core.List.{List, _∷_}
+use borrow.Author.Tests.{leb-true}
+use lib.Dec.{eqb, leb}
+use lib.ListN.{getD}
+use Rattle.laws.specs.Tests.{allLe}
+use Rattle.laws.proofs.TestLaws.{left, right, and-left, and-right}
+use Rattle.laws.proofs.LadderLaws.{Hold}
+use Rattle.wire.specs.declared.form.Row.{Row}
+use Rattle.track.specs.declared.Track.{Track}
+use Rattle.track.specs.Track.{ivOk}
+use Rattle.shape.specs.declared.top.Top.{Top}
+use Rattle.shape.specs.declared.inner.Inner.{Inner}
+use Rattle.shape.specs.Parts.{bodyOf, Inside}
+use Rattle.shape.proofs.TopLaws.{top-in, moof-inside}
+use Rattle.shape.proofs.InnerLaws.{inner-in, senc-inside}
+use Rattle.chunk.specs.Front.{Event}
+use Rattle.block.specs.Entries.{isSome}
+use Rattle.prelude.specs.Styp.{brandsIn}
+use Rattle.fieldset.specs.Lines.{lines, spare, lineFor, lineNumber}
+use Rattle.fieldset.specs.Lawful.{valuesOf, saizOk, sameIvSize, measureOf, lawful}
+use Rattle.fieldset.proofs.LawfulLaws.{Lawful, lawful-all}
+use Rattle.fields.specs.Said.{numbers}
+use Rattle.fields.specs.Words.{setWords}
+use Rattle.fields.proofs.SetLaws.{eleven-for, AllFit, keeps-fits}
+use Rattle.fields.proofs.SetLaws.{words-start, words-count, words-marks, words-around, words-has, around-id, words-regions}
+use Rattle.fragment.specs.Headers.{mfhdOk, tfdtOk, bmdtOf}
+use Rattle.fragment.specs.Defaults.{tfhdOk}
+use Rattle.fragment.specs.Rows.{trunOk, countOf}
+use Rattle.encryption.specs.declared.entries.Entries.{Entries}
+use Rattle.encryption.specs.Entries.{pairsAt, lengthAt, sencOk, sencCount, subsamples}
+use Rattle.encryption.specs.Sizes as sizes
+use Rattle.encryption.proofs.SencLaws.{senc-stands, entries-iv}
+use Rattle.rules.proofs.InfoLaws.{countsFrom}
+use Rattle.rules.proofs.RuleFacts.{RulesHold, rules-hold, rules-protected, protection-holds, entries-keep}
+use Rattle.gather.specs.Entries.{allFrom, allCounts}
+use Rattle.gather.specs.Set.{heldFor, fieldOf, run, entries, hasMap, chunkSet}
+use Rattle.gather.proofs.EntryLengths.{senc-counts}
+use Rattle.gather.proofs.FitLaws.{some-bytes}
+use Rattle.accepted.specs.Accepted.{top, inner, boxes, bmdt, fields, boxesOk, countsOk, maximaOk, lateRungs, acceptRungs}
+use Rattle.accepted.proofs.SetKeeps.{Counted, counts, lengths, counts-are, counts-none, counts-few, eleven-is, eleven-long, set-keeps}
+use Rattle.accepted.proofs.SetRules.{iv-le, set-rules}
+
+-- the counts of subsamples, as the rules and as the set have them
+same-counts : (c : List ℕ) (e : Entries) (k at : ℕ) → countsFrom c e k at ≡ allCounts c e k at
+unfolding countsFrom allFrom
+same-counts c e zero at = refl
+same-counts c e (suc k) at = ap (λ (l : List ℕ). pairsAt c e at ∷ l) (same-counts c e k (at + lengthAt c e at))
+
+-- ---- boxes that are right, and keep the maxima and the rules
+
+module _ (t : Track) (c : List ℕ) (top : Top) (f : Inner) {events : List Event} (rules : RulesHold t c top f events)
+    (iv : ivOk (t .protection) (t .«iv_size») ≡ true) (trun : trunOk c (f .trun) ≡ true) (g : Counted t c f) where
+  abbrev e : Entries
+  e = entries t c f
+
+  -- with subsamples, each entry is as long as a `saiz` can say
+  counts-small : saizOk (t .«iv_size») (counts t c f) ≡ true
+  unfolding saizOk
+  counts-small = by (hasMap t c f) refl
+    where
+      by : (b : Bool) → hasMap t c f ≡ b → saizOk (t .«iv_size») (counts t c f) ≡ true
+      by false h = rw (counts-none t c f h)
+      by true h =
+          let s : 0 < f .senc .len = some-bytes _ _ h in
+          let k : saizOk (e .iv) (countsFrom c e (run t c f .count) (e .at)) ≡ true =
+          entries-keep t c top f (g .bytes) (protection-holds t c top f (rules-protected t c top f rules s))
+          (and-right (not (eqb (f .senc .len) 0)) (e .map) h) in
+          ap (saizOk (t .«iv_size»)) (counts-are t c f h)
+          ∙ ap (λ (i : ℕ). saizOk i (allCounts c e (e .count) (e .at))) (sym (entries-iv t c (f .senc)))
+          ∙ ap (λ (n : ℕ). saizOk (e .iv) (allCounts c e n (e .at))) (g .counted s)
+          ∙ ap (saizOk (e .iv)) (sym (same-counts c e (run t c f .count) (e .at)))
+          ∙ k
+
+  -- id 16 never stands
+  no-sixteen : isSome (fieldOf t c f (lineFor 16 lines)) ≡ false
+  unfolding lineFor lines heldFor
+  no-sixteen = refl
+
+  sixteen-known : lineNumber 16 lines < 14
+  unfolding lineNumber lines
+  sixteen-known = omega arith
+
+  fits : AllFit (fieldOf t c f)
+  fits i lt = keeps-fits (lengths t c f) (getD lines i spare) (fieldOf t c f (getD lines i spare)) (set-keeps t c f g i lt)
+
+  module _ (b : ℕ) where
+    abbrev words : List ℕ
+    words = setWords b (run t c f .count) (fieldOf t c f)
+
+    -- the counts of subsamples stand in the words
+    values-are : valuesOf 11 (run t c f .count) words ≡ counts t c f
+    values-are =
+        around-id 11 (run t c f .count) _ _ _ eleven-for (words-around b (run t c f .count) (fieldOf t c f) fits 9 (omega arith))
+        (eleven-long t c f g)
+        ∙ ap numbers (eleven-is t c f)
+
+    measure-is : measureOf t words ≡ lengths t c f
+    measure-is = rw (words-count b (run t c f .count) (fieldOf t c f), values-are)
+
+    same-size : sameIvSize t words ≡ true
+    unfolding sameIvSize
+    same-size = rw (words-has b (run t c f .count) (fieldOf t c f) fits 16 sixteen-known, no-sixteen)
+
+    -- all that is asked of them
+    set-facts : b ≤ 2 ^ 62 - 1 → Lawful t words
+    set-facts h =
+        let n = words-count b (run t c f .count) (fieldOf t c f) in
+        record {
+          count = rw n (g .few);
+          saiz = rw (n, values-are) counts-small;
+          bmdt = rw (words-start b (run t c f .count) (fieldOf t c f)) h;
+          subsamples = rw (n, values-are) (counts-few t c f g);
+          regions = rw measure-is (words-regions b (run t c f .count) (fieldOf t c f) (lengths t c f) (set-keeps t c f g));
+          rules = rw (n, words-marks b (run t c f .count) (fieldOf t c f) fits) (set-rules t c top f rules iv trun);
+          iv-size = same-size;
+        }
+
+-- ---- an accepted chunk
+
+module _ (F : List Row) (t : Track) (c : List ℕ) (h : Hold (acceptRungs F t c)) where
+  boxes-right : boxesOk t c ≡ true
+  unfolding acceptRungs
+  boxes-right = h .1 .0
+
+  counts-right : countsOk t c ≡ true
+  unfolding acceptRungs lateRungs maximaOk
+  counts-right = left _ _ (h .1 .1 .0)
+
+  rules-right : RulesHold t c (top c) (inner c) (boxes c)
+  unfolding acceptRungs lateRungs
+  rules-right = rules-hold t c (top c) (inner c) (boxes c) (h .1 .1 .1 .0)
+
+  trun-right : trunOk c (inner c .trun) ≡ true
+  unfolding boxesOk
+  trun-right =
+      and-right (tfdtOk c (inner c .tfdt)) (trunOk c (inner c .trun))
+      (and-right (mfhdOk c (inner c .mfhd) && tfhdOk c (inner c .tfhd)) (tfdtOk c (inner c .tfdt) && trunOk c (inner c .trun))
+      (left _ _ (right _ _ (right _ _ (right _ _ boxes-right)))))
+
+  senc-right : sencOk t c (inner c .senc) ≡ true
+  unfolding boxesOk
+  senc-right =
+      and-left (sencOk t c (inner c .senc)) (sizes.saizOk c (inner c .saiz) && sizes.saioOk c (inner c .saio))
+      (right _ _ (right _ _ (right _ _ (right _ _ boxes-right))))
+
+  abbrev samples-few : Bool
+  samples-few =
+      leb (countOf c (inner c .trun)) 64 && (leb (sencCount c (inner c .senc)) 64 && leb (sizes.saizCount c (inner c .saiz)) 64)
+
+  abbrev rest-few : Bool
+  rest-few = leb (brandsIn (top c .styp)) 16 && (leb (top c .events) 16 && leb (bodyOf (top c .mdat) .len) 16777216)
+
+  few-samples : countOf c (inner c .trun) ≤ 64
+  unfolding countsOk
+  few-samples =
+      leb-true _ _
+      (and-left (leb (countOf c (inner c .trun)) 64) (leb (sencCount c (inner c .senc)) 64 && leb (sizes.saizCount c (inner c .saiz)) 64)
+      (and-left samples-few (leb (subsamples t c (inner c .senc)) 256 && rest-few) counts-right))
+
+  few-subsamples : subsamples t c (inner c .senc) ≤ 256
+  unfolding countsOk
+  few-subsamples =
+      leb-true _ _
+      (and-left (leb (subsamples t c (inner c .senc)) 256) rest-few
+      (and-right samples-few (leb (subsamples t c (inner c .senc)) 256 && rest-few) counts-right))
+
+  senc-here : Inside c (inner c .senc)
+  senc-here = senc-inside (moof-inside (top-in c)) (inner-in c (top c .moof) (moof-inside (top-in c)))
+
+  all-counted : allLe 255 c ≡ true → ivOk (t .protection) (t .«iv_size») ≡ true → Counted t c (inner c)
+  all-counted low iv =
+      record {
+        bytes = low;
+        iv = iv-le (t .protection) (t .«iv_size») iv;
+        few = few-samples;
+        counted = λ s. protection-holds t c (top c) (inner c) (rules-protected t c (top c) (inner c) rules-right s) .counts .counted;
+        summed =
+            λ s.
+            let e = senc-counts t c (inner c .senc) senc-here (senc-stands t c (inner c .senc) senc-right s) senc-right in
+            omega (arith, e, few-subsamples);
+      }
+
+-- its set is lawful, if its BMDT is in range
+pub chunk-lawful : (F : List Row) (t : Track) (c : List ℕ) → allLe 255 c ≡ true → ivOk (t .protection) (t .«iv_size») ≡ true
+    → Hold (acceptRungs F t c) → bmdt c ≤ 2 ^ 62 - 1 → lawful t (fields t c) ≡ true
+unfolding bmdt fields chunkSet
+chunk-lawful F t c low iv h b =
+    lawful-all t _
+    (set-facts t c (top c) (inner c) (rules-right F t c h) iv (trun-right F t c h) (all-counted F t c h low iv) (bmdtOf c (inner c .tfdt)) b)

@@ -1,0 +1,9 @@
+pub mod BoxLaws
+pub mod MaximaLaws
+pub mod EventLaws
+pub mod KeptLaws
+pub mod RungLaws
+pub mod SetValues
+pub mod SetKeeps
+pub mod SetRules
+pub mod LawfulSet

@@ -1,0 +1,119 @@
+-- The maxima of a chunk, and what a chunk whose boxes are right and whose counts keep them is ready for. Assumes nothing.
+use Prim.Native.Nat.{ℕ, _≤_, _<_}
+use mathlib.Core.Path.{_≡_}
+use mathlib.Core.Bool.{Bool, true, _&&_}
+use mathlib.Core.List.{List}
+use borrow.Author.Tests.{leb-true}
+use native.Mathlib.Omega.{arith}
+use lib.Dec.{leb}
+use Rattle.laws.proofs.TestLaws.{and-left, and-right}
+use Rattle.track.specs.declared.Track.{Track}
+use Rattle.shape.specs.declared.parts.Part.{Part}
+use Rattle.shape.specs.declared.top.Top.{Top}
+use Rattle.shape.specs.declared.inner.Inner.{Inner}
+use Rattle.shape.specs.Parts.{bodyOf}
+use Rattle.shape.specs.Top.{topOf}
+use Rattle.shape.specs.Inner.{innerOf}
+use Rattle.prelude.specs.Styp.{brandsIn}
+use Rattle.fragment.specs.Rows.{countOf}
+use Rattle.encryption.specs.Entries.{sencCount, entriesOf, subsamples}
+use Rattle.encryption.specs.Sizes.{saizCount}
+use Rattle.encryption.proofs.SencLaws.{count-some, entries-count, senc-stands}
+use Rattle.rules.specs.Rules.{Right}
+use Rattle.gather.specs.Gatherable.{Gatherable}
+use Rattle.accepted.specs.Accepted.{boxesOk, countsOk}
+use Rattle.accepted.proofs.BoxLaws.{BoxesIn, found-in, BoxesHold, found-hold, both-of}
+
+-- the code's tests, of the boxes that it has found
+pub counts-by : (t : Track) (c : List ℕ) (top : Top) (f : Inner) (s : Bool) (n b : ℕ) (p : Part) → top ≡ topOf c → f ≡ innerOf c (top .moof)
+    → s ≡ (leb (countOf c (f .trun)) 64 && (leb (sencCount c (f .senc)) 64 && leb (saizCount c (f .saiz)) 64))
+    → n ≡ subsamples t c (f .senc) → b ≡ brandsIn (top .styp) → p ≡ bodyOf (top .mdat)
+    → (s && (leb n 256 && (leb b 16 && (leb (top .events) 16 && leb (p .len) 16777216)))) ≡ countsOk t c
+unfolding countsOk
+counts-by t c top f s n b p et ef es en eb ep = rw (es, en, eb, ep, ef, et)
+
+-- ---- what they say
+
+pub record CountsHold (t : Track) (c : List ℕ) (top : Top) (f : Inner) : Type 0 where
+  pub samples : countOf c (f .trun) ≤ 64
+  pub entries : sencCount c (f .senc) ≤ 64
+  pub subsamples-few : subsamples t c (f .senc) ≤ 256
+  pub events : top .events ≤ 16
+
+counts-hold : (t : Track) (c : List ℕ) → countsOk t c ≡ true → CountsHold t c (topOf c) (innerOf c (topOf c .moof))
+unfolding countsOk
+counts-hold t c e =
+    let top : Top = topOf c in
+    let f : Inner = innerOf c (top .moof) in
+    let s : Bool = leb (sencCount c (f .senc)) 64 && leb (saizCount c (f .saiz)) 64 in
+    let m : Bool = leb (top .events) 16 && leb (bodyOf (top .mdat) .len) 16777216 in
+    let a = both-of (leb (countOf c (f .trun)) 64 && s) (leb (subsamples t c (f .senc)) 256 && (leb (brandsIn (top .styp)) 16 && m)) e in
+    let b = both-of (leb (countOf c (f .trun)) 64) s (a .0) in
+    let d = both-of (leb (subsamples t c (f .senc)) 256) (leb (brandsIn (top .styp)) 16 && m) (a .1) in
+    record {
+      samples = leb-true _ _ (b .0);
+      entries = leb-true _ _ (and-left (leb (sencCount c (f .senc)) 64) (leb (saizCount c (f .saiz)) 64) (b .1));
+      subsamples-few = leb-true _ _ (d .0);
+      events =
+          leb-true _ _
+          (and-left (leb (top .events) 16) (leb (bodyOf (top .mdat) .len) 16777216) (and-right (leb (brandsIn (top .styp)) 16) m (d .1)));
+    }
+
+module _ (t : Track) (c : List ℕ) (top : Top) (f : Inner) (et : top ≡ topOf c) (ef : f ≡ innerOf c (top .moof)) where
+  pub found-counts : countsOk t c ≡ true → CountsHold t c top f
+  found-counts e = rw (ef, et) (counts-hold t c e)
+
+  module _ (e : boxesOk t c ≡ true) (k : countsOk t c ≡ true) where
+    -- the rules can be asked
+    pub right-is : Right t c top f
+    right-is =
+        let i : BoxesIn c top f = found-in c top f et ef in
+        let h : BoxesHold t c top f = found-hold t c top f et ef e in
+        let n : CountsHold t c top f = found-counts k in
+        record {
+          styp-in = i .styp-in;
+          prft-in = i .prft-in;
+          prft-ok = h .prft-ok;
+          moof-in = i .moof-in;
+          mdat-in = i .mdat-in;
+          tfhd-in = i .tfhd-in;
+          tfhd-ok = h .tfhd-ok;
+          tfdt-in = i .tfdt-in;
+          tfdt-ok = h .tfdt-ok;
+          trun-in = i .trun-in;
+          trun-ok = h .trun-ok;
+          senc-in = i .senc-in;
+          senc-ok = h .senc-ok;
+          senc-after = λ s. i .senc-after;
+          saiz-in = i .saiz-in;
+          saiz-ok = h .saiz-ok;
+          saio-in = i .saio-in;
+          saio-ok = h .saio-ok;
+          samples = n .samples;
+          subsamples = n .subsamples-few;
+        }
+
+    -- the set can be gathered
+    pub gatherable : t .«iv_size» ≤ 16 → Gatherable t c f
+    gatherable v =
+        let i : BoxesIn c top f = found-in c top f et ef in
+        let h : BoxesHold t c top f = found-hold t c top f et ef e in
+        let n : CountsHold t c top f = found-counts k in
+        let few : 0 < f .senc .len → entriesOf t c (f .senc) .count ≤ 64 =
+        λ s.
+        omega
+        (arith, entries-count t c (f .senc), count-some c (f .senc) (senc-stands t c (f .senc) (h .senc-ok) s), n .entries) in
+        record {
+          tfhd-in = i .tfhd-in;
+          tfhd-ok = h .tfhd-ok;
+          tfdt-in = i .tfdt-in;
+          tfdt-ok = h .tfdt-ok;
+          trun-in = i .trun-in;
+          trun-ok = h .trun-ok;
+          senc-in = i .senc-in;
+          senc-ok = h .senc-ok;
+          samples = n .samples;
+          entries = few;
+          subsamples = n .subsamples-few;
+          iv = v;
+        }

@@ -1,0 +1,64 @@
+-- What the code hands on of an accepted chunk.
+use Prim.Native.Nat.{ℕ, _*_, _≤_}
+use mathlib.Core.Path.{_≡_}
+use mathlib.Core.Bool.{false}
+use mathlib.Core.List.{List, _++_}
+use lib.ListN.{length, drop}
+use Rattle.laws.specs.Ladder.{ladder}
+use Rattle.wire.specs.declared.form.Row.{Row}
+use Rattle.track.specs.declared.Track.{Track}
+use Rattle.shape.specs.Parts.{bodyOf, endOf}
+use Rattle.prelude.specs.Emsg.{keptEvents}
+use Rattle.chunk.specs.Events.{eventsOf}
+use Rattle.emsgs.specs.Records.{AllWords, AllIn, listBytes}
+use Rattle.accepted.specs.declared.read.Chunk.{Chunk}
+use Rattle.accepted.specs.declared.read.Judged.{Judged}
+use Rattle.accepted.specs.Accepted.{top, boxes, events, prft, fields, lateRungs, acceptRungs}
+
+-- nothing but a number
+abbrev pub refusedWith : ℕ → Chunk
+refusedWith k =
+    record {
+      number = k;
+      prft = record { stands = false; ntp = 0; media = 0; version = 0; flags = 0 };
+      events = 0;
+      list = 0;
+      brands = record { at = 0; len = 0 };
+      payload = record { at = 0; len = 0 };
+    }
+
+-- an accepted chunk
+abbrev pub takenAs : List ℕ → ℕ → Chunk
+takenAs c list =
+    record {
+      number = 0;
+      prft = prft c;
+      events = top c .events;
+      list = list;
+      brands = bodyOf (top c .styp);
+      payload = bodyOf (top c .mdat);
+    }
+
+-- maxima and rules were asked: the number, and with 0 the words ws of the events and the bytes of their records
+pub record Listed (F : List Row) (t : Track) (c : List ℕ) (list : ℕ) (ws : List ℕ) : Type 0 where
+  pub words : AllWords ws (top c .events)
+  pub inside : AllIn c ws (top c .events)
+  pub boxes-are : eventsOf c ws (top c .events) ≡ boxes c
+  pub list-is : list ≡ listBytes F (events t c)
+  pub short : list ≤ 4096
+
+pub record JudgedAs (F : List Row) (t : Track) (c : List ℕ) (j : Judged) (ws : List ℕ) : Type 0 where
+  pub answered : j .number ≡ ladder (lateRungs F t c) (λ n. n) 0
+  pub listed : j .number ≡ 0 → Listed F t c (j .list) ws
+
+-- a chunk c was accepted: its `prft`, how many events it has with the bytes of their records, what stands in the `styp` and the `mdat`; the words ws of its
+-- events, and x of its set
+pub record Accepted (F : List Row) (t : Track) (c : List ℕ) (k : Chunk) (ws x : List ℕ) : Type 0 where
+  pub chunk-is : k ≡ takenAs c (k .list)
+  pub set-is : x ≡ fields t c
+  pub listed : Listed F t c (k .list) ws
+
+-- the number, and with 0 the rest
+pub record ReadAs (F : List Row) (t : Track) (c : List ℕ) (k : Chunk) (ws x : List ℕ) : Type 0 where
+  pub answered : k .number ≡ ladder (acceptRungs F t c) (λ n. n) 0
+  pub taken : k .number ≡ 0 → Accepted F t c k ws x
