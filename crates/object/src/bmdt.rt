@@ -7,7 +7,7 @@ use fieldset::lines;
 use track::Track;
 
 // The sum of the effective durations of the reference.
-fn durations(t: Track, r: &[u64]) -> u64
+pub fn durations(t: Track, r: &[u64]) -> u64
     requires { ⌜ Timed (now r) ⌝ }
     ensures { λ d. ⌜ d ≡ durationsOf t (now (r .entry)) ⌝ }
 {

@@ -1,0 +1,13 @@
+pub mod ItemLaws
+pub mod TupleLaws
+pub mod SameLoop
+pub mod WideLaws
+pub mod FieldLaws
+pub mod ChangeLaws
+pub mod SentLaws
+pub mod PutLaws
+pub mod LinesLaws
+pub mod StandLaws
+pub mod TimeLaws
+pub mod GoneLaws
+pub mod SetLaws

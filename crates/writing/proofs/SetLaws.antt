@@ -1,0 +1,63 @@
+-- The set of moof fields from its parts: weighed, and written one after another. Assumes nothing.
+use Prim.Native.Nat.{ℕ, _+_, _≤_}
+use mathlib.Core.Path.{_≡_}
+use mathlib.Core.Bool.{Bool, true, _&&_}
+use mathlib.Core.List.{List}
+use lib.ListN.{length}
+use Rattle.laws.specs.Writes.{Wrote}
+use Rattle.wire.specs.declared.form.Row.{Row}
+use Rattle.block.specs.Entries.{isSome}
+use Rattle.track.specs.declared.Track.{Track}
+use Rattle.writing.specs.declared.tuples.Weight.{Weight}
+use Rattle.writing.specs.Items.{Items, _before_, bytesOf, WeighedAs}
+use Rattle.writing.specs.Fields.{bmdtItems, countItems, fieldItems}
+use Rattle.writing.proofs.ItemLaws.{weighed-both}
+use Rattle.writing.proofs.PutLaws.{Left, left-start, left-next}
+use Rattle.writing.proofs.LinesLaws.{between}
+
+-- two weights as one
+abbrev pub Sum : Weight → Weight → Weight → Type 0
+Sum v w u = (u .fits ≡ (v .fits && w .fits)) × (u .bytes ≡ v .bytes + w .bytes)
+
+module _ (F : List Row) (t : Track) (delta : Bool) (r x : List ℕ) where
+  -- what follows the middle lines, BMDT and the low lines
+
+  abbrev last : Items
+  last = countItems F t delta r x before between F t delta r x 12 14
+
+  abbrev rest : Items
+  rest = between F t delta r x 9 12 before last
+
+  abbrev later : Items
+  later = bmdtItems F t delta r x before rest
+
+  -- all were weighed
+  pub set-weighed : {a b c d e : Weight} → WeighedAs F (between F t delta r x 0 9) 18576 a → WeighedAs F (bmdtItems F t delta r x) 16 b
+      → WeighedAs F (between F t delta r x 9 12) 6192 c → WeighedAs F (countItems F t delta r x) 16 d
+      → WeighedAs F (between F t delta r x 12 14) 4128 e
+      → (u v w z : Weight) → Sum d e u → Sum c u v → Sum b v w → Sum a w z → WeighedAs F (fieldItems F t delta r x) 28928 z
+  unfolding fieldItems
+  set-weighed p q s i j u v w z f g h k = weighed-both p (weighed-both q (weighed-both s (weighed-both i j f) g) h) k
+
+  -- all are left to be written; then all but the low lines, and so on
+  module _ (l : List ℕ) (at : ℕ) (fits : isSome (fieldItems F t delta r x) ≡ true)
+      (room : at + length (bytesOf F (fieldItems F t delta r x)) ≤ length l) where
+    pub before-low : Left F (fieldItems F t delta r x) l at (between F t delta r x 0 9 before later) l at
+    unfolding fieldItems
+    before-low = left-start F (fieldItems F t delta r x) l at fits room
+
+    module _ (m : List ℕ) (p : ℕ) (w : Wrote l at (bytesOf F (between F t delta r x 0 9)) m p) where
+      pub before-bmdt : Left F (fieldItems F t delta r x) l at later m p
+      before-bmdt = left-next F (fieldItems F t delta r x) l at _ _ _ _ before-low m p w
+
+      module _ (n : List ℕ) (q : ℕ) (w₂ : Wrote m p (bytesOf F (bmdtItems F t delta r x)) n q) where
+        pub before-middle : Left F (fieldItems F t delta r x) l at rest n q
+        before-middle = left-next F (fieldItems F t delta r x) l at _ _ _ _ before-bmdt n q w₂
+
+        module _ (o : List ℕ) (u : ℕ) (w₃ : Wrote n q (bytesOf F (between F t delta r x 9 12)) o u) where
+          pub before-count : Left F (fieldItems F t delta r x) l at last o u
+          before-count = left-next F (fieldItems F t delta r x) l at _ _ _ _ before-middle o u w₃
+
+          module _ (k : List ℕ) (v : ℕ) (w₄ : Wrote o u (bytesOf F (countItems F t delta r x)) k v) where
+            pub before-high : Left F (fieldItems F t delta r x) l at (between F t delta r x 12 14) k v
+            before-high = left-next F (fieldItems F t delta r x) l at _ _ _ _ before-count k v w₄

@@ -1,0 +1,61 @@
+-- The producer reference time as code has it: the numbers of its ids, and their tuples. Assumes nothing.
+use Prim.Native.Nat.{ℕ, _+_, _≤_}
+use mathlib.Core.Path.{_≡_, sym}
+use mathlib.Core.Bool.{Bool, true, false, not, _&&_}
+use mathlib.Core.List.{List}
+use lib.Dec.{eqb}
+use lib.ListN.{length, getD}
+use Rattle.wire.specs.declared.form.Row.{Row}
+use Rattle.wire.specs.declared.zigzag.Coding.{Coding}
+use Rattle.wire.specs.declared.zigzag.Coding.the-variants.{Plain, Delta}
+use Rattle.wire.specs.declared.zigzag.Coded.{Coded}
+use Rattle.wire.specs.Zigzag.{wireOf, codeOf}
+use Rattle.block.specs.Entries.{isSome}
+use Rattle.slots.specs.Share.{ntpAt, mediaTimeAt, versionAt, prftFlagsAt}
+use Rattle.chunk.specs.declared.outer.Prft.{Prft}
+use Rattle.fields.specs.Cells.{codingFor}
+use Rattle.object.specs.Prft.{keptFor}
+use Rattle.writing.specs.Items.{_before_, itemsIf, numberItem, bytesOf}
+use Rattle.writing.specs.Prft.{timesItems, unlessItems, versionItems, flagsItems}
+use Rattle.writing.proofs.PutLaws.{Left, left-start, left-as}
+
+-- a time in a delta, and in a full object
+pub time-delta : (F : List Row) (delta : Bool) (old new : ℕ) {c : Coded} → delta ≡ true → c ≡ codeOf F Delta old new
+    → c ≡ codeOf F (codingFor delta) old new
+time-delta F delta old new d e = rw d e
+
+pub time-full : (F : List Row) (delta : Bool) (old new : ℕ) {c : Coded} → delta ≡ false → c ≡ codeOf F Plain 0 new
+    → c ≡ codeOf F (codingFor delta) old new
+unfolding codeOf wireOf
+time-full F delta old new d e = rw d e
+
+-- what an absent id counts as
+pub kept-delta : (delta : Bool) (share usual : ℕ) → delta ≡ true → share ≡ keptFor delta share usual
+kept-delta delta share usual d = rw d
+
+module _ (F : List Row) (delta : Bool) (s : List ℕ) (p : Prft) where
+  -- the two times
+  pub times-are : {n m : Coded} → n ≡ codeOf F (codingFor delta) (getD s ntpAt 0) (p .ntp)
+      → m ≡ codeOf F (codingFor delta) (getD s mediaTimeAt 0) (p .media)
+      → (itemsIf (p .stands) (numberItem 18 n) before itemsIf (p .stands) (numberItem 20 m)) ≡ timesItems F delta s p
+  unfolding timesItems
+  times-are e f = rw (e, f)
+
+  -- both are left to be written
+  pub times-left : {n m : Coded} → n ≡ codeOf F (codingFor delta) (getD s ntpAt 0) (p .ntp)
+      → m ≡ codeOf F (codingFor delta) (getD s mediaTimeAt 0) (p .media)
+      → (l : List ℕ) (at : ℕ) → isSome (timesItems F delta s p) ≡ true → at + length (bytesOf F (timesItems F delta s p)) ≤ length l
+      → Left F (timesItems F delta s p) l at (itemsIf (p .stands) (numberItem 18 n) before itemsIf (p .stands) (numberItem 20 m)) l at
+  times-left e f l at h k =
+      left-as F (timesItems F delta s p) l at (sym (times-are e f)) (left-start F (timesItems F delta s p) l at h k)
+
+  -- version and flags
+  pub version-is : {old : ℕ} {coding : Coding} {c : Coded} → old ≡ keptFor delta (getD s versionAt 0) 1 → coding ≡ codingFor delta
+      → c ≡ codeOf F coding old (p .version) → itemsIf (p .stands && not (eqb (p .version) old)) (numberItem 22 c) ≡ versionItems F delta s p
+  unfolding versionItems unlessItems
+  version-is e g f = rw (f, g, e)
+
+  pub flags-is : {old : ℕ} {coding : Coding} {c : Coded} → old ≡ keptFor delta (getD s prftFlagsAt 0) 0 → coding ≡ codingFor delta
+      → c ≡ codeOf F coding old (p .flags) → itemsIf (p .stands && not (eqb (p .flags) old)) (numberItem 24 c) ≡ flagsItems F delta s p
+  unfolding flagsItems unlessItems
+  flags-is e g f = rw (f, g, e)

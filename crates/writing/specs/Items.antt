@@ -1,0 +1,75 @@
+-- What is to stand in a block: items, or none where a number is too wide. 01: "any number on the wire, 2^62-1".
+use Prim.Native.Nat.{ℕ, _+_, _≤_, _<_}
+use mathlib.Core.Path.{_≡_}
+use mathlib.Core.Bool.{Bool, true, cond}
+use mathlib.Core.List.{List, [], _∷_, _++_}
+use mathlib.Core.Option.{Option, none, some}
+use lib.ListN.{length}
+use Rattle.laws.specs.Bytes.{be}
+use Rattle.wire.specs.declared.form.Row.{Row}
+use Rattle.wire.specs.declared.zigzag.Coding.{Coding}
+use Rattle.wire.specs.declared.zigzag.Coded.{Coded}
+use Rattle.wire.specs.declared.zigzag.Coded.the-variants.{Number}
+use Rattle.wire.specs.declared.zigzag.Coded.the-variants.{TooWide as Wide}
+use Rattle.wire.specs.Form.{limit}
+use Rattle.runs.specs.declared.Measured.{Measured}
+use Rattle.runs.specs.declared.Measured.the-variants.{Bytes, TooWide}
+use Rattle.runs.specs.Run.{onCoded, runOf, measured}
+use Rattle.block.specs.Entries.{isSome}
+use Rattle.block.specs.Written.{Item, num, run, encBlock}
+use Rattle.writing.specs.declared.tuples.Weight.{Weight}
+
+abbrev pub Items : Type 0
+Items = Option (List Item)
+
+abbrev pub nothing : Items
+nothing = some []
+
+-- some items and then others
+infixr 40 _before_
+unfoldable pub _before_ : Items → Items → Items
+none before b = none
+(some xs) before none = none
+(some xs) before (some ys) = some (xs ++ ys)
+
+-- items that stand only under a condition
+unfoldable pub itemsIf : Bool → Items → Items
+itemsIf stands is = cond stands is nothing
+
+-- an id with a number, where that fits
+unfoldable pub numberItem : ℕ → Coded → Items
+numberItem id c = onCoded c (λ z. some (num id z ∷ [])) none
+
+abbrev pub onMeasured : Measured → Items → Items
+onMeasured (Bytes n) is = is
+onMeasured TooWide is = none
+
+-- an id with a list of numbers, new ones against old ones, where each fits
+unfoldable pub runItem : List Row → Coding → ℕ → ℕ → List ℕ → List ℕ → Items
+runItem F coding id base old new = onMeasured (measured F coding base old new) (some (run id (runOf F coding base old new) ∷ []))
+
+-- words of eight bytes each, the highest byte first
+unfoldable pub wideBytes : List ℕ → List ℕ
+wideBytes [] = []
+wideBytes (w ∷ ws) = be 8 w ++ wideBytes ws
+
+-- ---- what the code does
+
+-- the bytes of items that fit
+abbrev pub listOf : Items → List Item
+listOf (some xs) = xs
+listOf none = []
+
+abbrev pub bytesOf : List Row → Items → List ℕ
+bytesOf F is = encBlock F (listOf is)
+
+-- a number that was made for the wire
+abbrev pub Made : List Row → Coded → Type 0
+Made F (Number z) = z < limit F
+Made F Wide = Unit {0}
+
+-- items were weighed: whether all fit, and then their bytes, at most so many
+pub record WeighedAs (F : List Row) (is : Items) (most : ℕ) (w : Weight) : Type 0 where
+  pub fits : w .fits ≡ isSome is
+  pub bytes : isSome is ≡ true → w .bytes ≡ length (bytesOf F is)
+  pub small : w .bytes ≤ most

@@ -1,0 +1,4 @@
+pub mod Items
+pub mod Changes
+pub mod Fields
+pub mod Prft

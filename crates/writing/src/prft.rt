@@ -1,0 +1,149 @@
+// The producer reference time in an object: ids 18, 20, 22 and 24. In a delta they go by the share's prft, which is that of the current full
+// object; in a full object version and flags go by what their absence means.
+ghost use mathlib.Core.Path.{_≡_};
+ghost use mathlib.Core.Bool.{true, _&&_};
+ghost use Prim.Native.Nat.{_+_, _≤_};
+ghost use lib.ListN.{length, getD};
+ghost use Rattle.laws.specs.Writes.{Wrote};
+ghost use Rattle.wire.specs.Form.{rows};
+ghost use Rattle.wire.specs.Zigzag.{codeOf};
+ghost use Rattle.block.specs.Entries.{isSome};
+ghost use Rattle.slots.specs.Share.{shareLen, ntpAt, mediaTimeAt, versionAt, prftFlagsAt};
+ghost use Rattle.fields.specs.Cells.{codingFor};
+ghost use Rattle.object.specs.Prft.{keptFor};
+ghost use Rattle.writing.specs.Items.{bytesOf, WeighedAs};
+ghost use Rattle.writing.specs.Prft.{timesItems, versionItems, flagsItems};
+use crate::cells;
+use crate::tuples;
+use crate::tuples::Weight;
+use chunk::outer::Prft;
+use media::clocks::NtpUnits;
+use media::clocks::TrackTicks;
+use slots::share;
+use wire::form::Form;
+use wire::zigzag::Coded;
+use wire::zigzag::Coding;
+
+const NTP: u64 = 18;
+
+const MEDIA: u64 = 20;
+
+const VERSION: u64 = 22;
+
+const FLAGS: u64 = 24;
+
+// What the absence of ids 22 and 24 means in a full object.
+const USUAL_VERSION: u64 = 1;
+
+const USUAL_FLAGS: u64 = 0;
+
+// Distances are taken on the time's own clock.
+fn ntp_number(form: Form, delta: bool, p: Prft, s: &[u64]) -> Coded
+    requires { ⌜ length (now s) ≡ shareLen ⌝ }
+    ensures { λ c. ⌜ c ≡ codeOf (rows form) (codingFor delta) (getD (now (s .entry)) ntpAt 0) (p .ntp) ⌝ }
+{
+    let time = NtpUnits(p.ntp);
+    if delta {
+        return time.distance(form, NtpUnits(s[share::NTP]));
+    }
+    wire::zigzag::code(form, Coding::Plain, 0, time.0)
+}
+
+fn media_number(form: Form, delta: bool, p: Prft, s: &[u64]) -> Coded
+    requires { ⌜ length (now s) ≡ shareLen ⌝ }
+    ensures { λ c. ⌜ c ≡ codeOf (rows form) (codingFor delta) (getD (now (s .entry)) mediaTimeAt 0) (p .media) ⌝ }
+{
+    let time = TrackTicks(p.media);
+    if delta {
+        return time.distance(form, TrackTicks(s[share::MEDIA_TIME]));
+    }
+    wire::zigzag::code(form, Coding::Plain, 0, time.0)
+}
+
+// What version and flags are without their ids.
+fn usual_version(delta: bool, s: &[u64]) -> u64
+    requires { ⌜ length (now s) ≡ shareLen ⌝ }
+    ensures { λ v. ⌜ v ≡ keptFor delta (getD (now (s .entry)) versionAt 0) 1 ⌝ }
+{
+    if delta {
+        return s[share::VERSION];
+    }
+    USUAL_VERSION
+}
+
+fn usual_flags(delta: bool, s: &[u64]) -> u64
+    requires { ⌜ length (now s) ≡ shareLen ⌝ }
+    ensures { λ v. ⌜ v ≡ keptFor delta (getD (now (s .entry)) prftFlagsAt 0) 0 ⌝ }
+{
+    if delta {
+        return s[share::PRFT_FLAGS];
+    }
+    USUAL_FLAGS
+}
+
+// ---- ids 18 and 20 stand together, with no distance too, since without them there is no box
+
+pub fn times_size(form: Form, delta: bool, p: Prft, s: &[u64]) -> Weight
+    requires { ⌜ length (now s) ≡ shareLen ⌝ }
+    ensures { λ w. ⌜ WeighedAs (rows form) (timesItems (rows form) delta (now (s .entry)) p) 32 w ⌝ }
+{
+    let n = ntp_number(form, delta, p, s);
+    let m = media_number(form, delta, p, s);
+    let a = tuples::number_size(form, p.stands, NTP, n);
+    let b = tuples::number_size(form, p.stands, MEDIA, m);
+    tuples::both(a, b)
+}
+
+pub fn put_times(form: Form, delta: bool, p: Prft, s: &[u64], out: &mut [u8], at: usize) -> usize
+    requires { ⌜ length (now s) ≡ shareLen ⌝ }
+    requires { ⌜ isSome (timesItems (rows form) delta (now s) p) ≡ true ⌝ }
+    requires { ⌜ at + length (bytesOf (rows form) (timesItems (rows form) delta (now s) p)) ≤ length (now out) ⌝ }
+    ensures { λ r. ⌜ Wrote (now (out .entry)) at (bytesOf (rows form) (timesItems (rows form) delta (now (s .entry)) p)) (now (out .exit)) r ⌝ }
+{
+    let n = ntp_number(form, delta, p, s);
+    let m = media_number(form, delta, p, s);
+    let a = tuples::put_number(form, p.stands, NTP, n, out, at);
+    tuples::put_number(form, p.stands, MEDIA, m, out, a)
+}
+
+// ---- ids 22 and 24 stand unless they are what their absence means
+
+pub fn version_size(form: Form, delta: bool, p: Prft, s: &[u64]) -> Weight
+    requires { ⌜ length (now s) ≡ shareLen ⌝ }
+    ensures { λ w. ⌜ WeighedAs (rows form) (versionItems (rows form) delta (now (s .entry)) p) 16 w ⌝ }
+{
+    let old = usual_version(delta, s);
+    let c = wire::zigzag::code(form, cells::coding_of(delta), old, p.version);
+    tuples::number_size(form, p.stands & (p.version != old), VERSION, c)
+}
+
+pub fn put_version(form: Form, delta: bool, p: Prft, s: &[u64], out: &mut [u8], at: usize) -> usize
+    requires { ⌜ length (now s) ≡ shareLen ⌝ }
+    requires { ⌜ isSome (versionItems (rows form) delta (now s) p) ≡ true ⌝ }
+    requires { ⌜ at + length (bytesOf (rows form) (versionItems (rows form) delta (now s) p)) ≤ length (now out) ⌝ }
+    ensures { λ r. ⌜ Wrote (now (out .entry)) at (bytesOf (rows form) (versionItems (rows form) delta (now (s .entry)) p)) (now (out .exit)) r ⌝ }
+{
+    let old = usual_version(delta, s);
+    let c = wire::zigzag::code(form, cells::coding_of(delta), old, p.version);
+    tuples::put_number(form, p.stands & (p.version != old), VERSION, c, out, at)
+}
+
+pub fn flags_size(form: Form, delta: bool, p: Prft, s: &[u64]) -> Weight
+    requires { ⌜ length (now s) ≡ shareLen ⌝ }
+    ensures { λ w. ⌜ WeighedAs (rows form) (flagsItems (rows form) delta (now (s .entry)) p) 16 w ⌝ }
+{
+    let old = usual_flags(delta, s);
+    let c = wire::zigzag::code(form, cells::coding_of(delta), old, p.flags);
+    tuples::number_size(form, p.stands & (p.flags != old), FLAGS, c)
+}
+
+pub fn put_flags(form: Form, delta: bool, p: Prft, s: &[u64], out: &mut [u8], at: usize) -> usize
+    requires { ⌜ length (now s) ≡ shareLen ⌝ }
+    requires { ⌜ isSome (flagsItems (rows form) delta (now s) p) ≡ true ⌝ }
+    requires { ⌜ at + length (bytesOf (rows form) (flagsItems (rows form) delta (now s) p)) ≤ length (now out) ⌝ }
+    ensures { λ r. ⌜ Wrote (now (out .entry)) at (bytesOf (rows form) (flagsItems (rows form) delta (now (s .entry)) p)) (now (out .exit)) r ⌝ }
+{
+    let old = usual_flags(delta, s);
+    let c = wire::zigzag::code(form, cells::coding_of(delta), old, p.flags);
+    tuples::put_number(form, p.stands & (p.flags != old), FLAGS, c, out, at)
+}

@@ -1,0 +1,230 @@
+// The set of moof fields in an object: every line of the table, with BMDT and the sample count among them by their ids.
+ghost use mathlib.Core.Path.{_≡_};
+ghost use mathlib.Core.Bool.{true};
+ghost use Prim.Native.Nat.{_+_, _-_, _*_, _≤_, _<_};
+ghost use lib.ListN.{length, getD};
+ghost use lib.Seq.{slice};
+ghost use Rattle.laws.specs.Writes.{Wrote};
+ghost use Rattle.wire.specs.Form.{rows};
+ghost use Rattle.block.specs.Entries.{isSome};
+ghost use Rattle.fieldset.specs.Lines.{lines};
+ghost use Rattle.writing.specs.Items.{bytesOf, WeighedAs};
+ghost use Rattle.writing.specs.Changes.{basisOf, Writable};
+ghost use Rattle.writing.specs.Fields.{linesItems, bmdtStands, bmdtItems, countStands, countItems, fieldItems};
+use crate::cells;
+use crate::cells::Basis;
+use crate::tuples;
+use crate::tuples::Weight;
+use fieldset::lawful;
+use fieldset::lines;
+use fieldset::lines::Measure;
+use track::Track;
+use wire::form::Form;
+use wire::zigzag::Coding;
+
+// The ids that have no line.
+const BMDT: u64 = 10;
+
+const COUNT: u64 = 14;
+
+// The lines before BMDT, and those before the sample count.
+const BEFORE_BMDT: usize = 9;
+
+const BEFORE_COUNT: usize = 12;
+
+// What the set x is written against: in a delta the reference r, in a full object nothing.
+pub fn basis_of(t: Track, delta: bool, r: &[u64], x: &[u64]) -> Basis
+    requires { ⌜ Writable t delta (now r) (now x) ⌝ }
+    ensures { λ b. ⌜ b ≡ basisOf t delta (now (r .entry)) (now (x .entry)) ⌝ }
+{
+    let now = lawful::measure(t, x);
+    if delta {
+        return Basis {
+            delta: true,
+            was: lawful::measure(t, r),
+            now,
+        };
+    }
+    Basis {
+        delta: false,
+        was: Measure {
+            count: 0,
+            ivs: 0,
+            sum: 0,
+        },
+        now,
+    }
+}
+
+// ---- BMDT and the sample count
+
+// BMDT goes by its own rule: it is left out where it follows from the reference, and not where it is the reference's.
+fn bmdt_stands(t: Track, delta: bool, r: &[u64], x: &[u64]) -> bool
+    requires { ⌜ Writable t delta (now r) (now x) ⌝ }
+    ensures { λ b. ⌜ b ≡ bmdtStands t delta (now (r .entry)) (now (x .entry)) ⌝ }
+{
+    if !delta {
+        return true;
+    }
+    x[lines::BMDT] != r[lines::BMDT] + object::bmdt::durations(t, r)
+}
+
+fn count_stands(t: Track, delta: bool, r: &[u64], x: &[u64]) -> bool
+    requires { ⌜ Writable t delta (now r) (now x) ⌝ }
+    ensures { λ b. ⌜ b ≡ countStands t delta (now (r .entry)) (now (x .entry)) ⌝ }
+{
+    !delta | (x[lines::COUNT] != r[lines::COUNT])
+}
+
+// BMDT is absolute in a delta too.
+fn bmdt_size(form: Form, t: Track, delta: bool, r: &[u64], x: &[u64]) -> Weight
+    requires { ⌜ Writable t delta (now r) (now x) ⌝ }
+    ensures { λ w. ⌜ WeighedAs (rows form) (bmdtItems (rows form) t delta (now (r .entry)) (now (x .entry))) 16 w ⌝ }
+{
+    let c = wire::zigzag::code(form, Coding::Plain, 0, x[lines::BMDT]);
+    tuples::number_size(form, bmdt_stands(t, delta, r, x), BMDT, c)
+}
+
+fn put_bmdt(
+    form: Form,
+    t: Track,
+    delta: bool,
+    r: &[u64],
+    x: &[u64],
+    out: &mut [u8],
+    at: usize,
+) -> usize
+    requires { ⌜ Writable t delta (now r) (now x) ⌝ }
+    requires { ⌜ isSome (bmdtItems (rows form) t delta (now r) (now x)) ≡ true ⌝ }
+    requires { ⌜ at + length (bytesOf (rows form) (bmdtItems (rows form) t delta (now r) (now x))) ≤ length (now out) ⌝ }
+    ensures { λ p. ⌜ Wrote (now (out .entry)) at (bytesOf (rows form) (bmdtItems (rows form) t delta (now (r .entry)) (now (x .entry)))) (now (out .exit)) p ⌝ }
+{
+    let c = wire::zigzag::code(form, Coding::Plain, 0, x[lines::BMDT]);
+    tuples::put_number(form, bmdt_stands(t, delta, r, x), BMDT, c, out, at)
+}
+
+fn count_size(form: Form, t: Track, delta: bool, r: &[u64], x: &[u64]) -> Weight
+    requires { ⌜ Writable t delta (now r) (now x) ⌝ }
+    ensures { λ w. ⌜ WeighedAs (rows form) (countItems (rows form) t delta (now (r .entry)) (now (x .entry))) 16 w ⌝ }
+{
+    let c = wire::zigzag::code(
+        form,
+        cells::coding_of(delta),
+        r[lines::COUNT],
+        x[lines::COUNT],
+    );
+    tuples::number_size(form, count_stands(t, delta, r, x), COUNT, c)
+}
+
+fn put_count(
+    form: Form,
+    t: Track,
+    delta: bool,
+    r: &[u64],
+    x: &[u64],
+    out: &mut [u8],
+    at: usize,
+) -> usize
+    requires { ⌜ Writable t delta (now r) (now x) ⌝ }
+    requires { ⌜ isSome (countItems (rows form) t delta (now r) (now x)) ≡ true ⌝ }
+    requires { ⌜ at + length (bytesOf (rows form) (countItems (rows form) t delta (now r) (now x))) ≤ length (now out) ⌝ }
+    ensures { λ p. ⌜ Wrote (now (out .entry)) at (bytesOf (rows form) (countItems (rows form) t delta (now (r .entry)) (now (x .entry)))) (now (out .exit)) p ⌝ }
+{
+    let c = wire::zigzag::code(
+        form,
+        cells::coding_of(delta),
+        r[lines::COUNT],
+        x[lines::COUNT],
+    );
+    tuples::put_number(form, count_stands(t, delta, r, x), COUNT, c, out, at)
+}
+
+// ---- the lines
+
+// The lines from a number up to another.
+fn lines_size(
+    form: Form,
+    t: Track,
+    b: Basis,
+    r: &[u64],
+    x: &[u64],
+    from: usize,
+    to: usize,
+) -> Weight
+    requires { ⌜ Writable t (b .delta) (now r) (now x) × (b ≡ basisOf t (b .delta) (now r) (now x)) ⌝ }
+    requires { ⌜ (from ≤ to) × (to ≤ 14) ⌝ }
+    ensures { λ w. ⌜ WeighedAs (rows form) (linesItems (rows form) t (b .delta) (now (r .entry)) (now (x .entry)) (slice from to lines)) (2064 * (to - from)) w ⌝ }
+{
+    let mut sum = tuples::whole(0);
+    let mut i = from;
+    while i < to {
+        let w = cells::line_size(form, t, b, r, x, i);
+        sum = tuples::both(sum, w);
+        i += 1;
+    }
+    sum
+}
+
+fn put_lines(
+    form: Form,
+    t: Track,
+    b: Basis,
+    r: &[u64],
+    x: &[u64],
+    from: usize,
+    to: usize,
+    out: &mut [u8],
+    at: usize,
+) -> usize
+    requires { ⌜ Writable t (b .delta) (now r) (now x) × (b ≡ basisOf t (b .delta) (now r) (now x)) ⌝ }
+    requires { ⌜ (from ≤ to) × (to ≤ 14) ⌝ }
+    requires { ⌜ isSome (linesItems (rows form) t (b .delta) (now r) (now x) (slice from to lines)) ≡ true ⌝ }
+    requires { ⌜ at + length (bytesOf (rows form) (linesItems (rows form) t (b .delta) (now r) (now x) (slice from to lines))) ≤ length (now out) ⌝ }
+    ensures { λ p. ⌜ Wrote (now (out .entry)) at (bytesOf (rows form) (linesItems (rows form) t (b .delta) (now (r .entry)) (now (x .entry)) (slice from to lines))) (now (out .exit)) p ⌝ }
+{
+    let mut p = at;
+    let mut i = from;
+    while i < to {
+        p = cells::put_line(form, t, b, r, x, i, out, p);
+        i += 1;
+    }
+    p
+}
+
+// ---- ids 1 to 16
+
+pub fn set_size(form: Form, t: Track, b: Basis, r: &[u64], x: &[u64]) -> Weight
+    requires { ⌜ Writable t (b .delta) (now r) (now x) × (b ≡ basisOf t (b .delta) (now r) (now x)) ⌝ }
+    ensures { λ w. ⌜ WeighedAs (rows form) (fieldItems (rows form) t (b .delta) (now (r .entry)) (now (x .entry))) 28928 w ⌝ }
+{
+    let low = lines_size(form, t, b, r, x, 0, BEFORE_BMDT);
+    let bmdt = bmdt_size(form, t, b.delta, r, x);
+    let middle = lines_size(form, t, b, r, x, BEFORE_BMDT, BEFORE_COUNT);
+    let count = count_size(form, t, b.delta, r, x);
+    let high = lines_size(form, t, b, r, x, BEFORE_COUNT, lines::LINES);
+    let last = tuples::both(count, high);
+    let rest = tuples::both(middle, last);
+    let later = tuples::both(bmdt, rest);
+    tuples::both(low, later)
+}
+
+pub fn put_set(
+    form: Form,
+    t: Track,
+    b: Basis,
+    r: &[u64],
+    x: &[u64],
+    out: &mut [u8],
+    at: usize,
+) -> usize
+    requires { ⌜ Writable t (b .delta) (now r) (now x) × (b ≡ basisOf t (b .delta) (now r) (now x)) ⌝ }
+    requires { ⌜ isSome (fieldItems (rows form) t (b .delta) (now r) (now x)) ≡ true ⌝ }
+    requires { ⌜ at + length (bytesOf (rows form) (fieldItems (rows form) t (b .delta) (now r) (now x))) ≤ length (now out) ⌝ }
+    ensures { λ p. ⌜ Wrote (now (out .entry)) at (bytesOf (rows form) (fieldItems (rows form) t (b .delta) (now (r .entry)) (now (x .entry)))) (now (out .exit)) p ⌝ }
+{
+    let p = put_lines(form, t, b, r, x, 0, BEFORE_BMDT, out, at);
+    let q = put_bmdt(form, t, b.delta, r, x, out, p);
+    let u = put_lines(form, t, b, r, x, BEFORE_BMDT, BEFORE_COUNT, out, q);
+    let v = put_count(form, t, b.delta, r, x, out, u);
+    put_lines(form, t, b, r, x, BEFORE_COUNT, lines::LINES, out, v)
+}
