@@ -1,0 +1,127 @@
+-- The kind of object that is chosen, and all of it before the payload. Assumes nothing.
+use Prim.Native.Nat.{ℕ, _+_, _-_, _^_, _≤_, _<_}
+use native.Mathlib.Omega.{arith}
+use mathlib.Core.Path.{_≡_, refl, sym, _∙_, ap}
+use mathlib.Core.Bool.{Bool, true, false, not, _||_}
+use mathlib.Core.List.{List, [], _∷_}
+use borrow.Author.Tests.{eqb-false, not-true}
+use lib.Dec.{eqb, leb}
+use lib.ListN.{length, getD, length-append}
+use Rattle.laws.specs.Tests.{_and_}
+use Rattle.laws.proofs.TestLaws.{left, and-left, and-right}
+use Rattle.laws.proofs.PartLaws.{joined}
+use Rattle.wire.specs.declared.form.Row.{Row}
+use Rattle.wire.specs.declared.form.Form.{Form}
+use Rattle.wire.specs.Form.{rows, limit}
+use Rattle.wire.specs.Varint.{encode, sizeOf}
+use Rattle.wire.proofs.VarintLaws.{length-encode}
+use Rattle.emsgs.proofs.NumberLaws.{limit-32}
+use Rattle.block.specs.Entries.{isSome}
+use Rattle.slots.specs.Share.{heldAt}
+use Rattle.accepted.specs.Accepted.{bmdt}
+use Rattle.writing.specs.declared.tuples.Weight.{Weight}
+use Rattle.writing.specs.Items.{bytesOf, WeighedAs}
+use Rattle.encoder.specs.declared.front.Plan.{Plan}
+use Rattle.encoder.specs.Object.{headerOf, blockItems, objectOf, mayDelta, givesDelta, fitsOk, front}
+use Rattle.encoder.specs.Planned.{Held, PlannedAs}
+
+-- ---- the kind of object
+
+module _ (F : List Row) (s c : List ℕ) (wish : Bool) where
+  -- a delta may be tried only where a reference is held
+  pub may-held : mayDelta F s c wish ≡ true → getD s heldAt 0 ≡ 0 → ⊥
+  unfolding mayDelta
+  may-held m = eqb-false _ _ (not-true _ (and-left (not (eqb (getD s heldAt 0) 0)) _ (and-right wish _ m)))
+
+  gives-held : Held (givesDelta F s c wish) s
+  unfolding givesDelta
+  gives-held g = may-held (left _ _ g)
+
+  -- a delta is given where it may and can be
+  gives : mayDelta F s c wish ≡ true → isSome (blockItems F s c true) ≡ true → givesDelta F s c wish ≡ true
+  unfolding givesDelta _and_
+  gives m f = rw (m, f)
+
+  -- and not where it may not, or can't
+  pub gives-not-may : mayDelta F s c wish ≡ false → givesDelta F s c wish ≡ false
+  unfolding givesDelta _and_
+  gives-not-may m = rw m
+
+  pub gives-not-can : {d : Weight} → WeighedAs F (blockItems F s c true) 40000 d → d .fits ≡ false → givesDelta F s c wish ≡ false
+  unfolding givesDelta _and_
+  gives-not-can w f = let n : isSome (blockItems F s c true) ≡ false = sym (w .fits) ∙ f in go (mayDelta F s c wish) n
+    where
+      go : (m : Bool) → isSome (blockItems F s c true) ≡ false → (m and isSome (blockItems F s c true)) ≡ false
+      go true n = n
+      go false n = refl
+
+  module _ (small : leb (bmdt c) (2 ^ 62 - 1) ≡ true) where
+    fits-is : fitsOk F s c wish ≡ (givesDelta F s c wish || isSome (blockItems F s c false))
+    unfolding fitsOk _and_
+    fits-is = rw small
+
+    -- the plan for a delta
+    pub planned-delta : {d : Weight} → mayDelta F s c wish ≡ true → WeighedAs F (blockItems F s c true) 40000 d → d .fits ≡ true
+        → PlannedAs F s c wish (record { fits = true; delta = true; block = d .bytes })
+    planned-delta m w f =
+        let e : isSome (blockItems F s c true) ≡ true = sym (w .fits) ∙ f in
+        let g : givesDelta F s c wish ≡ true = gives m e in
+        record {
+          answered = sym (fits-is ∙ ap (λ (b : Bool). b || isSome (blockItems F s c false)) g);
+          kind = λ z. sym g;
+          all-fit = λ z. e;
+          block = λ z. w .bytes e;
+          small = omega (arith, w .small);
+        }
+
+    -- and for a full object
+    pub planned-full : {d : Weight} → givesDelta F s c wish ≡ false → WeighedAs F (blockItems F s c false) 40000 d
+        → PlannedAs F s c wish (record { fits = d .fits; delta = false; block = d .bytes })
+    planned-full g w =
+        record {
+          answered = w .fits ∙ sym (fits-is ∙ ap (λ (b : Bool). b || isSome (blockItems F s c false)) g);
+          kind = λ z. sym g;
+          all-fit = λ z. sym (w .fits) ∙ z;
+          block = λ z. w .bytes (sym (w .fits) ∙ z);
+          small = omega (arith, w .small);
+        }
+
+-- ---- all before the payload
+
+-- a header, the block's length, and the block
+abbrev pub frontParts : List Row → List ℕ → List ℕ → Plan → ℕ → List (List ℕ)
+frontParts F s c a h = encode F h ∷ encode F (a .block) ∷ bytesOf F (blockItems F s c (a .delta)) ∷ []
+
+header-small : (delta : Bool) → headerOf delta ≤ 25
+unfolding headerOf
+header-small true = omega arith
+header-small false = omega arith
+
+module _ {F : List Row} {s c : List ℕ} {wish : Bool} {a : Plan} (p : PlannedAs F s c wish a) (f : a .fits ≡ true) where
+  -- a reference is held for a delta
+  pub planned-held : Held (a .delta) s
+  planned-held d = gives-held F s c wish (sym (p .kind f) ∙ d)
+
+  pub front-parts : (h : ℕ) → h ≡ headerOf (a .delta) → joined (frontParts F s c a h) ≡ front F s c wish
+  unfolding front objectOf
+  front-parts h e = rw (e, ← p .kind f, ← p .block f)
+
+  front-bytes : length (front F s c wish)
+      ≡ length (encode F (headerOf (a .delta))) + (length (encode F (a .block)) + a .block)
+  front-bytes =
+      sym (ap length (front-parts _ refl))
+      ∙ omega (
+        arith,
+        p .block f,
+        length-append (encode F (headerOf (a .delta))) (joined (encode F (a .block) ∷ bytesOf F (blockItems F s c (a .delta)) ∷ [])),
+        length-append (encode F (a .block)) (bytesOf F (blockItems F s c (a .delta))),
+      )
+
+module _ (form : Form) {s c : List ℕ} {wish : Bool} {a : Plan} (p : PlannedAs (rows form) s c wish a) (f : a .fits ≡ true) where
+  -- its length
+  pub front-length : {h : ℕ} → h ≡ headerOf (a .delta)
+      → sizeOf (rows form) h + (sizeOf (rows form) (a .block) + a .block) ≡ length (front (rows form) s c wish)
+  front-length {h} e =
+      let i : headerOf (a .delta) < limit (rows form) = omega (arith, limit-32 form, header-small (a .delta)) in
+      let j : a .block < limit (rows form) = omega (arith, limit-32 form, p .small) in
+      rw e (omega (arith, front-bytes p f, length-encode (rows form) (headerOf (a .delta)) i, length-encode (rows form) (a .block) j))

@@ -1,0 +1,103 @@
+-- What is known of a chunk that can be encoded: what was handed on of it, and its set and the reference as they are lent. Assumes nothing.
+use Prim.Native.Nat.{ℕ, _-_, _^_, _≤_}
+use native.Mathlib.Omega.{arith}
+use mathlib.Core.Path.{_≡_, sym, _∙_, ap, subst}
+use mathlib.Core.Bool.{Bool, true}
+use mathlib.Core.List.{List}
+use borrow.Author.Tests.{ne-eqb}
+use borrow.Rule.Slice.PartAt.{part-to-end}
+use lib.Dec.{leb}
+use lib.ListN.{length, getD, take, drop, length-drop}
+use Rattle.laws.proofs.TestLaws.{left, right}
+use Rattle.wire.specs.declared.form.Row.{Row}
+use Rattle.track.specs.declared.Track.{Track}
+use Rattle.track.proofs.TrackLaws.{ranges}
+use Rattle.fieldset.specs.Lines.{setLen}
+use Rattle.fieldset.specs.Lawful.{lawful}
+use Rattle.fields.proofs.SetLaws.{words-start}
+use Rattle.slots.specs.declared.share.Side.the-variants.{Encoder}
+use Rattle.slots.specs.Share.{setAt, askedOf, trackOf}
+use Rattle.exchange.proofs.OpenLaws.{Opened, opened-facts, held-facts}
+use Rattle.shape.specs.Parts.{bodyOf, endOf}
+use Rattle.shape.proofs.PartLaws.{body-in}
+use Rattle.shape.proofs.TopLaws.{top-in, styp-inside}
+use Rattle.gather.specs.Set.{chunkSet}
+use Rattle.accepted.specs.declared.read.Chunk.{Chunk}
+use Rattle.accepted.specs.Accepted.{top, bmdt, prft, fields}
+use Rattle.writing.specs.declared.cells.Basis.{Basis}
+use Rattle.writing.specs.Changes.{basisOf, Writable}
+use Rattle.encoder.specs.Planned.{Encodable, Held}
+
+-- the reference as it is lent
+abbrev pub lent : List ℕ → List ℕ
+lent s = take (length s - setAt) (drop setAt s)
+
+-- the set has BMDT
+start-is : (t : Track) (c : List ℕ) → getD (fields t c) 0 0 ≡ bmdt c
+unfolding fields chunkSet bmdt
+start-is t c = words-start _ _ _
+
+-- a lawful set keeps its maximum
+start-small : (t : Track) (x : List ℕ) → lawful t x ≡ true → leb (getD x 0 0) (2 ^ 62 - 1) ≡ true
+unfolding lawful
+start-small t x h = left _ _ (right _ _ (right _ _ h))
+
+-- a basis is that of its own kind of object
+pub basis-own : {t : Track} {delta : Bool} {r x : List ℕ} {b : Basis} → Writable t delta r x → b ≡ basisOf t delta r x
+    → Writable t (b .delta) r x × (b ≡ basisOf t (b .delta) r x)
+basis-own {t} {delta} {r} {x} {b} w e =
+    let d : b .delta ≡ delta = ap (λ (q : Basis). q .delta) e in
+    (subst (λ (y : Bool). Writable t y r x) (sym d) w, e ∙ ap (λ (y : Bool). basisOf t y r x) (sym d))
+
+module _ {F : List Row} {t : Track} {s c : List ℕ} {k : Chunk} {ws x : List ℕ} (h : Encodable F t s c k ws x) where
+  -- the parts of what was handed on
+
+  pub prft-is : k .prft ≡ prft c
+  prft-is = ap (λ (q : Chunk). q .prft) (h .accepted .chunk-is)
+
+  pub events-is : k .events ≡ top c .events
+  events-is = ap (λ (q : Chunk). q .events) (h .accepted .chunk-is)
+
+  pub brands-is : k .brands ≡ bodyOf (top c .styp)
+  brands-is = ap (λ (q : Chunk). q .brands) (h .accepted .chunk-is)
+
+  -- what stands in the `styp` lies in the chunk
+  pub brands-inside : endOf (k .brands) ≤ length c
+  brands-inside = rw brands-is (omega (arith, body-in (top c .styp) .ends, styp-inside (top-in c) .within))
+
+  -- BMDT
+  pub bmdt-is : getD x 0 0 ≡ bmdt c
+  bmdt-is = ap (λ (w : List ℕ). getD w 0 0) (h .accepted .set-is) ∙ start-is t c
+
+  pub bmdt-small : leb (bmdt c) (2 ^ 62 - 1) ≡ true
+  bmdt-small = ap (λ (n : ℕ). leb n (2 ^ 62 - 1)) (sym bmdt-is) ∙ start-small t x (h .lawful-set)
+
+  -- the share
+  facts : Opened Encoder s
+  facts = opened-facts Encoder s (h .on-share .lawful-share) (h .on-share .opened)
+
+  old-long : length (drop setAt s) ≡ setLen
+  old-long = omega (arith, length-drop setAt s, h .on-share .share)
+
+  -- the sets can be written: in a delta there is a reference
+  pub writable : (delta : Bool) → Held delta s → Writable t delta (lent s) x
+  writable delta held =
+      record {
+        old-words = rw (part-to-end s setAt) old-long;
+        new-words = h .set-long;
+        old =
+            λ d.
+            rw (part-to-end s setAt, h .on-share .track-is)
+            (held-facts (trackOf s) s (facts .reference) (ne-eqb _ _ (held d)) .1);
+        new = h .lawful-set;
+        iv = rw (h .on-share .track-is) (ranges (askedOf s) (facts .track) .iv-size);
+      }
+
+  -- whatever goes by the sets as they are lent goes by the chunk and the share
+  pub same-sets : {A : Type 0} (f : Track → Bool → List ℕ → List ℕ → A) {delta : Bool} {b : Basis} → b ≡ basisOf t delta (lent s) x
+      → f t (b .delta) (lent s) x ≡ f (trackOf s) delta (drop setAt s) (fields (trackOf s) c)
+  same-sets f {delta} {b} e =
+      ap (λ (q : Basis). f t (q .delta) (lent s) x) e
+      ∙ ap (λ (r : List ℕ). f t delta r x) (part-to-end s setAt)
+      ∙ ap (f t delta (drop setAt s)) (h .accepted .set-is)
+      ∙ ap (λ (u : Track). f u delta (drop setAt s) (fields u c)) (h .on-share .track-is)

@@ -1,0 +1,11 @@
+pub mod GivenLaws
+pub mod RunLaws
+pub mod BrandLaws
+pub mod EventLaws
+pub mod BlockLaws
+pub mod FrontLaws
+pub mod ChunkLaws
+pub mod WriteLaws
+pub mod EncodeLaws
+pub mod BlockSizes
+pub mod Theorems

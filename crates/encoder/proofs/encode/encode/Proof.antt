@@ -1,0 +1,91 @@
+-- `encoder::encode::encode` meets its contract, by the laws of a call on a share seen from the table. Assumes nothing.
+use mathlib.Core.Path.{_∙_}
+use denote.Ref.{now}
+use Rattle.wire.specs.declared.form.Form.the-variants.{Rfc9000}
+use Rattle.wire.specs.Form.{rows}
+use Rattle.slots.proofs.TableLaws.{wrong-length, wrong-slot, on-share}
+use Rattle.exchange.specs.Took.{refused}
+use Rattle.encoder.specs.Encode.{wished, encoding}
+use Rattle.encoder.proofs.WriteLaws.{refused-is}
+use borrow.Author.Needs.{needs}
+use Rattle.encoder.proofs.encode.encode.Statement.{statement}
+use Rattle.encoder.proofs.encode.encode.Tie as tie
+
+refuse-requires : tie.Need-refuse-requires
+refuse-requires c κs = search needs
+
+returns : tie.Need-returns
+returns c =
+    let i = c .before .before .before in
+    let b = i .before .before .before .before in
+    let a = b .args in
+    refused-is (now (a .output)) (now (a .table)) 18 (c .refuse .ensures)
+    ∙ wrong-length (refused (now (a .output))) (encoding (rows Rfc9000) (wished (a .wish)) (now (a .chunk)) (now (a .output))) (now (a .table)) (a .slot)
+    (i .if1 .taken)
+
+refuse-requires-2 : tie.Need-refuse-requires-2
+refuse-requires-2 c κs = search needs
+
+returns-2 : tie.Need-returns-2
+returns-2 c =
+    let i = c .before .before .before in
+    let b = i .before .before .before .before .before in
+    let a = b .args in
+    refused-is (now (a .output)) (now (a .table)) 1 (c .refuse2 .ensures)
+    ∙ wrong-slot (refused (now (a .output))) (encoding (rows Rfc9000) (wished (a .wish)) (now (a .chunk)) (now (a .output))) (now (a .table)) (a .slot)
+    (i .before .if1 .left) (i .if2 .taken)
+
+mul-at : tie.Need-mul-at
+mul-at c = search needs
+
+add-take-share : tie.Need-add-take-share
+add-take-share c = search needs
+
+mul-take-share : tie.Need-mul-take-share
+mul-take-share c = search needs
+
+sub-take-share : tie.Need-sub-take-share
+sub-take-share c = search needs
+
+part-take-share-start : tie.Need-part-take-share-start
+part-take-share-start c = search needs
+
+part-take-share-end : tie.Need-part-take-share-end
+part-take-share-end c = search needs
+
+take-share-requires : tie.Need-take-share-requires
+take-share-requires c κs = search needs
+
+same-length : tie.Need-same-length
+same-length c = search needs
+
+same-length-2 : tie.Need-same-length-2
+same-length-2 c = search needs
+
+returns-3 : tie.Need-returns-3
+returns-3 c =
+    let f = c .before .before .before .before in
+    let i = f .before .before .before .before .before in
+    let b = i .before .before .before .before .before in
+    let a = b .args in
+    on-share (refused (now (a .output))) (encoding (rows Rfc9000) (wished (a .wish)) (now (a .chunk)) (now (a .output))) (now (a .table)) (a .slot) _ _
+    (i .before .if1 .left) (i .if2 .left) (f .take-share .ensures)
+
+pub encode-spec : {M : Type 1} → statement M
+encode-spec =
+    tie.close
+    (tie.spec
+    refuse-requires
+    returns
+    refuse-requires-2
+    returns-2
+    mul-at
+    add-take-share
+    mul-take-share
+    sub-take-share
+    part-take-share-start
+    part-take-share-end
+    take-share-requires
+    same-length
+    same-length-2
+    returns-3)

@@ -1,0 +1,139 @@
+-- `encoder::encode::write` meets its contract, by the laws of `proofs/WriteLaws.antt`. Assumes nothing.
+use mathlib.Core.Path.{_∙_}
+use borrow.Author.Tests.{not-false}
+use denote.Ref.{now}
+use Rattle.encoder.proofs.WriteLaws.{refused-is, part-in, unfit, room, short, done-is}
+use borrow.Author.Needs.{needs}
+use Rattle.encoder.proofs.encode.write.Statement.{statement}
+use Rattle.encoder.proofs.encode.write.Tie as tie
+
+choose-requires : tie.Need-choose-requires
+choose-requires c κs = c .before .before .before .before .before .before .pre
+
+refuse-requires : tie.Need-refuse-requires
+refuse-requires c κs = search needs
+
+same-length : tie.Need-same-length
+same-length c = search needs
+
+returns : tie.Need-returns
+returns c =
+    let p = c .before .before .before .before .before in
+    let b = p .before .before .before .before .before .before .before in
+    let a = b .args in
+    refused-is (now (a .output)) (now (a .s)) 9 (c .refuse .ensures)
+    ∙ unfit _ _ _ _ _ _ _ (b .pre) (a .wish) (now (a .output)) _ (p .choose .ensures) (c .before .before .before .if1 .taken)
+
+front-length-requires : tie.Need-front-length-requires
+front-length-requires c κs =
+    let p = c .before .before .before in
+    let b = p .before .before .before .before .before .before .before in
+    (b .pre, (p .choose .ensures, not-false _ (c .before .if1 .left)))
+
+refuse-requires-2 : tie.Need-refuse-requires-2
+refuse-requires-2 c κs = search needs
+
+same-length-2 : tie.Need-same-length-2
+same-length-2 c = search needs
+
+returns-2 : tie.Need-returns-2
+returns-2 c =
+    let f = c .before .before .before .before in
+    let p = f .before .before .before .before in
+    let b = p .before .before .before .before .before .before .before in
+    let a = b .args in
+    refused-is (now (a .output)) (now (a .s)) 17 (c .refuse2 .ensures)
+    ∙ short _ _ _ _ _ _ _ (b .pre) (a .wish) (now (a .output)) _ (p .choose .ensures) (f .before .before .if1 .left) _
+    (f .front-length .ensures) (c .before .before .before .if2 .taken)
+
+put-front-requires : tie.Need-put-front-requires
+put-front-requires c κs =
+    let f = c .before .before .before in
+    let p = f .before .before .before .before in
+    let b = p .before .before .before .before .before .before .before in
+    let a = b .args in
+    let l = room _ _ _ _ _ _ _ (b .pre) (a .wish) (now (a .output)) _ (p .choose .ensures) (f .before .before .if1 .left) _
+    (f .front-length .ensures) _ (c .before .before .if2 .left) in
+    (b .pre, ((p .choose .ensures, not-false _ (f .before .before .if1 .left)), l))
+
+slice-read-sequence : tie.Need-slice-read-sequence
+slice-read-sequence c =
+    let w = c .before .before .before .before in
+    let p = w .before .before .before .before .before .before .before .before in
+    let b = p .before .before .before .before .before .before .before in
+    let z = b .pre .on-share .share in
+    search needs
+
+keep-requires : tie.Need-keep-requires
+keep-requires c κs =
+    let w = c .before .before .before .before .before in
+    let p = w .before .before .before .before .before .before .before .before in
+    let b = p .before .before .before .before .before .before .before in
+    (b .pre .on-share .share, b .pre .set-long)
+
+add-end : tie.Need-add-end
+add-end c =
+    let w = c .before .before .before .before .before .before .before .before .before in
+    let p = w .before .before .before .before .before .before .before .before in
+    let b = p .before .before .before .before .before .before .before in
+    let z = part-in _ _ _ _ _ _ _ (b .pre) in
+    let l = b .good .1 .1 .1 .0 in
+    search needs
+
+sub-result : tie.Need-sub-result
+sub-result c = search needs
+
+part-result-start : tie.Need-part-result-start
+part-result-start c =
+    let w = c .before .before .before .before .before .before .before .before .before in
+    let p = w .before .before .before .before .before .before .before .before in
+    let b = p .before .before .before .before .before .before .before in
+    let z = part-in _ _ _ _ _ _ _ (b .pre) in
+    search needs
+
+part-result-end : tie.Need-part-result-end
+part-result-end c =
+    let w = c .before .before .before .before .before .before .before .before .before in
+    let p = w .before .before .before .before .before .before .before .before in
+    let b = p .before .before .before .before .before .before .before in
+    part-in _ _ _ _ _ _ _ (b .pre)
+
+same-length-3 : tie.Need-same-length-3
+same-length-3 c = search needs
+
+same-length-4 : tie.Need-same-length-4
+same-length-4 c = search needs
+
+returns-3 : tie.Need-returns-3
+returns-3 c =
+    let k = c .before .before .before .before in
+    let w = k .before .before .before .before .before .before in
+    let f = w .before .before .before .before in
+    let p = f .before .before .before .before in
+    let b = p .before .before .before .before .before .before .before in
+    let a = b .args in
+    done-is _ _ _ _ _ _ _ (b .pre) (a .wish) (now (a .output)) _ (p .choose .ensures) (f .before .before .if1 .left) _ (f .front-length .ensures)
+    (w .before .before .before .if2 .left) _ _ _ (w .put-front .ensures) (k .keep .ensures)
+
+pub write-spec : {M : Type 1} → statement M
+write-spec =
+    tie.close
+    (tie.spec
+    choose-requires
+    refuse-requires
+    same-length
+    returns
+    front-length-requires
+    refuse-requires-2
+    same-length-2
+    returns-2
+    put-front-requires
+    slice-read-sequence
+    keep-requires
+    add-end
+    sub-result
+    part-result-start
+    part-result-end
+    same-length-3
+    same-length-4
+    returns-3)

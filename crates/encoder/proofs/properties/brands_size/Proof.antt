@@ -1,0 +1,37 @@
+-- `encoder::properties::brands_size` meets its contract: no brands, or one tuple with the bytes of the `styp` but its minor version. Assumes nothing.
+use native.Mathlib.Omega.{arith}
+use Rattle.encoder.proofs.RunLaws.{none-weighed}
+use Rattle.encoder.proofs.BrandLaws.{brands-none, brands-long, brands-weighed}
+use borrow.Author.Needs.{needs}
+use Rattle.encoder.proofs.properties.brands_size.Statement.{statement}
+use Rattle.encoder.proofs.properties.brands_size.Tie as tie
+
+whole-requires : tie.Need-whole-requires
+whole-requires c κs = search needs
+
+returns : tie.Need-returns
+returns c =
+    let b = c .before .before .before .before .before .before in
+    none-weighed _ 80 (brands-none (b .args .form) (b .pre) _ (c .before .if1 .taken)) (c .whole .ensures)
+
+sub-body-size : tie.Need-sub-body-size
+sub-body-size c =
+    let b = c .before .before .before .before .before in
+    let l = brands-long (b .args .form) (b .pre) (b .args .delta) (c .if1 .left) in
+    search needs
+
+body-size-requires : tie.Need-body-size-requires
+body-size-requires c κs = omega (arith, c .before .before .before .before .before .pre .brands-few)
+
+whole-requires-2 : tie.Need-whole-requires-2
+whole-requires-2 c κs = search needs
+
+returns-2 : tie.Need-returns-2
+returns-2 c =
+    let b = c .before .before .before .before .before .before .before in
+    brands-weighed (b .args .form) (b .pre) _ (c .before .before .if1 .left) (c .before .body-size .ensures) (c .whole2 .ensures)
+
+pub brands-size-spec : {M : Type 1} → statement M
+brands-size-spec =
+    tie.close
+    (tie.spec whole-requires returns sub-body-size body-size-requires whole-requires-2 returns-2)

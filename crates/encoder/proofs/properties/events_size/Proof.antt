@@ -1,0 +1,40 @@
+-- `encoder::properties::events_size` meets its contract: no events, or one tuple with their records. Assumes nothing.
+use native.Mathlib.Omega.{arith}
+use Rattle.encoder.proofs.RunLaws.{none-weighed}
+use Rattle.encoder.proofs.EventLaws.{all-words, events-none, events-weighed}
+use borrow.Author.Needs.{needs}
+use Rattle.encoder.proofs.properties.events_size.Statement.{statement}
+use Rattle.encoder.proofs.properties.events_size.Tie as tie
+
+whole-requires : tie.Need-whole-requires
+whole-requires c κs = search needs
+
+returns : tie.Need-returns
+returns c =
+    let b = c .before .before .before .before .before .before .before in
+    none-weighed _ 4112 (events-none (b .args .form) (b .pre) (c .before .if1 .taken)) (c .whole .ensures)
+
+shared-slice-read-times-fit : tie.Need-shared-slice-read-times-fit
+shared-slice-read-times-fit c = search needs
+
+times-fit-requires : tie.Need-times-fit-requires
+times-fit-requires c κs = let b = c .before .before .before .before .before .before .before in all-words (b .args .form) (b .pre)
+
+body-size-requires : tie.Need-body-size-requires
+body-size-requires c κs = omega (arith, c .before .before .before .before .before .before .before .before .pre .accepted .listed .short)
+
+returns-2 : tie.Need-returns-2
+returns-2 c =
+    let b = c .before .before .before .before .before .before .before .before .before in
+    events-weighed (b .args .form) (b .pre) (c .before .before .before .if1 .left) (c .before .times-fit .ensures) (c .body-size .ensures)
+
+pub events-size-spec : {M : Type 1} → statement M
+events-size-spec =
+    tie.close
+    (tie.spec
+    whole-requires
+    returns
+    shared-slice-read-times-fit
+    times-fit-requires
+    body-size-requires
+    returns-2)

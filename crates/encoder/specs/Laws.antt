@@ -1,0 +1,54 @@
+-- What is to be shown of encoding a chunk.
+use Prim.Native.Nat.{ℕ, _≤_}
+use mathlib.Core.Path.{_≡_}
+use mathlib.Core.Bool.{Bool, true}
+use mathlib.Core.List.{List, [], _++_}
+use lib.ListN.{length, drop}
+use Rattle.laws.specs.Tests.{allLe}
+use Rattle.laws.specs.Ladder.{Given}
+use Rattle.wire.specs.declared.form.Row.{Row}
+use Rattle.wire.specs.declared.form.Form.{Form}
+use Rattle.wire.specs.Form.{rows}
+use Rattle.slots.specs.declared.share.Side.the-variants.{Encoder}
+use Rattle.slots.specs.Share.{shareLen, lawful}
+use Rattle.slots.specs.Table.{Out, shareAt, tableRungs, onTable}
+use Rattle.exchange.specs.Took.{Took, refused}
+use Rattle.writing.specs.Items.{bytesOf}
+use Rattle.encoder.specs.Object.{blockItems, givesDelta}
+use Rattle.encoder.specs.Encode.{encodeRungs, encoding}
+
+-- each number is given exactly when its rule is broken and none before it, in the order of 01
+abbrev pub EncodeExactly : Type 0
+EncodeExactly = (F : List Row) (wish : Bool) (c output t : List ℕ) (slot : ℕ)
+    → Given (onTable (refused output) (encoding F wish c output) t slot .answer .number) (tableRungs t slot ++ encodeRungs F wish c output (shareAt t slot))
+
+-- 01: "Every call on a lawful share leaves it lawful": for any bytes
+abbrev pub EncodeStaysLawful : Type 0
+EncodeStaysLawful = (F : List Row) (wish : Bool) (c output s : List ℕ) → allLe 255 c ≡ true → length s ≡ shareLen → lawful Encoder s ≡ true
+    → lawful Encoder (encoding F wish c output s .words) ≡ true
+
+-- 01: "All but 0 write nothing to the output and hand back length 0 and an empty payload part .. every other refusal changes nothing, in the encoder too."
+pub record Refused (room s : List ℕ) (a : Out Took) : Type 0 where
+  pub front : a .answer .front ≡ 0
+  pub payload : a .answer .payload ≡ []
+  pub untouched : a .answer .output ≡ room
+  pub kept : a .words ≡ s
+
+abbrev pub EncodeRefuses : Type 0
+EncodeRefuses = (F : List Row) (wish : Bool) (c output s : List ℕ) → (encoding F wish c output s .answer .number ≡ 0 → ⊥)
+    → Refused output s (encoding F wish c output s)
+
+-- 01: "Done reports the front's length; bytes past it stay."
+pub record PastStays (output : List ℕ) (a : Took) : Type 0 where
+  pub room : a .front ≤ length output
+  pub long : length (a .output) ≡ length output
+  pub past : drop (a .front) (a .output) ≡ drop (a .front) output
+
+abbrev pub EncodePast : Type 0
+EncodePast = (F : List Row) (wish : Bool) (c output s : List ℕ) → PastStays output (encoding F wish c output s .answer)
+
+-- 01: "property block 16,384 bytes": no number is given for it, since no block of a chunk that keeps the other maxima is longer
+abbrev pub BlockFits : Type 0
+BlockFits = (form : Form) (wish : Bool) (c output s : List ℕ) → allLe 255 c ≡ true → length s ≡ shareLen
+    → encoding (rows form) wish c output s .answer .number ≡ 0
+    → length (bytesOf (rows form) (blockItems (rows form) s c (givesDelta (rows form) s c wish))) ≤ 16384

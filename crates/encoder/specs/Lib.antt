@@ -1,0 +1,4 @@
+pub mod Object
+pub mod Encode
+pub mod Planned
+pub mod Laws

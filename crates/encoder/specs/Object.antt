@@ -1,0 +1,75 @@
+-- The object that a chunk becomes. 01, "Full objects", "Delta objects", "Events".
+use Prim.Native.Nat.{ℕ, _-_, _^_}
+use mathlib.Core.Bool.{Bool, true, false, cond, not, _&&_, _||_}
+use mathlib.Core.List.{List, [], _∷_, _++_}
+use mathlib.Core.Option.{none, some}
+use lib.Dec.{eqb, leb}
+use lib.ListN.{length, getD, drop}
+use Rattle.laws.specs.Tests.{_and_}
+use Rattle.wire.specs.declared.form.Row.{Row}
+use Rattle.wire.specs.Varint.{encode}
+use Rattle.block.specs.Entries.{isSome}
+use Rattle.block.specs.Events.{Event, encEvents}
+use Rattle.block.specs.Written.{run}
+use Rattle.track.specs.declared.Track.{Track}
+use Rattle.slots.specs.Share.{heldAt, prftAt, setAt, trackOf}
+use Rattle.emsgs.specs.Records.{timesFit}
+use Rattle.accepted.specs.Accepted.{bmdt, prft, brands, events, fields}
+use Rattle.writing.specs.Items.{Items, nothing, _before_, itemsIf, bytesOf}
+use Rattle.writing.specs.Fields.{fieldItems, deletionItems}
+use Rattle.writing.specs.Prft.{timesItems, versionItems, flagsItems}
+
+-- 01: "Id 23 from `styp`", in a full object; in a delta "Id 23 never"
+unfoldable pub brandItems : Bool → List ℕ → Items
+brandItems delta names = itemsIf (not delta && not (eqb (length names) 0)) (some (run 23 names ∷ []))
+
+-- 01: "25 from `emsg`"; in a delta "25 whole"
+unfoldable pub eventItems : List Row → List Event → Items
+eventItems F [] = nothing
+eventItems F (e ∷ es) = cond (timesFit F (e ∷ es)) (some (run 25 (encEvents F (e ∷ es)) ∷ [])) none
+
+-- 01: "Full objects (23)", "Delta objects (25)"
+unfoldable pub headerOf : Bool → ℕ
+headerOf delta = cond delta 25 23
+
+-- the chunk c on the share s
+module _ (F : List Row) (s c : List ℕ) where
+  abbrev pub track : Track
+  track = trackOf s
+
+  -- the reference's set
+  abbrev pub reference : List ℕ
+  reference = drop setAt s
+
+  -- 01: "The encoder writes them ascending": ids 1 to 16, 18 and 20, 22, 23, 24, 25, 27
+  unfoldable pub blockItems : Bool → Items
+  blockItems delta =
+      fieldItems F track delta reference (fields track c)
+      before timesItems F delta s (prft c)
+      before versionItems F delta s (prft c)
+      before brandItems delta (brands c)
+      before flagsItems F delta s (prft c)
+      before eventItems F (events track c)
+      before deletionItems F track delta reference (fields track c)
+
+  -- a header, the block's length, and the block
+  unfoldable pub objectOf : Bool → List ℕ
+  objectOf delta =
+      let block = bytesOf F (blockItems delta) in
+      encode F (headerOf delta) ++ (encode F (length block) ++ block)
+
+  -- 01: "A wish for delta gives a delta exactly when a reference is held, a `prft` has one in that full object, and every number in it fits; otherwise a full
+  -- object."
+  unfoldable pub mayDelta : Bool → Bool
+  mayDelta wish = wish && (not (eqb (getD s heldAt 0) 0) && (not (prft c .stands) || not (eqb (getD s prftAt 0) 0)))
+
+  unfoldable pub givesDelta : Bool → Bool
+  givesDelta wish = mayDelta wish and isSome (blockItems true)
+
+  -- 9: "chunk: BMDT past its maximum, whatever the wish; or, where no delta is given, a number too wide in the full object"
+  unfoldable pub fitsOk : Bool → Bool
+  fitsOk wish = leb (bmdt c) (2 ^ 62 - 1) and (givesDelta wish || isSome (blockItems false))
+
+  -- all of the object before the payload
+  unfoldable pub front : Bool → List ℕ
+  front wish = objectOf (givesDelta wish)

@@ -1,0 +1,151 @@
+// The call: one chunk.
+ghost use mathlib.Core.Path.{_≡_};
+ghost use mathlib.Core.Bool.{true};
+ghost use mathlib.Core.List.{[], _++_};
+ghost use Prim.Native.Nat.{_≤_, _^_};
+ghost use lib.ListN.{length};
+ghost use Rattle.laws.specs.Ladder.{ladder};
+ghost use Rattle.wire.specs.Form.{rows};
+ghost use Rattle.wire.specs.declared.form.Form.the-variants.{Rfc9000};
+ghost use Rattle.slots.specs.Share.{shareLen};
+ghost use Rattle.slots.specs.Table.{out, onTable};
+ghost use Rattle.exchange.specs.Took.{took, refused};
+ghost use Rattle.accepted.specs.Accepted.{bmdt};
+ghost use Rattle.encoder.specs.Encode.{wished, refusing, lastRungs, chunkRungs, done, encoding};
+ghost use Rattle.encoder.specs.Planned.{Encodable, OnShare};
+use crate::front;
+use accepted::read::Chunk;
+use fieldset::lines;
+use slots::calls::TABLE;
+use slots::share;
+use slots::share::SHARE;
+use slots::share::Side;
+use track::Track;
+use wire::form::Form;
+
+// The largest BMDT.
+const LAST: u64 = 0x3fff_ffff_ffff_ffff;
+
+// A refusal changes nothing, neither the output nor the share.
+fn refuse<'a>(c: &'a [u8], k: u64, number: &mut u64, front: &mut u64) -> &'a [u8]
+    ensures { λ r. ⌜ (now (number .exit) ≡ k) × (now (front .exit) ≡ 0) × (now r ≡ []) ⌝ }
+{
+    *number = k;
+    *front = 0;
+    &c[..0]
+}
+
+// The front into the output, if there is one and there is room for it, and the reference into the share.
+fn write<'a>(
+    form: Form,
+    t: Track,
+    wish: bool,
+    c: &'a [u8],
+    s: &mut [u64],
+    k: Chunk,
+    events: &[u64],
+    x: &[u64],
+    output: &mut [u8],
+    number: &mut u64,
+    front: &mut u64,
+) -> &'a [u8]
+    requires { ⌜ Encodable (rows form) t (now s) (now c) k (now events) (now x) ⌝ }
+    ensures { λ r. ⌜ out (took (now (number .exit)) (now (front .exit)) (now r) (now (output .exit))) (now (s .exit)) ≡ ladder (lastRungs (rows form) wish (now (c .entry)) (now (output .entry)) (now (s .entry))) (refusing (now (output .entry)) (now (s .entry))) (done (rows form) wish (now (c .entry)) (now (output .entry)) (now (s .entry))) ⌝ }
+{
+    let a = front::choose(form, t, wish, s, c, k, events, x);
+    if !a.fits {
+        return refuse(c, 9, number, front);
+    }
+    if output.len() < front::front_length(form, t, wish, a, s, c, k, events, x) {
+        return refuse(c, 17, number, front);
+    }
+    let n = front::put_front(form, t, wish, a, s, c, k, events, x, &mut *output);
+    let prft = k.prft;
+    let sequence = s[share::ACCEPTED];
+    exchange::keep::keep(s, a.delta, prft, sequence, x);
+    *number = 0;
+    *front = n as u64;
+    let from = k.payload.at;
+    let end = from + k.payload.len;
+    &c[from..end]
+}
+
+// A chunk on an open share: number first, then act. No reference has a BMDT past its maximum, so it is asked whatever the wish.
+fn take_chunk<'a>(
+    form: Form,
+    t: Track,
+    wish: bool,
+    c: &'a [u8],
+    s: &mut [u64],
+    output: &mut [u8],
+    number: &mut u64,
+    front: &mut u64,
+) -> &'a [u8]
+    requires { ⌜ OnShare (rows form) t (now s) (now c) ⌝ }
+    ensures { λ r. ⌜ out (took (now (number .exit)) (now (front .exit)) (now r) (now (output .exit))) (now (s .exit)) ≡ ladder (chunkRungs (rows form) wish (now (c .entry)) (now (output .entry)) (now (s .entry))) (refusing (now (output .entry)) (now (s .entry))) (done (rows form) wish (now (c .entry)) (now (output .entry)) (now (s .entry))) ⌝ }
+{
+    let mut events = [0u64; 160];
+    let mut x = [0u64; 981];
+    let k = accepted::read::read_chunk(form, t, c, &mut events, &mut x);
+    if k.number != 0 {
+        return refuse(c, k.number, number, front);
+    }
+    if LAST < x[lines::BMDT] {
+        return refuse(c, 9, number, front);
+    }
+    write(form, t, wish, c, s, k, &events, &x, output, number, front)
+}
+
+// A chunk on a share.
+fn take_share<'a>(
+    form: Form,
+    wish: bool,
+    c: &'a [u8],
+    s: &mut [u64],
+    output: &mut [u8],
+    number: &mut u64,
+    front: &mut u64,
+) -> &'a [u8]
+    requires { ⌜ length (now s) ≡ shareLen ⌝ }
+    ensures { λ r. ⌜ out (took (now (number .exit)) (now (front .exit)) (now r) (now (output .exit))) (now (s .exit)) ≡ encoding (rows form) wish (now (c .entry)) (now (output .entry)) (now (s .entry)) ⌝ }
+{
+    if !share::is_lawful(Side::Encoder, s) {
+        return refuse(c, 18, number, front);
+    }
+    if s[share::TRACK] == 0 {
+        return refuse(c, 2, number, front);
+    }
+    let t = share::track_of(s);
+    take_chunk(form, t, wish, c, s, output, number, front)
+}
+
+// One chunk into the front of an object: the number, the front's length, and the payload as the part of the chunk that it is. The wish 0 is for
+// a full object, any other for a delta.
+pub fn encode<'a>(
+    table: &mut [u64],
+    slot: u64,
+    wish: u64,
+    chunk: &'a [u8],
+    output: &mut [u8],
+    number: &mut u64,
+    front: &mut u64,
+) -> &'a [u8]
+    ensures { λ r. ⌜ out (took (now (number .exit)) (now (front .exit)) (now r) (now (output .exit))) (now (table .exit)) ≡ onTable (refused (now (output .entry))) (encoding (rows Rfc9000) (wished wish) (now (chunk .entry)) (now (output .entry))) (now (table .entry)) slot ⌝ }
+{
+    if table.len() != TABLE {
+        return refuse(chunk, 18, number, front);
+    }
+    if 7 < slot {
+        return refuse(chunk, 1, number, front);
+    }
+    let at = slot as usize * SHARE;
+    take_share(
+        Form::Rfc9000,
+        wish != 0,
+        chunk,
+        &mut table[at..at + SHARE],
+        output,
+        number,
+        front,
+    )
+}

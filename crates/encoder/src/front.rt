@@ -1,0 +1,124 @@
+// The object of a chunk: full or delta, or why there is none; and all of it before the payload, written.
+ghost use mathlib.Core.Path.{_≡_};
+ghost use mathlib.Core.Bool.{true};
+ghost use Prim.Native.Nat.{_+_, _≤_};
+ghost use lib.ListN.{length, drop};
+ghost use Rattle.laws.specs.Writes.{Wrote};
+ghost use Rattle.wire.specs.Form.{rows};
+ghost use Rattle.encoder.specs.Object.{headerOf, objectOf, mayDelta, front};
+ghost use Rattle.encoder.specs.Planned.{Encodable, PlannedAs};
+use crate::properties;
+use accepted::read::Chunk;
+use object::head;
+use slots::share;
+use track::Track;
+use wire::form::Form;
+
+// What is to be written: a delta or a full object with a block of so many bytes, if one fits.
+pub struct Plan {
+    pub fits: bool,
+    pub delta: bool,
+    pub block: usize,
+}
+
+// Whether a delta may be tried: one is wished for, a reference is held, and a prft has one in the current full object.
+fn may_delta(
+    form: Form,
+    t: Track,
+    wish: bool,
+    s: &[u64],
+    c: &[u8],
+    k: Chunk,
+    ws: &[u64],
+    x: &[u64],
+) -> bool
+    requires { ⌜ Encodable (rows form) t (now s) (now c) k (now ws) (now x) ⌝ }
+    ensures { λ b. ⌜ b ≡ mayDelta (rows form) (now (s .entry)) (now (c .entry)) wish ⌝ }
+{
+    let p = k.prft;
+    wish & ((s[share::HELD] != 0) & (!p.stands | (s[share::PRFT] != 0)))
+}
+
+// A delta where one is wished for and possible, else a full object, else none.
+pub fn choose(
+    form: Form,
+    t: Track,
+    wish: bool,
+    s: &[u64],
+    c: &[u8],
+    k: Chunk,
+    ws: &[u64],
+    x: &[u64],
+) -> Plan
+    requires { ⌜ Encodable (rows form) t (now s) (now c) k (now ws) (now x) ⌝ }
+    ensures { λ a. ⌜ PlannedAs (rows form) (now (s .entry)) (now (c .entry)) wish a ⌝ }
+{
+    if may_delta(form, t, wish, s, c, k, ws, x) {
+        let d = properties::block_size(form, t, true, s, c, k, ws, x);
+        if d.fits {
+            return Plan {
+                fits: true,
+                delta: true,
+                block: d.bytes,
+            };
+        }
+    }
+    let f = properties::block_size(form, t, false, s, c, k, ws, x);
+    Plan {
+        fits: f.fits,
+        delta: false,
+        block: f.bytes,
+    }
+}
+
+fn header_of(delta: bool) -> u64
+    ensures { λ h. ⌜ h ≡ headerOf delta ⌝ }
+{
+    if delta {
+        return head::DELTA;
+    }
+    head::FULL
+}
+
+// The bytes before the payload.
+pub fn front_length(
+    form: Form,
+    t: Track,
+    wish: bool,
+    a: Plan,
+    s: &[u64],
+    c: &[u8],
+    k: Chunk,
+    ws: &[u64],
+    x: &[u64],
+) -> usize
+    requires { ⌜ Encodable (rows form) t (now s) (now c) k (now ws) (now x) ⌝ }
+    requires { ⌜ PlannedAs (rows form) (now s) (now c) wish a × (a .fits ≡ true) ⌝ }
+    ensures { λ n. ⌜ n ≡ length (front (rows form) (now (s .entry)) (now (c .entry)) wish) ⌝ }
+{
+    wire::varint::size(form, header_of(a.delta))
+        + (wire::varint::size(form, a.block as u64) + a.block)
+}
+
+// All of the object before the payload, from the first byte of the output on; and its length.
+pub fn put_front(
+    form: Form,
+    t: Track,
+    wish: bool,
+    a: Plan,
+    s: &[u64],
+    c: &[u8],
+    k: Chunk,
+    ws: &[u64],
+    x: &[u64],
+    out: &mut [u8],
+) -> usize
+    requires { ⌜ Encodable (rows form) t (now s) (now c) k (now ws) (now x) ⌝ }
+    requires { ⌜ PlannedAs (rows form) (now s) (now c) wish a × (a .fits ≡ true) ⌝ }
+    requires { ⌜ length (front (rows form) (now s) (now c) wish) ≤ length (now out) ⌝ }
+    ensures { λ n. ⌜ Wrote (now (out .entry)) 0 (front (rows form) (now (s .entry)) (now (c .entry)) wish) (now (out .exit)) n ⌝ }
+{
+    let h = wire::varint::put(form, out, 0, header_of(a.delta));
+    let p = wire::varint::put(form, out, h, a.block as u64);
+    properties::put_block(form, t, a.delta, s, c, k, ws, x, out, p)
+}
