@@ -1,10 +1,12 @@
-/* LOCMAF for programs in C: the receiver of the proved codec.
+/* LOCMAF for programs in C: the proved codec.
  *
- * A receiver turns LOCMAF objects into CMAF chunks. It serves eight tracks, one to a slot (0 to 7), and keeps everything in a table of 64-bit
- * numbers that the caller lends: an array of locmaf_receiver_words() numbers, all 0 at first. Nothing is allocated and nothing is kept elsewhere,
- * so two tables can be used at once, also from two threads; one table must not be used by two threads at the same time. Tables are plain
- * uint64_t arrays with the alignment of uint64_t; bytes need no alignment. Pointers must not be NULL, also where a length is 0, and lent buffers
- * must not overlap. A call may use up to 400 KiB of stack (a hostile list of events); objects without events use about 11 KiB. */
+ * An encoder turns CMAF chunks into LOCMAF objects, and a receiver turns LOCMAF objects into CMAF chunks. Each serves eight tracks, one to a slot (0
+ * to 7), and keeps everything in a table of 64-bit numbers that the caller lends: an array of locmaf_encoder_words() or locmaf_receiver_words()
+ * numbers, all 0 at first. An encoder's table and a receiver's are two tables. Nothing is allocated and nothing is kept elsewhere, so two tables can be
+ * used at once, also from two threads; one table must not be used by two threads at the same time. Tables are plain uint64_t arrays with the alignment
+ * of uint64_t; bytes need no alignment. Pointers must not be NULL, also where a length is 0, and lent buffers must not overlap. locmaf_encode
+ * uses about 11 KiB of stack for any chunk. locmaf_receive may use up to 400 KiB (a hostile list of events); for objects without events it is about
+ * 11 KiB. */
 #ifndef LOCMAF_H
 #define LOCMAF_H
 
@@ -15,14 +17,19 @@
 extern "C" {
 #endif
 
-/* What a call answers. On every number but 0 nothing is written to the output. 12 to 16 drop the slot's reference (deltas are answered with 11
- * until the next full object); every other refusal changes nothing. */
+/* What a call answers. On every number but 0 nothing is written to the output. 12 to 16, which only a receiver answers, drop the slot's reference
+ * (deltas are answered with 11 until the next full object); every other refusal changes nothing. */
 enum locmaf_number {
     LOCMAF_DONE = 0,
     LOCMAF_SLOT = 1,        /* slot number above 7 */
     LOCMAF_NOT_OPEN = 2,    /* slot not open */
     LOCMAF_OPEN = 3,        /* opening an open slot */
     LOCMAF_PARAMETERS = 4,  /* bad parameters */
+    LOCMAF_TREE = 5,        /* chunk: the tree of boxes is broken */
+    LOCMAF_BOX = 6,         /* chunk: wrong box, order, version, flags or box length */
+    LOCMAF_RULE = 7,        /* chunk: any other rule of a chunk broken */
+    LOCMAF_MAXIMUM = 8,     /* chunk: a count or length past its maximum */
+    LOCMAF_WIDE = 9,        /* chunk: BMDT past its maximum, or a number too wide for an object */
     LOCMAF_SKIPPED = 10,    /* header id neither 23 nor 25: skipped */
     LOCMAF_NO_REFERENCE = 11, /* delta, and no reference held */
     LOCMAF_UNREADABLE = 12, /* object unreadable */
@@ -37,7 +44,27 @@ enum locmaf_number {
 /* How a track is protected. */
 enum locmaf_protection { LOCMAF_CLEAR = 0, LOCMAF_CENC = 1, LOCMAF_CBCS = 2 };
 
-/* The length of a table, in 64-bit numbers. */
+/* The length of an encoder's table, in 64-bit numbers. */
+uint64_t locmaf_encoder_words(void);
+
+/* Opens a slot of an encoder; the parameters are those of locmaf_receiver_open below, and both sides of a track are opened with the same. */
+uint64_t locmaf_encoder_open(uint64_t *table, size_t words, uint64_t slot, uint64_t track, uint64_t timescale, uint64_t description,
+                             uint64_t duration, uint64_t size, uint64_t flags, uint64_t protection, uint64_t iv_size);
+
+/* Closes a slot: its part of the table becomes 0. Answers the number. */
+uint64_t locmaf_encoder_close(uint64_t *table, size_t words, uint64_t slot);
+
+/* Starts a group in a slot: its reference is dropped, so that the next object is a full one. Answers the number. */
+uint64_t locmaf_encoder_start_group(uint64_t *table, size_t words, uint64_t slot);
+
+/* Encodes one chunk. `delta` is 0 for a full object; any other value wishes for a delta, which is given where a reference is held and every number fits,
+ * and else a full object. *number is the number. Where it is 0, the first *front bytes of the output are the object up to its payload, the bytes past them
+ * stay as they were, and the answer is the length of the payload: the last so many bytes of the chunk, which follow the front in the object and are never
+ * copied. Otherwise *front and the answer are 0. No front has more than 12,367 bytes. */
+uint64_t locmaf_encode(uint64_t *table, size_t words, uint64_t slot, uint64_t delta, const uint8_t *chunk, size_t chunk_len, uint8_t *output,
+                       size_t output_len, uint64_t *number, uint64_t *front);
+
+/* The length of a receiver's table, in 64-bit numbers. */
 uint64_t locmaf_receiver_words(void);
 
 /* Opens a slot on a track: track_ID and timescale (1 to 2^32-1), the default sample description index (from 1), duration, size and flags of `trex`

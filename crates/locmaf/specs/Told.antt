@@ -3,7 +3,7 @@ use Prim.Native.Nat.{ℕ}
 use mathlib.Core.List.{List}
 use lib.ListN.{length}
 use Rattle.slots.specs.Table.{Out}
-use Rattle.receiver.specs.Receive.{Took}
+use Rattle.exchange.specs.Took.{Took}
 
 pub record Told : Type 0 where
   pub number : ℕ
