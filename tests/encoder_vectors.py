@@ -1,0 +1,239 @@
+#!/usr/bin/env python3
+"""encoder_vectors.py CAPTURES ORACLE..: writes crates/encoder_vectors/stdin and stdout.
+
+CAPTURES is a folder of tracks, each a folder with params.txt (the eight parameters), chunks.bin (chunks one after another) and chunks.txt (length and
+number of each). ORACLE.. is a command that answers the line protocol of another implementation of the rules (`open e ..`, `enc SLOT full|delta ROOM HEX`,
+`group e SLOT`, `close e SLOT`, `new`) on standard input and output. What a chunk answers is the oracle's word, but for number 18, which is a matter of the
+table's words and follows from 01 alone; the numbers of the tracks are also held to chunks.txt."""
+import os
+import random
+import struct
+import subprocess
+import sys
+
+R = random.Random(20261115)
+HELD = 9
+ROOM = 65536
+
+
+def box(kind, *parts):
+    body = b"".join(parts)
+    return struct.pack(">I", 8 + len(body)) + kind + body
+
+
+def full_box(kind, version, flags, *parts):
+    return box(kind, struct.pack(">I", version << 24 | flags), *parts)
+
+
+def u32(*vs):
+    return struct.pack(">%dI" % len(vs), *vs)
+
+
+def chunk(track, bmdt, sizes, first=None, offsets=None, durations=None, default=0, index=None, duration=None, flags=None, styp=None, prft=None, events=(),
+          entries=None, iv=0, payload=None):
+    """A chunk as another packager could write it: `tfdt` of version 0 where that is enough, sizes in the `tfhd` if they are equal and not `trun`'s."""
+    tf, tail = 0x20000, b""
+    for flag, v in ((0x2, index), (0x8, duration), (0x10, default or None), (0x20, flags)):
+        if v is not None:
+            tf, tail = tf | flag, tail + u32(v)
+    tr = 0x1 | (0x4 if first is not None else 0) | (0x100 if durations else 0) | (0 if default or not sizes else 0x200) | (0x800 if offsets else 0)
+    head = [full_box(b"mfhd", 0, 0, u32(7))]
+    tfdt = full_box(b"tfdt", 0, 0, u32(bmdt)) if bmdt < 2**32 else full_box(b"tfdt", 1, 0, struct.pack(">Q", bmdt))
+
+    def trun(offset):
+        rows = b""
+        for i, size in enumerate(sizes):
+            rows += (u32(durations[i]) if durations else b"") + (u32(size) if tr & 0x200 else b"")
+            rows += struct.pack(">i", offsets[i]) if offsets else b""
+        return full_box(b"trun", 1, tr, u32(len(sizes), offset), u32(first) if first is not None else b"", rows)
+
+    def moof(offset, at):
+        last = b""
+        if entries is not None:
+            data = b"".join(e + (b"" if m is None else struct.pack(">H", len(m)) + b"".join(struct.pack(">HI", *p) for p in m)) for e, m in entries)
+            mapped = any(m is not None for _, m in entries)
+            sizes_of = bytes((len(e) + (0 if m is None else 2 + 6 * len(m))) % 256 for e, m in entries)
+            last = full_box(b"saio", 0, 0, u32(1, at)) + full_box(b"saiz", 0, 0, b"\0", u32(len(entries)), sizes_of)
+            last += full_box(b"senc", 0, 2 if mapped else 0, u32(len(entries)), data)
+        traf = box(b"traf", full_box(b"tfhd", 0, tf, u32(track), tail), tfdt, trun(offset), last)
+        return box(b"moof", *head, traf), len(last)
+
+    made, _ = moof(0, 0)
+    senc = made.find(b"senc")
+    made, _ = moof(len(made) + 8, senc + 12 if entries is not None else 0)
+    before = b"" if styp is None else box(b"styp", styp[:4], u32(0), styp[4:])
+    before += b"" if prft is None else full_box(b"prft", prft[3], prft[2], u32(track), struct.pack(">Q", prft[0]), struct.pack(">Q" if prft[3] else ">I", prft[1]))
+    for scheme, value, scale, time, length, number, message in events:
+        before += full_box(b"emsg", 1, 0, u32(scale), struct.pack(">Q", time), u32(length, number), scheme, b"\0", value, b"\0", message)
+    return before + made + box(b"mdat", bytes(sum(sizes)) if payload is None else payload)
+
+
+def total(front):
+    h = 1
+    for b in front:
+        h = (h * 65599 + b) % 2**40
+    return h
+
+
+class Conversation:
+    """Asks the oracle, and collects the commands and the lines that are expected."""
+
+    def __init__(self, oracle):
+        self.oracle = subprocess.Popen(oracle, stdin=subprocess.PIPE, stdout=subprocess.PIPE, text=True, bufsize=1)
+        self.commands, self.lines, self.seen, self.chunks = b"", [], {}, 0
+
+    def ask(self, words):
+        self.oracle.stdin.write(words + "\n")
+        self.oracle.stdin.flush()
+        return self.oracle.stdout.readline().split()
+
+    def saw(self, number):
+        self.seen[number] = self.seen.get(number, 0) + 1
+
+    def add(self, call, slot, value, data, *lines):
+        self.commands += call + struct.pack(">QQQ", slot, value, len(data)) + data
+        self.lines += lines
+
+    def open(self, slot, track):
+        words = " ".join(map(str, track))
+        n = self.ask(f"open e {slot} {words}")[0]
+        self.saw(int(n))
+        self.add(b"o", slot, 0, struct.pack(">8Q", *track), n)
+
+    def close(self, slot):
+        self.add(b"c", slot, 0, b"", self.ask(f"close e {slot}")[0])
+
+    def group(self, slot):
+        self.add(b"g", slot, 0, b"", self.ask(f"group e {slot}")[0])
+
+    def poke(self, word, value):
+        self.add(b"w", word, value, b"", "0")
+
+    def answer(self, slot, wish, c, room, show):
+        n, front, data, _, payload = self.ask(f"enc {slot} {wish} {room} {c.hex() or '-'}")
+        self.saw(int(n))
+        self.chunks += 1
+        shown = "" if data == "-" else data
+        return int(n), f"{n} {front} {payload} {show(shown)}"
+
+    def encode(self, slot, wish, c, room=ROOM):
+        n, line = self.answer(slot, wish, c, room, lambda front: front)
+        self.add(b"d" if wish == "delta" else b"f", slot, room, c, line)
+        return n
+
+    def both(self, c):
+        """As a full object on slot 0, and with the wish for a delta on slot 1."""
+        found = [self.answer(slot, wish, c, ROOM, lambda front: str(total(bytes.fromhex(front)))) for slot, wish in ((0, "full"), (1, "delta"))]
+        self.add(b"b", 0, ROOM, c, *[line for _, line in found])
+        return [n for n, _ in found]
+
+    def refused_18(self, slot, c, call=b"f"):
+        """The table is one word short (call s), or a word of the share was damaged: the oracle knows nothing of it."""
+        self.saw(18)
+        self.chunks += 1
+        self.add(call, slot, ROOM, c, "18 0 0 ")
+
+
+def examples(s):
+    """01's example and what comes after it, and what the table's own numbers answer."""
+    track = (1, 48000, 1, 1024, 0, 0, 0, 0)
+    example = chunk(1, 96000, [4], payload=b"abcd")
+    s.encode(0, "full", example)  # 2: not open
+    s.open(0, (1, 0, 1, 1024, 0, 0, 0, 0))  # 4
+    s.open(0, track)
+    s.open(0, track)  # 3
+    s.encode(0, "full", example)
+    s.encode(0, "delta", chunk(1, 97024, [4], payload=b"efgh"))  # 19 00
+    s.refused_18(0, example, b"s")
+    s.encode(8, "full", example)
+    s.encode(2**64 - 1, "full", example)
+    # a first-sample flag that stands, is dropped, and stands again as 0
+    s.encode(0, "full", chunk(1, 96000, [3, 3], first=0x02000000, payload=b"abcdef"))
+    s.encode(0, "delta", chunk(1, 98048, [3, 3], payload=b"abcdef"))
+    s.encode(0, "delta", chunk(1, 100096, [3, 3], first=0, payload=b"abcdef"))
+    # sizes 10, 20, 30 and then 12, 5
+    s.encode(0, "full", chunk(1, 0, [10, 20, 30]))
+    s.encode(0, "delta", chunk(1, 3072, [12, 5]))
+    # a damaged word: the mark of the reference is 2
+    s.poke(HELD, 2)
+    s.refused_18(0, example)
+    s.poke(HELD, 1)
+    s.encode(0, "full", example, 8)
+    s.encode(0, "full", example, 9)
+    s.group(0)
+    s.encode(0, "delta", example)  # a full object: no reference
+    s.encode(0, "full", b"")
+    s.encode(0, "full", chunk(1, 2**62 - 1, [4]))
+    s.encode(0, "delta", chunk(1, 2**62, [4]))  # 9
+    s.encode(0, "full", chunk(1, 0, [1] * 64))
+    s.encode(0, "full", chunk(1, 0, [1] * 65))  # 8
+    s.encode(0, "full", chunk(1, 5, [4, 4], flags=0x01010000, offsets=[-5, 2**31 - 1], durations=[7, 9], index=2, duration=3, default=4))
+    s.encode(0, "full", chunk(1, 5, [4], flags=0x04000000))  # 7: is_leading
+    s.close(0)
+    for count in (39, 40):
+        s.open(1, (2, 90000, 1, 0, 0, 0, 1, 16))
+        s.encode(1, "full", chunk(2, 0, [count], entries=[(bytes(range(16)), [(0, 1)] * count)]))
+        s.close(1)
+
+
+def captures(s, folder):
+    for name in sorted(os.listdir(folder)):
+        at = os.path.join(folder, name)
+        if not os.path.isdir(at):
+            continue
+        params = tuple(map(int, open(os.path.join(at, "params.txt")).read().split()))
+        data = open(os.path.join(at, "chunks.bin"), "rb").read()
+        s.open(0, params)
+        s.open(1, params)
+        p = 0
+        for row in open(os.path.join(at, "chunks.txt")):
+            n, number = map(int, row.split())
+            if s.both(data[p : p + n]) != [number, number]:
+                sys.exit(f"{name}: chunks.txt has another number than {number} at {p}")
+            p += n
+        s.close(0)
+        s.close(1)
+
+
+def by_chance(s, count):
+    """Chunks with a byte or two of their boxes changed, each from a few lawful ones."""
+    end = s.chunks + count
+    while s.chunks < end:
+        iv = R.choice([0, 0, 8, 16])
+        track = (1, 48000, 1, R.choice([1024, 0]), R.choice([0, 3]), R.randrange(32), 1 if iv else 0, iv)
+        s.open(2, track)
+        for _ in range(6):
+            sizes = [R.randrange(1, 6) for _ in range(R.choice([0, 1, 2, 3, 5]))]
+            entries = [(bytes(R.randrange(256) for _ in range(iv)), R.choice([[(0, x)], [(1, 0), (0, x - 1)]])) for x in sizes] if iv and sizes else None
+            prft = (R.choice([5, 2**62]), R.choice([7, 2**32 - 1]), R.choice([0, 8]), R.choice([0, 1])) if R.random() < 0.3 else None
+            events = [(b"urn:x", b"v", R.choice([0, 1000, 48000]), R.choice([0, 96000, 2**63]), 1, 2, b"m")] * R.choice([0, 0, 1, 2])
+            c = chunk(1, R.choice([0, 96000, 2**33]), sizes, first=0 if sizes and R.random() < 0.3 else None, entries=entries, prft=prft, events=events,
+                      durations=[5] * len(sizes) if sizes and R.random() < 0.3 else None, styp=R.choice([None, b"cmf2", b"cmf2iso6"]),
+                      offsets=[R.choice([-1, 0, 9]) for _ in sizes] if sizes and R.random() < 0.3 else None)
+            if R.random() < 0.6:
+                c = bytearray(c)
+                for _ in range(R.choice([1, 1, 2])):
+                    c[R.randrange(len(c) - sum(sizes))] = R.choice([0, 1, 2, 8, 255, R.randrange(256)])
+                c = bytes(c)
+            s.encode(2, R.choice(["full", "delta", "delta"]), c, R.choice([ROOM] * 12 + [0, 8, 20]))
+            if R.random() < 0.05:
+                s.group(2)
+        s.close(2)
+
+
+def main():
+    s = Conversation(sys.argv[2:])
+    s.ask("new")
+    examples(s)
+    by_chance(s, 400)
+    captures(s, sys.argv[1])
+    with open("crates/encoder_vectors/stdin", "wb") as f:
+        f.write(s.commands)
+    with open("crates/encoder_vectors/stdout", "w") as f:
+        f.write("\n".join(s.lines) + "\n")
+    missing = set(range(10)) | {17, 18}
+    missing -= set(s.seen)
+    print(f"{s.chunks} chunks, {len(s.commands)} bytes, numbers {dict(sorted(s.seen.items()))}" + (f", MISSING {missing}" if missing else ""))
+
+
+main()
