@@ -1,0 +1,34 @@
+-- Demand 1: "Any bytes, any table, any slot number are taken. Every call ends and answers a number of the rules' table, exactly when its rule says; a refusal writes
+-- nothing and leaves the slot as the table states." That every call ends, and takes any input, its contract says: none has a `requires`.
+use Prim.Native.Nat.{ℕ}
+use Rattle.track.specs.declared.Asked.{Asked}
+use Rattle.slots.specs.declared.share.Side.{Side}
+use Rattle.slots.specs.declared.share.Side.the-variants.{Encoder, Receiver}
+use Rattle.slots.specs.Calls.{opening, closing, grouping}
+use Rattle.slots.specs.Laws.{OpenExactly, CloseExactly, GroupExactly, RefusalKeeps, StaysLawful, FreshLawful}
+use Rattle.encoder.specs.Laws.{EncodeExactly, EncodeRefuses, EncodeStaysLawful, EncodePast}
+use Rattle.receiver.specs.Laws.{ReceiveExactly, ReceiveRefuses, ReceiveStaysLawful, ReceivePast}
+
+pub record DemandOne : Type 0 where
+  -- "answers a number of the rules' table, exactly when its rule says"
+  pub opens : OpenExactly
+  pub closes : CloseExactly
+  pub groups : GroupExactly
+  pub encodes : EncodeExactly
+  pub receives : ReceiveExactly
+  -- "a refusal writes nothing and leaves the slot as the table states"
+  pub open-kept : (side : Side) (a : Asked) → RefusalKeeps (opening side a)
+  pub close-kept : (side : Side) → RefusalKeeps (closing side)
+  pub group-kept : (side : Side) → RefusalKeeps (grouping side)
+  pub encode-refused : EncodeRefuses
+  pub receive-refused : ReceiveRefuses
+  -- 01: "Every call on a lawful share leaves it lawful"
+  pub fresh-lawful : FreshLawful
+  pub open-lawful : (side : Side) (a : Asked) → StaysLawful side (opening side a)
+  pub close-lawful : (side : Side) → StaysLawful side (closing side)
+  pub group-lawful : (side : Side) → StaysLawful side (grouping side)
+  pub encode-lawful : EncodeStaysLawful
+  pub receive-lawful : ReceiveStaysLawful
+  -- 01: "bytes past it stay"
+  pub encode-past : EncodePast
+  pub receive-past : ReceivePast
