@@ -7,11 +7,11 @@ use mathlib.Core.Bool.{Bool, true, false, not, _&&_, _||_}
 use mathlib.Core.List.{List, _++_}
 use borrow.Author.Tests.{leb-true, not-true}
 use lib.Dec.{eqb}
-use lib.ListN.{length, getD, drop, length-append, length-drop}
-use lib.Seq.{drop-append-seam}
+use lib.ListN.{length, getD, take, drop, length-append, length-drop}
+use lib.Seq.{take-append-seam, drop-append-seam}
 use Rattle.laws.specs.Tests.{_and_, allLe}
 use Rattle.laws.specs.Ladder.{Rung, ladder, Given}
-use Rattle.laws.proofs.LadderLaws.{Hold, Numbered, numberOf, given, ladder-append, ladder-seen, all-hold}
+use Rattle.laws.proofs.LadderLaws.{Hold, Numbered, numberOf, given, given-one, ladder-append, ladder-seen, all-hold, climbed}
 use Rattle.laws.proofs.TestLaws.{left, and-left, and-right}
 use Rattle.wire.specs.declared.form.Row.{Row}
 use Rattle.wire.specs.Form.{rows, longest}
@@ -29,7 +29,7 @@ use Rattle.exchange.proofs.AcceptedLaws.{accepted-long, accepted-lawful}
 use Rattle.accepted.specs.Accepted.{bmdt, prft, brands, events, fields, lateRungs, acceptRungs}
 use Rattle.encoder.specs.Object.{blockItems, mayDelta, givesDelta, fitsOk, front}
 use Rattle.encoder.specs.Encode.{refusing, lastRungs, chunkRungs, encodeRungs, kept, done, encoding}
-use Rattle.encoder.specs.Laws.{EncodeExactly, EncodeStaysLawful, Refused, EncodeRefuses, PastStays, EncodePast, BlockFits}
+use Rattle.encoder.specs.Laws.{EncodeExactly, EncodeStaysLawful, Refused, EncodeRefuses, PastStays, EncodePast, BlockFits, EncodeOnly, EncodeMakes}
 use Rattle.encoder.proofs.ChunkLaws.{brands-length, list-few, prft-ranged, fields-long, fields-lawful}
 use Rattle.encoder.proofs.EncodeLaws.{iv-right}
 use Rattle.encoder.proofs.BlockSizes.{Most, longest-eight, before-most, fields-most, deletions-most, times-most, version-most, flags-most, brands-most, events-most}
@@ -46,6 +46,11 @@ encode-exactly F wish c output t slot =
     ∙ ap (ladder (tableRungs t slot) (λ k. k)) (ladder-seen (λ (a : Out Took). a .answer .number) rungs _ _)
     ∙ sym (ladder-append (tableRungs t slot) rungs (λ k. k) 0) in
     subst (λ (k : ℕ). Given k (tableRungs t slot ++ rungs)) (sym is) (given (tableRungs t slot ++ rungs))
+
+-- and no other number
+pub encode-only : EncodeOnly
+encode-only F wish c output t slot k g =
+    given-one (tableRungs t slot ++ encodeRungs F wish c output (shareAt t slot)) k _ g (encode-exactly F wish c output t slot)
 
 -- ---- what a refusal leaves
 
@@ -181,12 +186,28 @@ encode-numbered : (F : List Row) (wish : Bool) (c output s : List ℕ) → Numbe
 unfolding encodeRungs chunkRungs acceptRungs lateRungs lastRungs nonzero _and_
 encode-numbered F wish c output s = numbered (encodeRungs F wish c output s) refl
 
-done-passed : (F : List Row) (wish : Bool) (c output s : List ℕ) → encoding F wish c output s .answer .number ≡ 0 → Passed F wish c output s
+-- where the answer is 0, every rule holds
+done-hold : (F : List Row) (wish : Bool) (c output s : List ℕ) → encoding F wish c output s .answer .number ≡ 0 → Hold (encodeRungs F wish c output s)
 unfolding encoding
-done-passed F wish c output s e =
-    passed F wish c output s
-    (all-hold (encodeRungs F wish c output s) (encode-numbered F wish c output s)
-    (sym (ladder-seen (λ (a : Out Took). a .answer .number) (encodeRungs F wish c output s) (refusing output s) (done F wish c output s)) ∙ e))
+done-hold F wish c output s e =
+    all-hold (encodeRungs F wish c output s) (encode-numbered F wish c output s)
+    (sym (ladder-seen (λ (a : Out Took). a .answer .number) (encodeRungs F wish c output s) (refusing output s) (done F wish c output s)) ∙ e)
+
+done-passed : (F : List Row) (wish : Bool) (c output s : List ℕ) → encoding F wish c output s .answer .number ≡ 0 → Passed F wish c output s
+done-passed F wish c output s e = passed F wish c output s (done-hold F wish c output s e)
+
+-- the object is the one that the rules define
+pub encode-makes : EncodeMakes
+unfolding encoding
+encode-makes F wish c output s e =
+    let q : encoding F wish c output s ≡ done F wish c output s =
+    climbed (refusing output s) (done F wish c output s) (encodeRungs F wish c output s) (done-hold F wish c output s e) in
+    record {
+      first =
+          ap (λ (a : Out Took). take (a .answer .front) (a .answer .output)) q
+          ∙ take-append-seam (front F s c wish) (drop (length (front F s c wish)) output);
+      rest = ap (λ (a : Out Took). a .answer .payload) q;
+    }
 
 -- a block has at most 12,364 bytes
 block-most : (F : List Row) (wish : Bool) (c output s : List ℕ) → longest F ≤ 8 → allLe 255 c ≡ true → length s ≡ shareLen → Passed F wish c output s

@@ -3,7 +3,7 @@ use Prim.Native.Nat.{ℕ, _≤_}
 use mathlib.Core.Path.{_≡_}
 use mathlib.Core.Bool.{Bool, true}
 use mathlib.Core.List.{List, [], _++_}
-use lib.ListN.{length, drop}
+use lib.ListN.{length, take, drop}
 use Rattle.laws.specs.Tests.{allLe}
 use Rattle.laws.specs.Ladder.{Given}
 use Rattle.wire.specs.declared.form.Row.{Row}
@@ -14,13 +14,28 @@ use Rattle.slots.specs.Share.{shareLen, lawful}
 use Rattle.slots.specs.Table.{Out, shareAt, tableRungs, onTable}
 use Rattle.exchange.specs.Took.{Took, refused}
 use Rattle.writing.specs.Items.{bytesOf}
-use Rattle.encoder.specs.Object.{blockItems, givesDelta}
+use Rattle.accepted.specs.Accepted.{payload}
+use Rattle.encoder.specs.Object.{blockItems, givesDelta, front}
 use Rattle.encoder.specs.Encode.{encodeRungs, encoding}
 
 -- each number is given exactly when its rule is broken and none before it, in the order of 01
 abbrev pub EncodeExactly : Type 0
 EncodeExactly = (F : List Row) (wish : Bool) (c output t : List ℕ) (slot : ℕ)
     → Given (onTable (refused output) (encoding F wish c output) t slot .answer .number) (tableRungs t slot ++ encodeRungs F wish c output (shareAt t slot))
+
+-- and no other number is: whichever is given exactly so is the one that is answered
+abbrev pub EncodeOnly : Type 0
+EncodeOnly = (F : List Row) (wish : Bool) (c output t : List ℕ) (slot k : ℕ) → Given k (tableRungs t slot ++ encodeRungs F wish c output (shareAt t slot))
+    → k ≡ onTable (refused output) (encoding F wish c output) t slot .answer .number
+
+-- a chunk that no rule refuses "becomes, given room, the one object that the rules define": its front, and then the payload of the chunk
+pub record Becomes (F : List Row) (wish : Bool) (c s : List ℕ) (a : Took) : Type 0 where
+  pub first : take (a .front) (a .output) ≡ front F s c wish
+  pub rest : a .payload ≡ payload c
+
+abbrev pub EncodeMakes : Type 0
+EncodeMakes = (F : List Row) (wish : Bool) (c output s : List ℕ) → encoding F wish c output s .answer .number ≡ 0
+    → Becomes F wish c s (encoding F wish c output s .answer)
 
 -- 01: "Every call on a lawful share leaves it lawful": for any bytes
 abbrev pub EncodeStaysLawful : Type 0

@@ -1,7 +1,7 @@
 -- What the code works out before it writes.
 use Prim.Native.Nat.{ℕ, _≤_}
 use mathlib.Core.Path.{_≡_}
-use mathlib.Core.Bool.{Bool, true, false}
+use mathlib.Core.Bool.{Bool, true}
 use mathlib.Core.List.{List}
 use lib.ListN.{length, getD}
 use Rattle.wire.specs.declared.form.Row.{Row}
@@ -13,7 +13,6 @@ use Rattle.slots.specs.Share.{shareLen, heldAt, isOpen}
 use Rattle.slots.specs.Share.{lawful as lawfulShare}
 use Rattle.track.specs.declared.Track.{Track}
 use Rattle.accepted.specs.declared.read.Chunk.{Chunk}
-use Rattle.accepted.specs.Accepted.{fields}
 use Rattle.accepted.specs.Chunks.{Accepted}
 use Rattle.writing.specs.Items.{bytesOf}
 use Rattle.encoder.specs.declared.front.Plan.{Plan}

@@ -1,8 +1,6 @@
 // The call: one chunk.
 ghost use mathlib.Core.Path.{_≡_};
-ghost use mathlib.Core.Bool.{true};
-ghost use mathlib.Core.List.{[], _++_};
-ghost use Prim.Native.Nat.{_≤_, _^_};
+ghost use mathlib.Core.List.{[]};
 ghost use lib.ListN.{length};
 ghost use Rattle.laws.specs.Ladder.{ladder};
 ghost use Rattle.wire.specs.Form.{rows};
@@ -10,7 +8,6 @@ ghost use Rattle.wire.specs.declared.form.Form.the-variants.{Rfc9000};
 ghost use Rattle.slots.specs.Share.{shareLen};
 ghost use Rattle.slots.specs.Table.{out, onTable};
 ghost use Rattle.exchange.specs.Took.{took, refused};
-ghost use Rattle.accepted.specs.Accepted.{bmdt};
 ghost use Rattle.encoder.specs.Encode.{wished, refusing, lastRungs, chunkRungs, done, encoding};
 ghost use Rattle.encoder.specs.Planned.{Encodable, OnShare};
 use crate::front;

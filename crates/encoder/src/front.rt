@@ -2,10 +2,10 @@
 ghost use mathlib.Core.Path.{_≡_};
 ghost use mathlib.Core.Bool.{true};
 ghost use Prim.Native.Nat.{_+_, _≤_};
-ghost use lib.ListN.{length, drop};
+ghost use lib.ListN.{length};
 ghost use Rattle.laws.specs.Writes.{Wrote};
 ghost use Rattle.wire.specs.Form.{rows};
-ghost use Rattle.encoder.specs.Object.{headerOf, objectOf, mayDelta, front};
+ghost use Rattle.encoder.specs.Object.{headerOf, mayDelta, front};
 ghost use Rattle.encoder.specs.Planned.{Encodable, PlannedAs};
 use crate::properties;
 use accepted::read::Chunk;
