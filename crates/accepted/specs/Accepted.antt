@@ -1,9 +1,9 @@
 -- A chunk for a track, by 01's order of answers: "Then the encoder: 5, 6, 8, 7". Each step looks at the whole chunk before the next.
-use Prim.Native.Nat.{ℕ, _+_, _-_}
+use Prim.Native.Nat.{ℕ, _+_}
 use mathlib.Core.Bool.{Bool, _&&_}
 use mathlib.Core.List.{List, [], _∷_, _++_}
 use lib.Dec.{leb}
-use lib.ListN.{length, take, drop}
+use lib.ListN.{take, drop}
 use lib.Seq.{slice}
 use Rattle.laws.specs.Tests.{_and_}
 use Rattle.laws.specs.Ladder.{Rung, _else_}

@@ -1,14 +1,12 @@
 -- What the code hands on of an accepted chunk.
-use Prim.Native.Nat.{ℕ, _*_, _≤_}
+use Prim.Native.Nat.{ℕ, _≤_}
 use mathlib.Core.Path.{_≡_}
 use mathlib.Core.Bool.{false}
-use mathlib.Core.List.{List, _++_}
-use lib.ListN.{length, drop}
+use mathlib.Core.List.{List}
 use Rattle.laws.specs.Ladder.{ladder}
 use Rattle.wire.specs.declared.form.Row.{Row}
 use Rattle.track.specs.declared.Track.{Track}
-use Rattle.shape.specs.Parts.{bodyOf, endOf}
-use Rattle.prelude.specs.Emsg.{keptEvents}
+use Rattle.shape.specs.Parts.{bodyOf}
 use Rattle.chunk.specs.Events.{eventsOf}
 use Rattle.emsgs.specs.Records.{AllWords, AllIn, listBytes}
 use Rattle.accepted.specs.declared.read.Chunk.{Chunk}

@@ -1,6 +1,6 @@
 -- What the entries of a `senc` store, one after another, by field: four runs, or one where they have no subsamples. Assumes nothing.
 use Prim.Native.Nat.{ℕ, zero, suc, _+_, _-_, _*_, _/_, _≤_, _<_}
-use native.Mathlib.Nat.{mul-zero, mul-suc, mul-add, mul-le-mul-right}
+use native.Mathlib.Nat.{mul-suc, mul-add, mul-le-mul-right}
 use native.Mathlib.Omega.{arith}
 use mathlib.Core.Path.{_≡_, refl, sym, _∙_, ap}
 use mathlib.Core.Bool.{Bool, true, false, cond}
@@ -10,7 +10,7 @@ use lib.Seq.{sets, length-sets}
 use Rattle.fieldset.specs.Lines.{setLen}
 use Rattle.encryption.specs.declared.entries.Entries.{Entries}
 use Rattle.encryption.specs.Entries.{pairsAt, lengthAt, mapLength}
-use Rattle.encryption.proofs.EntryLaws.{map-yes, Left, left-next, left-pairs, left-last}
+use Rattle.encryption.proofs.EntryLaws.{map-yes}
 use Rattle.gather.specs.Entries.{ivWords, clearBytes, protectedBytes, allFrom, allIvs, allCounts, allClear, allProtected}
 use Rattle.gather.specs.Stored.{storedEntry, storedEntries}
 use Rattle.gather.proofs.EntryLengths.{iv-length, clear-length, protected-length, ivs-length, counts-length}

@@ -1,11 +1,10 @@
 -- The set of moof fields of a chunk: which ids stand, and their values. 01, "Full objects".
-use Prim.Native.Nat.{ℕ, _+_, _-_, _%_, _≤_, _<_, _^_}
-use mathlib.Core.Path.{_≡_}
+use Prim.Native.Nat.{ℕ, _+_, _-_, _%_}
 use mathlib.Core.Bool.{Bool, true, cond, not, _&&_}
 use mathlib.Core.List.{List, [], _∷_, map}
 use mathlib.Core.Option.{none, some}
 use lib.Dec.{eqb, leb}
-use lib.ListN.{length, getD, take}
+use lib.ListN.{getD, take}
 use Rattle.laws.specs.Tests.{_and_}
 use Rattle.media.specs.Flags.{fiveOf}
 use Rattle.track.specs.declared.Track.{Track}

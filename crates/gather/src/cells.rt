@@ -1,7 +1,7 @@
 // One field of the set. Its words are zeros before; a field that doesn't stand leaves them so.
 ghost use mathlib.Core.Path.{_≡_};
 ghost use mathlib.Core.Bool.{true};
-ghost use mathlib.Core.List.{List, [], _∷_, map};
+ghost use mathlib.Core.List.{[], _∷_, map};
 ghost use Prim.Native.Nat.{_+_, _≤_, _<_, _^_};
 ghost use lib.ListN.{length};
 ghost use lib.Seq.{sets};

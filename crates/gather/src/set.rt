@@ -1,8 +1,5 @@
 // The set of a chunk, in the order of the table but for the first sample's flags, which go before what the `senc` has.
 ghost use mathlib.Core.Path.{_≡_};
-ghost use mathlib.Core.Bool.{true};
-ghost use mathlib.Core.List.{List};
-ghost use Prim.Native.Nat.{_≤_, _<_};
 ghost use lib.ListN.{length, replicate};
 ghost use lib.Seq.{slice};
 ghost use Rattle.fieldset.specs.Lines.{lines, setLen};

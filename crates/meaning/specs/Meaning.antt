@@ -1,7 +1,7 @@
 -- The meaning of a chunk: what its boxes say by their own rules (ISO/IEC 14496-12, 23001-7, 23009-1), not by way of the set of moof fields. 01: "Same meaning: equal
 -- effective values, events and payload, but for that number, box choice, and `styp` on a delta."
-use Prim.Native.Nat.{ℕ, zero, suc, _+_, _*_, _/_}
-use mathlib.Core.Bool.{Bool, cond, not, _&&_}
+use Prim.Native.Nat.{ℕ, zero, suc, _+_, _/_}
+use mathlib.Core.Bool.{cond, _&&_}
 use mathlib.Core.List.{List, [], _∷_}
 use mathlib.Core.Option.{Option, none, some}
 use lib.Dec.{eqb, ltb}
@@ -11,8 +11,7 @@ use Rattle.tree.specs.Numbers.{u16, u32}
 use Rattle.track.specs.declared.Track.{Track}
 use Rattle.shape.specs.declared.parts.Part.{Part}
 use Rattle.shape.specs.declared.inner.Inner.{Inner}
-use Rattle.shape.specs.declared.top.Top.{Top}
-use Rattle.shape.specs.Parts.{endOf, bodyOf, boxAt}
+use Rattle.shape.specs.Parts.{endOf, bodyOf}
 use Rattle.shape.specs.Top.{topOf}
 use Rattle.shape.specs.Inner.{innerOf}
 use Rattle.chunk.specs.declared.outer.Prft.{Prft}

@@ -2,7 +2,7 @@
 ghost use mathlib.Core.Path.{_≡_};
 ghost use lib.ListN.{length, replicate};
 ghost use Rattle.wire.specs.Form.{rows};
-ghost use Rattle.fields.specs.Said.{saysIn, numbers, Telling};
+ghost use Rattle.fields.specs.Said.{saysIn, Telling};
 ghost use Rattle.reading.specs.Deletions.{StruckAs, MarkedAs};
 use fieldset::lines;
 use wire::form::Form;

@@ -1,19 +1,15 @@
 // The number of an object: every rule in its order, with nothing lent changed. What it works out on the way is in the scratch words.
 ghost use mathlib.Core.Path.{_≡_};
-ghost use mathlib.Core.Bool.{true, not};
-ghost use mathlib.Core.List.{_++_};
 ghost use Prim.Native.Nat.{_+_, _-_, _≤_, _<_};
-ghost use lib.Dec.{eqb};
-ghost use lib.ListN.{length, getD, replicate};
+ghost use lib.ListN.{length, replicate};
 ghost use Rattle.laws.proofs.LadderLaws.{Hold};
 ghost use Rattle.wire.specs.Form.{rows};
 ghost use Rattle.fieldset.specs.Lines.{setLen};
-ghost use Rattle.slots.specs.Share.{prftAt};
 ghost use Rattle.reading.specs.Read.{setRungs, newWords};
 ghost use Rattle.object.specs.Sums.{Summable, sizesOk, protectedOk};
 ghost use Rattle.laws.specs.Tests.{_and_};
 ghost use Rattle.receiver.specs.Object.{isDelta, saying};
-ghost use Rattle.receiver.specs.Receive.{track, reference, valueRungs, judgeRungs};
+ghost use Rattle.receiver.specs.Receive.{reference, valueRungs, judgeRungs};
 ghost use Rattle.receiver.specs.Judge.{partIn, noneJudged, Judgeable, Split, SplitAs, JudgedAs};
 use block::index::Indexed;
 use chunk::outer::Prft;

@@ -1,5 +1,5 @@
 -- 01: "a rule on a field, count or parameter is 7", asked of a chunk c whose boxes are right, and whose counts keep their maxima.
-use Prim.Native.Nat.{ℕ, zero, suc, _+_, _*_, _/_, _%_, _^_, _≤_, _<_}
+use Prim.Native.Nat.{ℕ, zero, suc, _+_, _/_, _%_, _≤_, _<_}
 use mathlib.Core.Path.{_≡_}
 use mathlib.Core.Bool.{Bool, true, cond, not, _&&_, _||_}
 use mathlib.Core.List.{List, [], _∷_}
@@ -12,7 +12,7 @@ use Rattle.track.specs.Track.{none, cenc}
 use Rattle.shape.specs.declared.parts.Part.{Part}
 use Rattle.shape.specs.declared.top.Top.{Top}
 use Rattle.shape.specs.declared.inner.Inner.{Inner}
-use Rattle.shape.specs.Parts.{bodyOf, endOf, Inside}
+use Rattle.shape.specs.Parts.{bodyOf, Inside}
 use Rattle.chunk.specs.Front.{Event}
 use Rattle.prelude.specs.Styp.{minorVersion}
 use Rattle.prelude.specs.Prft.{prftOk, prftTrack}

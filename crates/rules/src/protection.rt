@@ -12,7 +12,6 @@ use encryption::sizes;
 use fragment::rows;
 use fragment::rows::Run;
 use shape::inner::Inner;
-use shape::parts::Part;
 use shape::top::Top;
 use track::Track;
 use tree::numbers;

@@ -9,13 +9,11 @@ use lib.ListN.{length, getD}
 use lib.Seq.{slice}
 use Rattle.laws.specs.Tests.{_and_}
 use Rattle.wire.specs.declared.form.Row.{Row}
-use Rattle.wire.specs.declared.zigzag.Coding.{Coding}
 use Rattle.wire.specs.Zigzag.{codeOf}
 use Rattle.runs.specs.Run.{first}
 use Rattle.block.specs.Written.{run}
 use Rattle.track.specs.declared.Track.{Track}
 use Rattle.fieldset.specs.declared.lines.Line.{Line}
-use Rattle.fieldset.specs.declared.lines.Measure.{Measure}
 use Rattle.fieldset.specs.Lines.{setLen, wanted, absentValue}
 use Rattle.fieldset.specs.Lawful.{measureOf, lawful}
 use Rattle.fields.specs.Cells.{codingFor, codingOf, isIvs, stood, oldValues}

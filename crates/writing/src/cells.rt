@@ -1,6 +1,6 @@
 // One field of the set, whichever it is: what the object says of it by its line in the table, its bytes, and the bytes written.
 ghost use mathlib.Core.Path.{_≡_};
-ghost use mathlib.Core.Bool.{true, _&&_};
+ghost use mathlib.Core.Bool.{true};
 ghost use Prim.Native.Nat.{_+_, _*_, _≤_, _<_};
 ghost use lib.ListN.{length, getD};
 ghost use lib.Seq.{slice};
@@ -8,7 +8,7 @@ ghost use Rattle.laws.specs.Writes.{Wrote};
 ghost use Rattle.wire.specs.Form.{rows};
 ghost use Rattle.block.specs.Entries.{isSome};
 ghost use Rattle.runs.specs.Run.{first};
-ghost use Rattle.fieldset.specs.Lines.{lines, spare, absentValue};
+ghost use Rattle.fieldset.specs.Lines.{lines, spare};
 ghost use Rattle.fields.specs.Cells.{codingFor, codingOf, isIvs, stood, oldValues};
 ghost use Rattle.writing.specs.Items.{wideBytes, bytesOf, WeighedAs};
 ghost use Rattle.writing.specs.Changes.{same, basisOf, stands, olds, changeOf, sentItems, lineItems, Writable};

@@ -1,7 +1,7 @@
 // The producer reference time in an object: ids 18, 20, 22 and 24. In a delta they go by the share's prft, which is that of the current full
 // object; in a full object version and flags go by what their absence means.
 ghost use mathlib.Core.Path.{_≡_};
-ghost use mathlib.Core.Bool.{true, _&&_};
+ghost use mathlib.Core.Bool.{true};
 ghost use Prim.Native.Nat.{_+_, _≤_};
 ghost use lib.ListN.{length, getD};
 ghost use Rattle.laws.specs.Writes.{Wrote};
