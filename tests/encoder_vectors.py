@@ -8,8 +8,9 @@ table's words and follows from 01 alone; the numbers of the tracks are also held
 import os
 import random
 import struct
-import subprocess
 import sys
+
+from conversation import Conversation
 
 R = random.Random(20261115)
 HELD = 9
@@ -75,44 +76,17 @@ def total(front):
     return h
 
 
-class Conversation:
-    """Asks the oracle, and collects the commands and the lines that are expected."""
-
+class Chunks(Conversation):
     def __init__(self, oracle):
-        self.oracle = subprocess.Popen(oracle, stdin=subprocess.PIPE, stdout=subprocess.PIPE, text=True, bufsize=1)
-        self.commands, self.lines, self.seen, self.chunks = b"", [], {}, 0
-
-    def ask(self, words):
-        self.oracle.stdin.write(words + "\n")
-        self.oracle.stdin.flush()
-        return self.oracle.stdout.readline().split()
-
-    def saw(self, number):
-        self.seen[number] = self.seen.get(number, 0) + 1
-
-    def add(self, call, slot, value, data, *lines):
-        self.commands += call + struct.pack(">QQQ", slot, value, len(data)) + data
-        self.lines += lines
+        super().__init__("e", oracle)
 
     def open(self, slot, track):
-        words = " ".join(map(str, track))
-        n = self.ask(f"open e {slot} {words}")[0]
-        self.saw(int(n))
-        self.add(b"o", slot, 0, struct.pack(">8Q", *track), n)
-
-    def close(self, slot):
-        self.add(b"c", slot, 0, b"", self.ask(f"close e {slot}")[0])
-
-    def group(self, slot):
-        self.add(b"g", slot, 0, b"", self.ask(f"group e {slot}")[0])
-
-    def poke(self, word, value):
-        self.add(b"w", word, value, b"", "0")
+        self.saw(super().open(slot, track))
 
     def answer(self, slot, wish, c, room, show):
         n, front, data, _, payload = self.ask(f"enc {slot} {wish} {room} {c.hex() or '-'}")
         self.saw(int(n))
-        self.chunks += 1
+        self.count += 1
         shown = "" if data == "-" else data
         return int(n), f"{n} {front} {payload} {show(shown)}"
 
@@ -130,7 +104,7 @@ class Conversation:
     def refused_18(self, slot, c, call=b"f"):
         """The table is one word short (call s), or a word of the share was damaged: the oracle knows nothing of it."""
         self.saw(18)
-        self.chunks += 1
+        self.count += 1
         self.add(call, slot, ROOM, c, "18 0 0 ")
 
 
@@ -197,8 +171,8 @@ def captures(s, folder):
 
 def by_chance(s, count):
     """Chunks with a byte or two of their boxes changed, each from a few lawful ones."""
-    end = s.chunks + count
-    while s.chunks < end:
+    end = s.count + count
+    while s.count < end:
         iv = R.choice([0, 0, 8, 16])
         track = (1, 48000, 1, R.choice([1024, 0]), R.choice([0, 3]), R.randrange(32), 1 if iv else 0, iv)
         s.open(2, track)
@@ -222,18 +196,12 @@ def by_chance(s, count):
 
 
 def main():
-    s = Conversation(sys.argv[2:])
+    s = Chunks(sys.argv[2:])
     s.ask("new")
     examples(s)
     by_chance(s, 400)
     captures(s, sys.argv[1])
-    with open("crates/encoder_vectors/stdin", "wb") as f:
-        f.write(s.commands)
-    with open("crates/encoder_vectors/stdout", "w") as f:
-        f.write("\n".join(s.lines) + "\n")
-    missing = set(range(10)) | {17, 18}
-    missing -= set(s.seen)
-    print(f"{s.chunks} chunks, {len(s.commands)} bytes, numbers {dict(sorted(s.seen.items()))}" + (f", MISSING {missing}" if missing else ""))
+    s.write("encoder_vectors", "chunks", set(range(10)) | {17, 18})
 
 
 main()

@@ -5,9 +5,9 @@ ORACLE.. is a command that answers the line protocol of another implementation o
 `close r SLOT`, `new`) on standard input and output. Objects and their order are made here, by chance from a fixed seed; what each answers is
 the oracle's word, but for number 18, which is a matter of the table's words and follows from 01 alone."""
 import random
-import struct
-import subprocess
 import sys
+
+from conversation import Conversation
 
 R = random.Random(20261115)
 SHARE, HELD = 996, 9
@@ -45,35 +45,13 @@ def whole(header, block, payload=b""):
     return varint(header) + varint(len(block)) + block + payload
 
 
-class Conversation:
-    """Asks the oracle, and collects the commands and the lines that are expected."""
-
+class Objects(Conversation):
     def __init__(self, oracle):
-        self.oracle = subprocess.Popen(oracle, stdin=subprocess.PIPE, stdout=subprocess.PIPE, text=True, bufsize=1)
-        self.commands, self.lines, self.seen, self.objects = b"", [], {}, 0
-
-    def ask(self, words):
-        self.oracle.stdin.write(words + "\n")
-        self.oracle.stdin.flush()
-        return self.oracle.stdout.readline().split()
-
-    def add(self, call, slot, value, data, line):
-        self.commands += call + struct.pack(">QQQ", slot, value, len(data)) + data
-        self.lines.append(line)
-
-    def open(self, slot, track):
-        words = " ".join(map(str, track))
-        self.add(b"o", slot, 0, struct.pack(">8Q", *track), self.ask(f"open r {slot} {words}")[0])
-
-    def close(self, slot):
-        self.add(b"c", slot, 0, b"", self.ask(f"close r {slot}")[0])
-
-    def group(self, slot):
-        self.add(b"g", slot, 0, b"", self.ask(f"group r {slot}")[0])
+        super().__init__("r", oracle)
 
     def told(self, number, line):
-        self.seen[number] = self.seen.get(number, 0) + 1
-        self.objects += 1
+        self.saw(number)
+        self.count += 1
         return line
 
     def receive(self, slot, o, room=ROOM):
@@ -85,9 +63,6 @@ class Conversation:
     def refused_18(self, slot, o, call=b"r"):
         """The table is one word short (call s), or a word of the share was damaged: the oracle knows nothing of it."""
         self.add(call, slot, ROOM, o, self.told(18, "18 0 0 "))
-
-    def poke(self, word, value):
-        self.add(b"w", word, value, b"", "0")
 
 
 def examples(s):
@@ -257,7 +232,7 @@ def an_object(track):
 
 
 def by_chance(s, count):
-    while s.objects < count:
+    while s.count < count:
         slot, track = R.randrange(8), Track()
         s.open(slot, track.words)
         for _ in range(R.randrange(2, 9)):
@@ -270,16 +245,11 @@ def by_chance(s, count):
 
 
 def main():
-    s = Conversation(sys.argv[1:])
+    s = Objects(sys.argv[1:])
     s.ask("new")
     examples(s)
     by_chance(s, 600)
-    with open("crates/receiver_vectors/stdin", "wb") as f:
-        f.write(s.commands)
-    with open("crates/receiver_vectors/stdout", "w") as f:
-        f.write("\n".join(s.lines) + "\n")
-    missing = {0, 1, 2, 10, 11, 12, 13, 14, 15, 16, 17, 18} - set(s.seen)
-    print(f"{s.objects} objects, {len(s.commands)} bytes, numbers {dict(sorted(s.seen.items()))}" + (f", MISSING {missing}" if missing else ""))
+    s.write("receiver_vectors", "objects", {0, 1, 2, 10, 11, 12, 13, 14, 15, 16, 17, 18})
 
 
 main()

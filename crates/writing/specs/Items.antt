@@ -53,8 +53,6 @@ unfoldable pub wideBytes : List ℕ → List ℕ
 wideBytes [] = []
 wideBytes (w ∷ ws) = be 8 w ++ wideBytes ws
 
--- ---- what the code does
-
 -- the bytes of items that fit
 abbrev pub listOf : Items → List Item
 listOf (some xs) = xs
@@ -62,6 +60,8 @@ listOf none = []
 
 abbrev pub bytesOf : List Row → Items → List ℕ
 bytesOf F is = encBlock F (listOf is)
+
+-- ---- what the code does
 
 -- a number that was made for the wire
 abbrev pub Made : List Row → Coded → Type 0
