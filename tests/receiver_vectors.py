@@ -8,41 +8,27 @@ import random
 import sys
 
 from conversation import Conversation
+from objects import raw, varint, whole, zigzag
 
 R = random.Random(20261115)
 SHARE, HELD = 996, 9
 ROOM = 4096
 
 
-def varint(n, any_width=False):
-    widths = [(1, 0), (2, 1), (4, 2), (8, 3)]
-    fit = [(w, p) for w, p in widths if n < 1 << (8 * w - 2)]
-    w, p = R.choice(fit) if any_width and R.random() < 0.2 else fit[0]
-    return (n | p << (8 * w - 2)).to_bytes(w, "big")
-
-
-def zigzag(n):
-    return 2 * n if n >= 0 else -2 * n - 1
+def some_form(forms):
+    return R.choice(forms) if R.random() < 0.2 else forms[0]
 
 
 def scalar(i, v):
-    return varint(i) + varint(v, True)
-
-
-def raw(i, b):
-    return varint(i) + varint(len(b)) + b
+    return varint(i) + varint(v, some_form)
 
 
 def numbers(i, vs):
-    return raw(i, b"".join(varint(v, True) for v in vs))
+    return raw(i, b"".join(varint(v, some_form) for v in vs))
 
 
 def text(b):
     return varint(len(b)) + b
-
-
-def whole(header, block, payload=b""):
-    return varint(header) + varint(len(block)) + block + payload
 
 
 class Objects(Conversation):
@@ -228,7 +214,7 @@ def an_object(track):
         payload = max(payload + R.choice([1, -1]), 0)
     header = R.choice([22, 24, 26, 500]) if bad and R.random() < 0.03 else 25 if delta else 23
     track.count = count
-    return varint(header, True) + varint(len(block), True) + block + bytes(R.randrange(256) for _ in range(payload))
+    return varint(header, some_form) + varint(len(block), some_form) + block + bytes(R.randrange(256) for _ in range(payload))
 
 
 def by_chance(s, count):
