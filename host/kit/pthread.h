@@ -1,0 +1,12 @@
+#pragma once
+#include <stddef.h>
+typedef unsigned long pthread_t;
+typedef union {
+    char bytes[56];
+    long alignment;
+} pthread_attr_t;
+int pthread_attr_init(pthread_attr_t *);
+int pthread_attr_destroy(pthread_attr_t *);
+int pthread_attr_setstack(pthread_attr_t *, void *, size_t);
+int pthread_create(pthread_t *, const pthread_attr_t *, void *(*)(void *), void *);
+int pthread_join(pthread_t, void **);
