@@ -5,18 +5,19 @@ use native.Mathlib.Numerals.{add-one}
 use native.Mathlib.Omega.{arith}
 use mathlib.Core.Path.{_≡_, refl, sym, _∙_}
 use mathlib.Core.Bool.{Bool, true, false, false≢true, not, cond, _||_}
-use mathlib.Core.List.{List, [], _∷_}
+use mathlib.Core.List.{List, [], _∷_, map}
 use borrow.Author.Tests.{eqb-true, eq-eqb, ne-eqb, leb-true}
 use lib.Dec.{eqb, leb}
-use lib.ListN.{length, getD, drop, drop-of-length-le, List·getD-eq-default}
+use lib.ListN.{length, getD, drop, drop-of-length-le, length-map, List·getD-map, List·getD-eq-default}
 use lib.Seq.{drop-cons}
 use Rattle.laws.specs.Tests.{_and_}
+use Rattle.laws.proofs.ListLaws.{getD-in}
 use Rattle.laws.proofs.TestLaws.{left, right}
 use Rattle.fieldset.specs.declared.lines.Want.{Want}
 use Rattle.fieldset.specs.declared.lines.Want.the-variants.{One, LessOne, Count, Ivs, Sum}
 use Rattle.fieldset.specs.declared.lines.Line.{Line}
 use Rattle.fieldset.specs.declared.lines.Measure.{Measure}
-use Rattle.fieldset.specs.Lines.{lines, spare, setLen, lineNumber, every, wanted}
+use Rattle.fieldset.specs.Lines.{lines, spare, setLen, placeOf, lineNumber, every, wanted}
 use Rattle.fieldset.specs.Lawful.{Shaped}
 
 -- a number is none of those below n, as the last arm of a match knows it
@@ -41,6 +42,32 @@ line-is k e h = rw e h
 -- past the table
 pub line-past : (i : ℕ) {r : Line} → 14 ≤ i → r ≡ spare → r ≡ getD lines i spare
 line-past i h e = e ∙ sym (List·getD-eq-default lines spare {n = i} (omega (arith, line-count)))
+
+-- the place of a line under its number
+pub place-is : (k : ℕ) {i v : ℕ} → i ≡ k → v ≡ placeOf k → v ≡ placeOf i
+place-is k e h = rw e h
+
+-- past the table
+pub place-past : (i : ℕ) → 14 ≤ i → setLen ≡ placeOf i
+unfolding placeOf
+place-past i h =
+    sym
+    (List·getD-eq-default (map (λ (l : Line). l .place) lines) setLen {n = i} (omega (arith, line-count, length-map lines (λ (l : Line). l .place))))
+
+-- the place is that of the line
+pub place-of : (i : ℕ) → i < 14 → placeOf i ≡ getD lines i spare .place
+unfolding placeOf
+place-of i h =
+    let k : i < length (map (λ (l : Line). l .place) lines) = omega (arith, line-count, length-map lines (λ (l : Line). l .place)) in
+    getD-in (map (λ (l : Line). l .place) lines) i setLen (spare .place) k ∙ List·getD-map (λ (l : Line). l .place) lines i spare
+
+-- the id of a line under its number
+pub id-is : (k : ℕ) {i v : ℕ} → i ≡ k → v ≡ getD lines k spare .id → v ≡ getD lines i spare .id
+id-is k e h = rw e h
+
+-- past the table
+pub id-past : (i : ℕ) → 14 ≤ i → 0 ≡ getD lines i spare .id
+id-past i h = rw (List·getD-eq-default lines spare {n = i} (omega (arith, line-count)))
 
 -- the line at a number and those after it
 pub line-here : (i : ℕ) → i < 14 → drop i lines ≡ getD lines i spare ∷ drop (i + 1) lines

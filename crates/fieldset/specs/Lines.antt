@@ -3,7 +3,7 @@
 -- words of eight bytes, the highest byte first.
 use Prim.Native.Nat.{ℕ, suc, _+_, _-_, _*_, _≤_}
 use mathlib.Core.Bool.{Bool, true, cond, not}
-use mathlib.Core.List.{List, [], _∷_}
+use mathlib.Core.List.{List, [], _∷_, map}
 use lib.Dec.{eqb}
 use lib.ListN.{getD}
 use Rattle.laws.specs.Tests.{_and_}
@@ -62,6 +62,10 @@ spare = lineOf 0 0 0 One 0 Zero
 -- the words of a set
 abbrev pub setLen : ℕ
 setLen = 981
+
+-- where the region of the line with the number i begins, and past the last line where the words end
+unfoldable pub placeOf : ℕ → ℕ
+placeOf i = getD (map (λ l. l .place) lines) i setLen
 
 -- where BMDT and the sample count stand
 abbrev pub bmdtAt : ℕ

@@ -1,7 +1,7 @@
 // The table of the fields that a set has beside BMDT and the sample count: a line for each id, in ascending order.
 ghost use mathlib.Core.Path.{_≡_};
 ghost use lib.ListN.{getD};
-ghost use Rattle.fieldset.specs.Lines.{lines, spare, lineOf, lineNumber, wanted};
+ghost use Rattle.fieldset.specs.Lines.{lines, spare, lineOf, placeOf, lineNumber, wanted};
 
 // How many values a field has where it stands: one, a value for each sample or for each but the last, the words of the IVs, or a value for
 // each subsample.
@@ -124,6 +124,53 @@ pub fn line_at(i: usize) -> Line
         12 => row(15, PROTECTED, 256, Want::Sum, U32, Absent::Zero),
         13 => row(16, IV_SIZE, 1, Want::One, U8, Absent::IvSize),
         _ => row(0, 0, 0, Want::One, 0, Absent::Zero),
+    }
+}
+
+// Where the region of the line with the number i begins, and past the last line where the words end: all that a loop has to know of a field that
+// doesn't stand.
+pub fn place_at(i: usize) -> usize
+    ensures { λ r. ⌜ r ≡ placeOf i ⌝ }
+{
+    match i {
+        0 => SIZES,
+        1 => DESCRIPTION,
+        2 => DURATIONS,
+        3 => DURATION,
+        4 => OFFSETS,
+        5 => SIZE,
+        6 => FLAGS,
+        7 => DEFAULT_FLAGS,
+        8 => IVS,
+        9 => SUBSAMPLES,
+        10 => FIRST_FLAGS,
+        11 => CLEAR,
+        12 => PROTECTED,
+        13 => IV_SIZE,
+        _ => SET,
+    }
+}
+
+// The id of the line with the number i.
+pub fn id_at(i: usize) -> u64
+    ensures { λ r. ⌜ r ≡ getD lines i spare .id ⌝ }
+{
+    match i {
+        0 => 1,
+        1 => 2,
+        2 => 3,
+        3 => 4,
+        4 => 5,
+        5 => 6,
+        6 => 7,
+        7 => 8,
+        8 => 9,
+        9 => 11,
+        10 => 12,
+        11 => 13,
+        12 => 15,
+        13 => 16,
+        _ => 0,
     }
 }
 
