@@ -1,22 +1,74 @@
 -- The loop that collects the bits of a part of a list. Assumes nothing.
 use Prim.Native.Nat.{ℕ, suc, _+_, _≤_, _<_}
-use native.Mathlib.Numerals.{add-one}
-use mathlib.Core.Path.{_≡_}
-use mathlib.Core.List.{List}
+use native.Mathlib.Omega.{arith}
+use mathlib.Core.Path.{_≡_, refl, sym, _∙_, ap}
+use mathlib.Core.List.{List, [], _∷_, _++_}
 use lib.ListN.{length, getD}
 use lib.Seq.{slice, slice-cons}
 use lib.Bits.{bitOr, or-zero-r}
 use Rattle.laws.specs.Tests.{allBits}
-use Rattle.laws.proofs.SliceLaws.{slice-none}
+use Rattle.laws.proofs.SliceLaws.{slice-none, slice-join}
 use Rattle.laws.proofs.TestLaws.{or-assoc}
 
--- one word more is collected
-pub bits-more : (w : List ℕ) (i to all : ℕ) → i < to → to ≤ length w
-    → bitOr (bitOr all (getD w i 0)) (allBits (slice (i + 1) to w)) ≡ bitOr all (allBits (slice i to w))
+-- the bits of two parts that meet
+bits-append : (xs ys : List ℕ) → allBits (xs ++ ys) ≡ bitOr (allBits xs) (allBits ys)
 unfolding allBits
-bits-more w i to all h k = rw (slice-cons i to w 0 h k, add-one) (or-assoc all (getD w i 0) (allBits (slice (suc i) to w)))
+bits-append [] ys = refl
+bits-append (x ∷ xs) ys = ap (bitOr x) (bits-append xs ys) ∙ sym (or-assoc x (allBits xs) (allBits ys))
 
--- none is left
-pub bits-end : (w : List ℕ) (i to all : ℕ) → to ≤ i → bitOr all (allBits (slice i to w)) ≡ all
+bits-join : (w : List ℕ) (i m to : ℕ) → i ≤ m → m ≤ to → to ≤ length w
+    → {a b : ℕ} → a ≡ allBits (slice i m w) → b ≡ allBits (slice m to w) → bitOr a b ≡ allBits (slice i to w)
+bits-join w i m to h k end ea eb = rw (ea, eb, slice-join i m to w h k end) (sym (bits-append (slice i m w) (slice m to w)))
+
+-- one word by itself
+pub bits-one : (w : List ℕ) (i : ℕ) → i < length w → getD w i 0 ≡ allBits (slice i (i + 1) w)
 unfolding allBits
-bits-end w i to all h = rw (slice-none i to w h) (or-zero-r all)
+bits-one w i h = rw (slice-cons i (i + 1) w 0 (omega arith) (omega arith), slice-none (suc i) (i + 1) w (omega arith)) (sym (or-zero-r (getD w i 0)))
+
+-- the bits of four parts of one length, as code groups them: one after another, or two and two
+module _ (w : List ℕ) (n i p q r to : ℕ) (ep : i + n ≡ p) (eq : p + n ≡ q) (er : q + n ≡ r) (et : r + n ≡ to) (end : to ≤ length w) {a b c d : ℕ}
+    (ea : a ≡ allBits (slice i (i + n) w)) (eb : b ≡ allBits (slice p (p + n) w))
+    (ec : c ≡ allBits (slice q (q + n) w)) (ed : d ≡ allBits (slice r (r + n) w)) where
+  pub bits-row : bitOr a (bitOr b (bitOr c d)) ≡ allBits (slice i to w)
+  bits-row =
+      bits-join w i p to (omega arith) (omega arith) end (rw ep at ea)
+      (bits-join w p q to (omega arith) (omega arith) end (rw eq at eb)
+      (bits-join w q r to (omega arith) (omega arith) end (rw er at ec) (rw et at ed)))
+
+  pub bits-pairs : bitOr (bitOr a b) (bitOr c d) ≡ allBits (slice i to w)
+  bits-pairs = or-assoc a b (bitOr c d) ∙ bits-row
+
+-- bits are collected before the place i, and those of the words from it on are left
+pub record Collecting (w : List ℕ) (from to all i : ℕ) : Type 0 where
+  pub inside : to ≤ length w
+  pub place : i ≤ to
+  pub rest : bitOr all (allBits (slice i to w)) ≡ allBits (slice from to w)
+
+module _ (w : List ℕ) (from to : ℕ) where
+  -- an empty part
+  pub collect-none : to ≤ from → 0 ≡ allBits (slice from to w)
+  unfolding allBits
+  collect-none h = rw (slice-none from to w h)
+
+  -- none is collected yet
+  pub collect-start : to ≤ length w → from < to → Collecting w from to 0 from
+  collect-start e h = record { inside = e; place = omega arith; rest = refl }
+
+  module _ (all i : ℕ) (h : Collecting w from to all i) where
+    -- those of a part more
+    pub collect-run : (m : ℕ) {a : ℕ} → i ≤ m → m ≤ to → a ≡ allBits (slice i m w) → Collecting w from to (bitOr all a) m
+    collect-run m {a} p q e =
+        record {
+          inside = h .inside;
+          place = q;
+          rest = or-assoc all a (allBits (slice m to w)) ∙ ap (bitOr all) (bits-join w i m to p q (h .inside) e refl) ∙ h .rest;
+        }
+
+    -- of a word more
+    pub collect-word : i < to → Collecting w from to (bitOr all (getD w i 0)) (i + 1)
+    collect-word lt = collect-run (i + 1) (omega arith) (omega arith) (bits-one w i (omega (arith, h .inside)))
+
+    -- all are
+    pub collect-end : to ≤ i → all ≡ allBits (slice from to w)
+    unfolding allBits
+    collect-end le = sym (rw (slice-none i to w le) (or-zero-r all)) ∙ h .rest
