@@ -1,25 +1,23 @@
 -- Lawful words: what code finds of them, and what is known of them. Assumes nothing.
-use Prim.Native.Nat.{ℕ, _+_, _-_, _/_, _^_, _≤_, _<_, zero-le}
-use native.Mathlib.Nat.{le-refl}
+use Prim.Native.Nat.{ℕ, _+_, _-_, _/_, _^_, _≤_, _<_}
 use native.Mathlib.Omega.{arith}
 use mathlib.Core.Path.{_≡_, refl, sym, _∙_, ap}
 use mathlib.Core.Bool.{Bool, true, false, not, _&&_, _||_}
-use mathlib.Core.List.{List, [], _∷_, _++_}
-use borrow.Author.Tests.{eqb-true, eqb-false, eq-eqb, leb-true, le-leb, lt-leb}
+use mathlib.Core.List.{List, [], _∷_}
+use borrow.Author.Tests.{leb-true, le-leb, lt-leb}
 use lib.Dec.{eqb, leb}
-use lib.ListN.{length, getD}
+use lib.ListN.{getD}
 use lib.Seq.{slice}
-use Rattle.laws.specs.Tests.{_and_, allZero, allLe, allBits, sum}
-use Rattle.laws.proofs.TestLaws.{left, right, both, same-test, bits-zero, and-left, and-right}
+use Rattle.laws.specs.Tests.{_and_, allZero, allLe, sum}
+use Rattle.laws.proofs.TestLaws.{left, right, both}
 use Rattle.laws.proofs.GateLaws.{failed, held}
 use Rattle.track.specs.declared.Track.{Track}
 use Rattle.fieldset.specs.declared.lines.Line.{Line}
 use Rattle.fieldset.specs.declared.lines.Measure.{Measure}
 use Rattle.fieldset.specs.declared.lawful.Tally.{Tally}
-use Rattle.fieldset.specs.Lines.{every, lines, spare, lineFor, wanted, bmdtAt, countAt, setLen}
-use Rattle.fieldset.specs.Lawful.{has, inUse, valuesOf, marksOf, regionOk, regionsOk, saizOk, setRules, sameIvSize, measureOf, lawful, TallyOf, Counted}
-use Rattle.fieldset.proofs.LineLaws.{line-count, every-at, shaped}
-use Rattle.fieldset.proofs.RegionLaws.{unused, used, region-single, regions-append}
+use Rattle.fieldset.specs.Lines.{every, lines, spare, lineFor, wanted, bmdtAt, countAt}
+use Rattle.fieldset.specs.Lawful.{has, inUse, valuesOf, marksOf, regionOk, regionsOk, saizOk, setRules, sameIvSize, measureOf, lawful, TallyOf}
+use Rattle.fieldset.proofs.LineLaws.{line-count, every-at}
 use Rattle.fieldset.proofs.TallyLaws.{saiz-is}
 
 -- the words of the subsample counts
@@ -43,101 +41,6 @@ unfolding lawful
 tallied-sum t w c iv e h =
     h .total (h .within ∙ sym (saiz-is (t .«iv_size») (valuesOf 11 (getD w countAt 0) w) (omega arith)) ∙ left _ _ (right _ _ e))
 
--- numbers within a bound are within a larger one
-all-le-more : (a b : ℕ) (s : List ℕ) → a ≤ b → allLe a s ≡ true → allLe b s ≡ true
-unfolding allLe
-all-le-more a b [] h e = refl
-all-le-more a b (x ∷ s) h e =
-    let k : x ≤ a = leb-true x a (left _ _ e) in
-    both _ _ (le-leb x b (omega arith)) (all-le-more a b s h (right _ _ e))
-
--- no more is in use than is wanted
-in-use-le : (mark k : ℕ) → inUse mark k ≤ k
-in-use-le mark k = go (eqb mark 0) refl
-  where
-    go : (b : Bool) → eqb mark 0 ≡ b → inUse mark k ≤ k
-    go true e = rw (← unused mark k (eqb-true mark 0 e)) zero-le
-    go false e = rw (← used mark k (eqb-false mark 0 e)) (le-refl k)
-
--- the table, with its lines for ids 11 and 16 apart
-parted : lines ≡ slice 0 9 lines ++ (getD lines 9 spare ∷ (slice 10 13 lines ++ (getD lines 13 spare ∷ [])))
-unfolding lines
-parted = refl
-
-module _ (m : Measure) (w : List ℕ) where
-  -- of the region of id 11, where its counts are small
-  counts-region : (u : ℕ) → Counted m u w → (leb (getD w 398 0) 1 && eqb (allBits (slice (399 + u) 463 w)) 0) ≡ regionOk m (getD lines 9 spare) w
-  unfolding regionOk lines wanted _and_
-  counts-region u c =
-      rw (← c .many, le-leb u 64 (c .used), all-le-more 63 0xffff (slice 399 (399 + u) w) (omega arith) (c .small), bits-zero)
-
--- of the region of id 16 and its value
-size-region : (m : Measure) (t : Track) (w : List ℕ) → t .«iv_size» ≤ 16 → length w ≡ setLen
-    → (leb (getD w 979 0) 1 && eqb (getD w 980 0) (inUse (getD w 979 0) (t .«iv_size»))) ≡ (regionOk m (getD lines 13 spare) w and sameIvSize t w)
-unfolding sameIvSize has lineFor lines _and_
-size-region m t w iv l =
-    sym
-    (ap (λ (b : Bool). b and (not (not (eqb (getD w 979 0) 0)) || eqb (getD w 980 0) (t .«iv_size»)))
-    (sym (region-single m (getD lines 13 spare) w (rw l (shaped 13 (omega arith))) refl (inUse (getD w 979 0) 0xff) refl))
-    ∙ go (eqb (getD w 979 0) 0) refl)
-  where
-    v : ℕ
-    v = getD w 980 0
-
-    go : (b : Bool) → eqb (getD w 979 0) 0 ≡ b
-        → ((leb (getD w 979 0) 1 && leb v (inUse (getD w 979 0) 0xff)) && (not (not b) || eqb v (t .«iv_size»)))
-        ≡ (leb (getD w 979 0) 1 && eqb v (inUse (getD w 979 0) (t .«iv_size»)))
-    go true q =
-        let z : getD w 979 0 ≡ 0 = eqb-true _ _ q in
-        rw (← unused (getD w 979 0) 0xff z, ← unused (getD w 979 0) (t .«iv_size») z, z) (one-way v)
-      where
-        one-way : (x : ℕ) → (leb x 0 && true) ≡ eqb x 0
-        one-way x = same-test _ _ (λ e. eq-eqb x 0 (omega (arith, leb-true x 0 (and-left (leb x 0) true e)))) (λ e. let k : x ≡ 0 = eqb-true x 0 e in rw (le-leb x 0 (omega arith)))
-    go false q =
-        let z : getD w 979 0 ≡ 0 → ⊥ = eqb-false _ _ q in
-        rw (← used (getD w 979 0) 0xff z, ← used (getD w 979 0) (t .«iv_size») z) (other-way (leb (getD w 979 0) 1) v)
-      where
-        other-way : (a : Bool) (x : ℕ) → ((a && leb x 0xff) && eqb x (t .«iv_size»)) ≡ (a && eqb x (t .«iv_size»))
-        other-way false x = refl
-        other-way true x = same-test _ _ (λ e. and-right (leb x 0xff) (eqb x (t .«iv_size»)) e) (λ e. let k : x ≡ t .«iv_size» = eqb-true x (t .«iv_size») e in rw (le-leb x 0xff (omega arith), e))
-
--- the marks of ids 11 and 16 among the marks
-pub mark-11 : (w marks : List ℕ) → marks ≡ marksOf w → getD marks 9 0 ≡ getD w 398 0
-unfolding marksOf lines
-mark-11 w marks e = rw e
-
-pub mark-16 : (w marks : List ℕ) → marks ≡ marksOf w → getD marks 13 0 ≡ getD w 979 0
-unfolding marksOf lines
-mark-16 w marks e = rw e
-
--- tests as code groups them
-regroup : (a c b z s : Bool) → (a && (c && (b && (z and s)))) ≡ ((a and (c and (b and (z and true)))) and s)
-unfolding _and_
-regroup true true true true s = refl
-regroup true true true false s = refl
-regroup true true false z s = refl
-regroup true false b z s = refl
-regroup false c b z s = refl
-
--- all regions, with ids 11 and 16 looked at by themselves
-pub fields-whole : (m : Measure) (t : Track) (w : List ℕ) (u : ℕ) → Counted m u w → t .«iv_size» ≤ 16 → length w ≡ setLen → (a b : Bool)
-    → a ≡ regionsOk m (slice 0 9 lines) w → b ≡ regionsOk m (slice 10 13 lines) w
-    → (a && ((leb (getD w 398 0) 1 && eqb (allBits (slice (399 + u) 463 w)) 0) && (b && (leb (getD w 979 0) 1 && eqb (getD w 980 0) (inUse (getD w 979 0) (t .«iv_size»))))))
-    ≡ (regionsOk m lines w and sameIvSize t w)
-unfolding regionsOk
-fields-whole m t w u c iv l a b ea eb =
-    rw (ea, eb, counts-region m w u c, size-region m t w iv l)
-    (regroup (regionsOk m (slice 0 9 lines) w) (regionOk m (getD lines 9 spare) w) (regionsOk m (slice 10 13 lines) w) (regionOk m (getD lines 13 spare) w) (sameIvSize t w)
-    ∙ ap (λ (x : Bool). x and sameIvSize t w) (sym whole))
-  where
-    whole : regionsOk m lines w
-        ≡ (regionsOk m (slice 0 9 lines) w and (regionOk m (getD lines 9 spare) w and (regionsOk m (slice 10 13 lines) w and (regionOk m (getD lines 13 spare) w and true))))
-    whole =
-        ap (λ (ls : List Line). regionsOk m ls w) parted
-        ∙ regions-append m w (slice 0 9 lines) (getD lines 9 spare ∷ (slice 10 13 lines ++ (getD lines 13 spare ∷ [])))
-        ∙ ap (λ (x : Bool). regionsOk m (slice 0 9 lines) w and (regionOk m (getD lines 9 spare) w and x))
-        (regions-append m w (slice 10 13 lines) (getD lines 13 spare ∷ []))
-
 module _ (t : Track) (w : List ℕ) where
   -- what code finds of words: too many samples
   pub many-samples : 64 < getD w countAt 0 → false ≡ lawful t w
@@ -159,29 +62,20 @@ module _ (t : Track) (w : List ℕ) where
     unfolding lawful _and_
     many-subsamples h = rw (le-leb (getD w countAt 0) 64 few, failed tested h)
 
-    -- the counts are small, for the regions
-    pub small-counts : not (c .ok) ≡ false → Counted (record { count = getD w countAt 0; ivs = t .«iv_size» / 8; sum = c .sum }) u w
-    small-counts h =
-        let most : (253 - t .«iv_size») / 6 ≤ 63 = omega arith in
-        record {
-          many = eu;
-          used = omega (arith, in-use-le (getD w 398 0) (getD w countAt 0));
-          small = all-le-more ((253 - t .«iv_size») / 6) 63 (slice 399 (399 + u) w) most (sym (ec .within) ∙ held refl h);
-        }
-
     -- and the tests that are left
-    pub lawful-rest : not (c .ok) ≡ false → (a b : Bool)
-        → a ≡ (regionsOk (record { count = getD w countAt 0; ivs = t .«iv_size» / 8; sum = c .sum }) lines w and sameIvSize t w)
+    pub lawful-rest : not (c .ok) ≡ false → (a z b : Bool)
+        → a ≡ regionsOk (record { count = getD w countAt 0; ivs = t .«iv_size» / 8; sum = c .sum }) lines w
+        → z ≡ sameIvSize t w
         → b ≡ setRules t (getD w countAt 0) (marksOf w)
-        → (leb (getD w bmdtAt 0) (2 ^ 62 - 1) && (leb (c .sum) 256 && (a && b))) ≡ lawful t w
+        → (leb (getD w bmdtAt 0) (2 ^ 62 - 1) && (leb (c .sum) 256 && ((a && z) && b))) ≡ lawful t w
     unfolding lawful _and_
-    lawful-rest h a b ea eb =
+    lawful-rest h a z b ea ez eb =
         let n : c .sum ≡ sum (valuesOf 11 (getD w countAt 0) w) = ec .total (held refl h) ∙ ap sum counted in
-        rw (ea, eb, n, le-leb (getD w countAt 0) 64 few, held tested h)
+        rw (ea, ez, eb, n, le-leb (getD w countAt 0) 64 few, held tested h)
         (ap (λ (x : Bool). leb (getD w bmdtAt 0) (2 ^ 62 - 1) && (leb (sum (valuesOf 11 (getD w countAt 0) w)) 256 && x))
         (last-two (regionsOk (measureOf t w) lines w) (sameIvSize t w) (setRules t (getD w countAt 0) (marksOf w))))
       where
-        last-two : (x y z : Bool) → ((x and y) && z) ≡ (x and (z and y))
+        last-two : (x y z : Bool) → ((x && y) && z) ≡ (x and (z and y))
         last-two true true true = refl
         last-two true true false = refl
         last-two true false true = refl

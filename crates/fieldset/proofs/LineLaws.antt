@@ -18,7 +18,6 @@ use Rattle.fieldset.specs.declared.lines.Want.the-variants.{One, LessOne
 use Rattle.fieldset.specs.declared.lines.Line.{Line}
 use Rattle.fieldset.specs.declared.lines.Measure.{Measure}
 use Rattle.fieldset.specs.Lines.{lines, spare, setLen, placeOf, lineNumber, every, wanted}
-use Rattle.fieldset.specs.Lawful.{Shaped}
 
 -- a number is none of those below n, as the last arm of a match knows it
 abbrev pub None : ℕ → ℕ → Type 0
@@ -87,6 +86,13 @@ unfolding every
 every-at p [] i d e h = absurd (not-suc-le-zero h)
 every-at p (l ∷ ls) zero d e h = left _ _ e
 every-at p (l ∷ ls) (suc i) d e h = every-at p ls i d (right _ _ e) (le-of-suc-le-suc h)
+
+-- a line whose region lies in a run of words of that length, whose bound is a row of ones, and which has one value where it has room for one
+pub record Shaped (l : Line) (length : ℕ) : Type 0 where
+  pub inside : l .place + 1 + l .room ≤ length
+  pub bits : ℕ
+  pub ones : l .bound ≡ 2 ^ bits - 1
+  pub single : l .room ≡ 1 → l .want ≡ One
 
 -- a row of at most k ones
 unfoldable ones : ℕ → ℕ → Bool
@@ -159,6 +165,25 @@ tiles at (l ∷ ls) end = eqb (l .place) at and tiles (at + 1 + l .room) ls end
 pub tiled : tiles 2 lines setLen ≡ true
 unfolding tiles lines _and_
 tiled = refl
+
+-- so that the region after a line's begins where that one ends
+tiles-next : (at end : ℕ) (ls : List Line) (i : ℕ) (d : Line) → tiles at ls end ≡ true → i < length ls
+    → getD (map (λ (l : Line). l .place) ls) (suc i) end ≡ getD ls i d .place + 1 + getD ls i d .room
+unfolding tiles
+tiles-next at end [] i d e h = absurd (not-suc-le-zero h)
+tiles-next at end (l ∷ []) zero d e h =
+    let p : l .place ≡ at = eqb-true _ _ (left _ _ e) in
+    let q : at + 1 + l .room ≡ end = eqb-true _ _ (right _ _ e) in
+    rw p (sym q)
+tiles-next at end (l ∷ n ∷ ls) zero d e h =
+    let p : l .place ≡ at = eqb-true _ _ (left _ _ e) in
+    let q : n .place ≡ at + 1 + l .room = eqb-true _ _ (left _ _ (right _ _ e)) in
+    rw p q
+tiles-next at end (l ∷ ls) (suc i) d e h = tiles-next (at + 1 + l .room) end ls i d (right _ _ e) (le-of-suc-le-suc h)
+
+pub place-next : (i : ℕ) → i < 14 → placeOf (i + 1) ≡ getD lines i spare .place + 1 + getD lines i spare .room
+unfolding placeOf
+place-next i h = rw (add-one i) (tiles-next 2 setLen lines i spare tiled (omega (arith, line-count)))
 
 -- looking for the line of an id: those before the one at i are of other ids
 pub record Seeking (id i : ℕ) : Type 0 where

@@ -1,25 +1,24 @@
 -- The region of a line, and the loop over all lines. Assumes nothing.
-use Prim.Native.Nat.{ℕ, suc, _+_, _-_, _^_, _≤_, _<_}
+use Prim.Native.Nat.{ℕ, _+_, _-_, _^_, _≤_, _<_, zero-le}
 use native.Mathlib.Nat.{add-zero, le-refl}
 use native.Mathlib.Numerals.{add-one}
 use native.Mathlib.Omega.{arith}
-use mathlib.Core.Path.{_≡_, refl, sym, _∙_, ap}
+use mathlib.Core.Path.{_≡_, refl, sym, _∙_}
 use mathlib.Core.Bool.{Bool, true, false, _&&_}
-use mathlib.Core.List.{List, [], _∷_, _++_, map}
-use borrow.Author.Tests.{eqb-true, eqb-false, eq-eqb, ne-eqb, leb-true, le-leb, lt-leb}
+use mathlib.Core.List.{List, _∷_}
+use borrow.Author.Tests.{eqb-true, eq-eqb, ne-eqb, leb-true, le-leb, lt-leb}
 use lib.Dec.{eqb, leb}
-use lib.ListN.{length, getD, length-map, List·getD-map}
-use lib.Seq.{slice, slice-cons, slice-empty}
+use lib.Bits.{bitOr}
+use lib.ListN.{length, getD, drop}
+use lib.Seq.{slice, slice-cons}
 use Rattle.laws.specs.Tests.{_and_, allZero, allLe, allBits}
-use Rattle.laws.proofs.ListLaws.{getD-in}
-use Rattle.laws.proofs.SliceLaws.{slice-none}
-use Rattle.laws.proofs.TestLaws.{and-next, and-end, and-assoc, same-test, bits-zero, bits-le}
-use Rattle.fieldset.specs.declared.lines.Want.the-variants.{One}
+use Rattle.laws.proofs.SliceLaws.{slice-none, slice-join}
+use Rattle.laws.proofs.TestLaws.{and-next, and-end, and-assoc, same-test, allZero-append, bits-zero, bits-le}
 use Rattle.fieldset.specs.declared.lines.Line.{Line}
 use Rattle.fieldset.specs.declared.lines.Measure.{Measure}
-use Rattle.fieldset.specs.Lines.{lines, spare, setLen, wanted, Small}
-use Rattle.fieldset.specs.Lawful.{inUse, marksOf, regionOk, regionsOk, Shaped}
-use Rattle.fieldset.proofs.LineLaws.{line-count, want-is, shaped}
+use Rattle.fieldset.specs.Lines.{lines, spare, setLen, placeOf, wanted, Small}
+use Rattle.fieldset.specs.Lawful.{inUse, regionOk, regionsOk}
+use Rattle.fieldset.proofs.LineLaws.{Shaped, shaped, line-here, no-lines, place-of, place-next, place-past}
 
 -- a field without its mark uses nothing
 pub unused : (mark k : ℕ) → mark ≡ 0 → 0 ≡ inUse mark k
@@ -31,125 +30,160 @@ pub used : (mark k : ℕ) → (mark ≡ 0 → ⊥) → k ≡ inUse mark k
 unfolding inUse
 used mark k h = rw (ne-eqb mark 0 h)
 
--- a part of one word
-one-word : (w : List ℕ) (p : ℕ) → p < length w → slice p (p + 1) w ≡ getD w p 0 ∷ []
-one-word w p h =
-    slice-cons p (p + 1) w 0 (omega arith) (omega arith)
-    ∙ ap (λ (s : List ℕ). getD w p 0 ∷ s) (slice-none (suc p) (p + 1) w (omega arith))
-
--- at most 0 is 0
-le-zero-is : (v : ℕ) → leb v 0 ≡ eqb v 0
-le-zero-is v = same-test _ _ (λ e. eq-eqb v 0 (omega (arith, leb-true v 0 e))) (λ e. le-leb v 0 (omega (arith, eqb-true v 0 e)))
-
--- a region with room for one value, by its mark and that value
-single : (mark bound n room from : ℕ) (w : List ℕ) → from < length w → n ≡ 1 → room ≡ 1
-    → (leb mark 1 && leb (getD w from 0) (inUse mark bound))
-    ≡ (leb (inUse mark n) room and leb mark 1 and allLe bound (slice from (from + inUse mark n) w) and allZero (slice (from + inUse mark n) (from + room) w))
-unfolding _and_ allLe allZero
-single mark bound n room from w h en er = go (eqb mark 0) refl
-  where
-    v : ℕ
-    v = getD w from 0
-
-    go : (t : Bool) → eqb mark 0 ≡ t
-        → (leb mark 1 && leb v (inUse mark bound))
-        ≡ (leb (inUse mark n) room and leb mark 1 and allLe bound (slice from (from + inUse mark n) w) and allZero (slice (from + inUse mark n) (from + room) w))
-    go true q =
-        let z : mark ≡ 0 = eqb-true mark 0 q in
-        rw (← unused mark bound z, ← unused mark n z, add-zero, slice-none from from w (le-refl from), er, one-word w from h, z)
-        (le-zero-is v ∙ sym (and-end (eqb v 0)))
-    go false q =
-        let z : mark ≡ 0 → ⊥ = eqb-false mark 0 q in
-        rw (← used mark bound z, ← used mark n z, en, er, one-word w from h, slice-none (from + 1) (from + 1) w (le-refl (from + 1)))
-        (ap (λ (b : Bool). leb mark 1 and b) (sym (and-end (leb v bound and true) ∙ and-end (leb v bound))))
+-- a mark that isn't 0 is lawful just where it is 1
+mark-one : (mark : ℕ) → (mark ≡ 0 → ⊥) → leb mark 1 ≡ eqb mark 1
+mark-one mark h = same-test _ _ (λ e. eq-eqb mark 1 (omega (arith, leb-true mark 1 e))) (λ e. le-leb mark 1 (omega (arith, eqb-true mark 1 e)))
 
 -- the collected bits are within a bound of ones just where every number is
 within-is : (b k : ℕ) (s : List ℕ) → b ≡ 2 ^ k - 1 → leb (allBits s) b ≡ allLe b s
 within-is b k s e = rw e (bits-le k s)
 
-module _ (m : Measure) (l : Line) (w : List ℕ) (sh : Shaped l (length w)) where
-  -- what code finds: of a region with room for a single value
-  pub region-single : l .room ≡ 1 → (most : ℕ) → most ≡ inUse (getD w (l .place) 0) (l .bound)
-      → (leb (getD w (l .place) 0) 1 && leb (getD w (l .place + 1) 0) most) ≡ regionOk m l w
-  unfolding regionOk wanted
-  region-single r most e =
-      rw e
-      (single (getD w (l .place) 0) (l .bound) (wanted (l .want) m) (l .room) (l .place + 1) w (omega (arith, sh .inside)) (sym (want-is One m (sh .single r))) r)
+-- a part is its first word and the others
+word-first : (w : List ℕ) (p q : ℕ) → p < q → q ≤ length w → slice p q w ≡ getD w p 0 ∷ slice (p + 1) q w
+word-first w p q h k = rw add-one (slice-cons p q w 0 h k)
 
-  module _ (n u : ℕ) (en : n ≡ wanted (l .want) m) (eu : u ≡ inUse (getD w (l .place) 0) n) where
+module _ (m : Measure) (l : Line) (w : List ℕ) where
+  -- a region whose field doesn't stand holds zeros
+  region-free : getD w (l .place) 0 ≡ 0 → regionOk m l w ≡ allZero (slice (l .place + 1) (l .place + 1 + l .room) w)
+  unfolding regionOk _and_ allLe
+  region-free z =
+      rw (← unused (getD w (l .place) 0) (wanted (l .want) m) z, add-zero, slice-none (l .place + 1) (l .place + 1) w (le-refl (l .place + 1)), z, le-leb 0 (l .room) zero-le)
+
+  -- so that words not in use go on through it
+  zeros-on : l .place + 1 + l .room ≤ length w → (free : ℕ) → free ≤ l .place → getD w (l .place) 0 ≡ 0
+      → allZero (slice free (l .place + 1 + l .room) w) ≡ (allZero (slice free (l .place) w) and regionOk m l w)
+  unfolding allZero _and_
+  zeros-on e free low z =
+      let first : slice (l .place) (l .place + 1 + l .room) w ≡ getD w (l .place) 0 ∷ slice (l .place + 1) (l .place + 1 + l .room) w =
+      word-first w (l .place) (l .place + 1 + l .room) (omega arith) e in
+      rw (region-free z, slice-join free (l .place) (l .place + 1 + l .room) w low (omega arith) e, first, z)
+      (allZero-append (slice free (l .place) w) (0 ∷ slice (l .place + 1) (l .place + 1 + l .room) w))
+
+  module _ (z : getD w (l .place) 0 ≡ 0 → ⊥) (n : ℕ) (en : n ≡ wanted (l .want) m) where
     -- what code counted is what is in use
-    in-use-is : u ≡ inUse (getD w (l .place) 0) (wanted (l .want) m)
-    in-use-is = rw en at eu
+    in-use-is : n ≡ inUse (getD w (l .place) 0) (wanted (l .want) m)
+    in-use-is = rw en (used (getD w (l .place) 0) (wanted (l .want) m) z)
 
-    -- of one whose field has no room
-    pub region-full : l .room < u → false ≡ regionOk m l w
+    -- a field without room
+    region-full : l .room < n → regionOk m l w ≡ false
     unfolding regionOk _and_
-    region-full h = rw (← in-use-is, lt-leb u (l .room) h)
+    region-full h = rw (← in-use-is, lt-leb n (l .room) h)
 
-    -- and of any other
-    pub region-parts : u ≤ l .room → (a z : ℕ)
-        → a ≡ allBits (slice (l .place + 1) (l .place + 1 + u) w) → z ≡ allBits (slice (l .place + 1 + u) (l .place + 1 + l .room) w)
-        → (leb (getD w (l .place) 0) 1 && (leb a (l .bound) && eqb z 0)) ≡ regionOk m l w
+    -- and one with room for its values
+    region-stands : Shaped l (length w) → n ≤ l .room → (v : ℕ) → v ≡ allBits (slice (l .place + 1) (l .place + 1 + n) w)
+        → regionOk m l w ≡ ((eqb (getD w (l .place) 0) 1 && leb v (l .bound)) and allZero (slice (l .place + 1 + n) (l .place + 1 + l .room) w))
     unfolding regionOk _and_
-    region-parts h a z ea ez =
-        rw (← in-use-is, le-leb u (l .room) h, ea, ez, within-is (l .bound) (sh .bits) (slice (l .place + 1) (l .place + 1 + u) w) (sh .ones), bits-zero (slice (l .place + 1 + u) (l .place + 1 + l .room) w))
+    region-stands sh h v ev =
+        rw (← in-use-is, le-leb n (l .room) h, ev, within-is (l .bound) (sh .bits) (slice (l .place + 1) (l .place + 1 + n) w) (sh .ones), mark-one (getD w (l .place) 0) z)
+        (sym (and-next (eqb (getD w (l .place) 0) 1) _ _))
 
--- regions of two runs of lines
-pub regions-append : (m : Measure) (w : List ℕ) (xs ys : List Line) → regionsOk m (xs ++ ys) w ≡ (regionsOk m xs w and regionsOk m ys w)
-unfolding regionsOk _and_
-regions-append m w [] ys = refl
-regions-append m w (l ∷ xs) ys =
-    ap (λ (b : Bool). regionOk m l w and b) (regions-append m w xs ys) ∙ sym (and-assoc (regionOk m l w) (regionsOk m xs w) (regionsOk m ys w))
-
--- the lines from one number up to the one at i are looked at, with this outcome
-pub record Scanning (m : Measure) (w : List ℕ) (from to : ℕ) (ok : Bool) (i : ℕ) : Type 0 where
+-- the lines before the one at i are looked at, with this outcome; the words not in use from `free` up to its place are not, and those before are
+-- collected
+pub record Scanning (m : Measure) (w : List ℕ) (ok : Bool) (rest free i : ℕ) : Type 0 where
   pub inside : length w ≡ setLen
   pub small : Small m
-  pub high : i ≤ to
-  pub last : to ≤ 14
-  pub rest : (ok and regionsOk m (slice i to lines) w) ≡ regionsOk m (slice from to lines) w
+  pub high : i ≤ 14
+  pub low : free ≤ placeOf i
+  pub left : (ok and (eqb rest 0 and (allZero (slice free (placeOf i) w) and regionsOk m (drop i lines) w))) ≡ regionsOk m lines w
 
-module _ (m : Measure) (w : List ℕ) (from to : ℕ) where
+-- a line that stands: tests as code groups them, and as they are left
+regroup : (o a r z u x : Bool) → ((o && a) and ((r and z) and (u and x))) ≡ (o and (r and (z and ((a and u) and x))))
+unfolding _and_
+regroup false a r z u x = refl
+regroup true true true true u x = refl
+regroup true true true false u x = refl
+regroup true true false z u x = refl
+regroup true false true true u x = refl
+regroup true false true false u x = refl
+regroup true false false z u x = refl
+
+-- a test that fails makes the row fail
+nothing : (o r z x : Bool) → (o and (r and (z and (false and x)))) ≡ false
+unfolding _and_
+nothing false r z x = refl
+nothing true false z x = refl
+nothing true true false x = refl
+nothing true true true x = refl
+
+module _ (m : Measure) (w : List ℕ) where
   -- no line is looked at yet
-  pub scan-start : length w ≡ setLen → Small m → from ≤ to → to ≤ 14 → Scanning m w from to true from
-  unfolding _and_
-  scan-start e s h k = record { inside = e; small = s; high = h; last = k; rest = refl }
+  pub scan-start : length w ≡ setLen → Small m → Scanning m w true 0 2 0
+  unfolding _and_ allZero placeOf lines
+  scan-start e s =
+      record {
+        inside = e;
+        small = s;
+        high = zero-le;
+        low = le-refl 2;
+        left = rw (slice-none 2 2 w (le-refl 2));
+      }
 
-  module _ (ok : Bool) (i : ℕ) (h : Scanning m w from to ok i) where
+  module _ (ok : Bool) (rest free i : ℕ) (h : Scanning m w ok rest free i) where
     -- all are
-    pub scan-end : to ≤ i → ok ≡ regionsOk m (slice from to lines) w
-    unfolding regionsOk
-    scan-end le =
-        let e : i ≡ to = omega (arith, h .high) in
-        sym (rw (e, slice-empty to lines) (and-end ok)) ∙ h .rest
+    pub scan-end : 14 ≤ i → (y : ℕ) → y ≡ allBits (slice free setLen w) → (ok && eqb (bitOr rest y) 0) ≡ regionsOk m lines w
+    unfolding regionsOk _and_ allBits allZero
+    scan-end le y ey =
+        let e : (ok and (eqb rest 0 and (allZero (slice free setLen w) and true))) ≡ regionsOk m lines w =
+        rw (← place-past i le, no-lines i le) at (h .left) in
+        rw (ey, bits-zero (rest ∷ slice free setLen w)) (rw (and-end (allZero (slice free setLen w))) at e)
 
-    module _ (lt : i < to) (l : Line) (el : l ≡ getD lines i spare) where
-      here : i < 14
-      here = omega (arith, h .last)
+    -- the next line's mark lies in the words
+    pub scan-inside : i < 14 → (at : ℕ) → at ≡ placeOf i → at < length w
+    scan-inside lt at ea = omega (arith, h .inside, place-of i lt, shaped i lt .inside)
 
-      -- the next line's region lies in the words
+    module _ (lt : i < 14) (at : ℕ) (ea : at ≡ placeOf i) (l : Line) (el : l ≡ getD lines i spare) where
+      -- and its region does
       pub scan-shape : Shaped l (length w)
-      scan-shape = rw (h .inside, el) (shaped i here)
+      scan-shape = rw (h .inside, el) (shaped i lt)
 
-      -- its mark is among the marks
-      pub scan-mark : (marks : List ℕ) → marks ≡ marksOf w → getD marks i 0 ≡ getD w (l .place) 0
-      unfolding marksOf
-      scan-mark marks e =
-          let k : i < length (map (λ (r : Line). getD w (r .place) 0) lines) = omega (arith, length-map lines (λ (r : Line). getD w (r .place) 0), line-count, here) in
-          rw (e, el)
-          (getD-in (map (λ (r : Line). getD w (r .place) 0) lines) i 0 (getD w (spare .place) 0) k ∙ List·getD-map (λ (r : Line). getD w (r .place) 0) lines i spare)
+      -- its place, and that of the line after it
+      scan-place : at ≡ l .place
+      scan-place = ea ∙ rw el (place-of i lt)
 
-      -- one line more is looked at
-      pub scan-next : (r : Bool) → r ≡ regionOk m l w → Scanning m w from to (ok && r) (i + 1)
+      after : placeOf (i + 1) ≡ l .place + 1 + l .room
+      after = rw el (place-next i lt)
+
+      -- its region, and those after it
+      next : regionsOk m (drop i lines) w ≡ (regionOk m l w and regionsOk m (drop (i + 1) lines) w)
       unfolding regionsOk
-      scan-next r er =
-          let k : to ≤ length lines = omega (arith, line-count, h .last) in
-          let one : regionsOk m (slice i to lines) w ≡ (r and regionsOk m (slice (i + 1) to lines) w) =
-          rw (slice-cons i to lines spare lt k, add-one, ← el, er) in
+      next = rw (line-here i lt, ← el)
+
+      -- what is left, with these names
+      here : (ok and (eqb rest 0 and (allZero (slice free (l .place) w) and (regionOk m l w and regionsOk m (drop (i + 1) lines) w)))) ≡ regionsOk m lines w
+      here = rw (← ea, scan-place, next) at (h .left)
+
+      -- its field doesn't stand: the words not in use go on
+      pub scan-free : getD w at 0 ≡ 0 → Scanning m w ok rest free (i + 1)
+      scan-free z =
+          let low : free ≤ l .place = omega (arith, h .low, ea, scan-place) in
+          let zeros : allZero (slice free (l .place + 1 + l .room) w) ≡ (allZero (slice free (l .place) w) and regionOk m l w) =
+          zeros-on m l w (scan-shape .inside) free low (rw scan-place at z) in
           record {
             inside = h .inside;
             small = h .small;
             high = omega arith;
-            last = h .last;
-            rest = and-next ok r _ ∙ ap (λ (b : Bool). ok and b) (sym one) ∙ h .rest;
+            low = omega (arith, after);
+            left = rw (after, zeros, and-assoc (allZero (slice free (l .place) w)) (regionOk m l w) (regionsOk m (drop (i + 1) lines) w)) here;
           }
+
+      module _ (z : getD w at 0 ≡ 0 → ⊥) (n : ℕ) (en : n ≡ wanted (l .want) m) where
+        stands : getD w (l .place) 0 ≡ 0 → ⊥
+        stands = rw scan-place at z
+
+        -- it stands, and has no room
+        pub scan-full : l .room < n → false ≡ regionsOk m lines w
+        scan-full k = sym (nothing ok (eqb rest 0) (allZero (slice free (l .place) w)) _) ∙ rw (region-full m l w stands n en k) at here
+
+        -- it stands: the words not in use end at its place, and begin again after its values
+        pub scan-stands : n ≤ l .room → (y v : ℕ) → y ≡ allBits (slice free (l .place) w) → v ≡ allBits (slice (l .place + 1) (l .place + 1 + n) w)
+            → Scanning m w (ok && (eqb (getD w at 0) 1 && leb v (l .bound))) (bitOr rest y) (l .place + 1 + n) (i + 1)
+        unfolding allBits allZero
+        scan-stands k y v ey ev =
+            record {
+              inside = h .inside;
+              small = h .small;
+              high = omega arith;
+              low = omega (arith, after);
+              left = rw (scan-place, ey, bits-zero (rest ∷ slice free (l .place) w), after)
+                  (regroup ok _ (eqb rest 0) (allZero (slice free (l .place) w)) _ _ ∙ rw (region-stands m l w stands n en scan-shape k v ev) at here);
+            }

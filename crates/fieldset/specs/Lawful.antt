@@ -1,5 +1,5 @@
 -- When words are those of a lawful set. 01: "A share is lawful if its numbers keep this page's rules and every place not in use is 0."
-use Prim.Native.Nat.{ℕ, suc, _+_, _-_, _*_, _/_, _^_, _≤_}
+use Prim.Native.Nat.{ℕ, _+_, _-_, _*_, _/_, _^_, _≤_}
 use mathlib.Core.Path.{_≡_}
 use mathlib.Core.Bool.{Bool, true, cond, not, _&&_, _||_, Bool·beq}
 use mathlib.Core.List.{List, [], _∷_, map}
@@ -9,7 +9,6 @@ use lib.Seq.{slice}
 use Rattle.laws.specs.Tests.{_and_, allZero, allLe, sum}
 use Rattle.track.specs.declared.Track.{Track}
 use Rattle.track.specs.Track.{none, cenc}
-use Rattle.fieldset.specs.declared.lines.Want.the-variants.{One}
 use Rattle.fieldset.specs.declared.lines.Line.{Line}
 use Rattle.fieldset.specs.declared.lines.Measure.{Measure}
 use Rattle.fieldset.specs.declared.lawful.Tally.{Tally}
@@ -91,21 +90,8 @@ lawful t w =
     and setRules t n (marksOf w)
     and sameIvSize t w
 
--- a line whose region lies in a run of words of that length, whose bound is a row of ones, and which has one value where it has room for one
-pub record Shaped (l : Line) (length : ℕ) : Type 0 where
-  pub inside : l .place + 1 + l .room ≤ length
-  pub bits : ℕ
-  pub ones : l .bound ≡ 2 ^ bits - 1
-  pub single : l .room ≡ 1 → l .want ≡ One
-
 -- what a tally says of a list of words, of which there are at most 64
 pub record TallyOf (r : Tally) (most : ℕ) (s : List ℕ) : Type 0 where
   pub within : r .ok ≡ allLe most s
   pub total : r .ok ≡ true → r .sum ≡ sum s
   pub small : r .sum ≤ 4096
-
--- the subsample counts that a set has, each small
-pub record Counted (m : Measure) (counted : ℕ) (w : List ℕ) : Type 0 where
-  pub used : counted ≤ 64
-  pub many : counted ≡ inUse (getD w 398 0) (m .count)
-  pub small : allLe 63 (slice 399 (399 + counted) w) ≡ true

@@ -1,8 +1,8 @@
 -- The set of moof fields as one run of words: BMDT, the sample count, and a region for each other field. A region is a mark, 1 where the
 -- field stands and else 0, its values, and zeros up to its room. Composition offsets (id 5) are kept with 2^31 added. An IV is kept as
 -- words of eight bytes, the highest byte first.
-use Prim.Native.Nat.{ℕ, suc, _+_, _-_, _*_, _≤_}
-use mathlib.Core.Bool.{Bool, true, cond, not}
+use Prim.Native.Nat.{ℕ, suc, _-_, _*_, _≤_}
+use mathlib.Core.Bool.{Bool, true, cond}
 use mathlib.Core.List.{List, [], _∷_, map}
 use lib.Dec.{eqb}
 use lib.ListN.{getD}

@@ -5,11 +5,9 @@ ghost use mathlib.Core.Bool.{true};
 ghost use Prim.Native.Nat.{_+_, _-_, _/_, _≤_};
 ghost use lib.ListN.{length, getD};
 ghost use lib.Seq.{slice};
-ghost use Rattle.laws.specs.Tests.{_and_};
 ghost use Rattle.fieldset.specs.Lines.{lines, setLen, Small};
-ghost use Rattle.fieldset.specs.Lawful.{Shaped, TallyOf, Counted, marksOf, regionOk, regionsOk, setRules, sameIvSize, valuesOf, measureOf, inUse, lawful};
+ghost use Rattle.fieldset.specs.Lawful.{TallyOf, marksOf, regionsOk, setRules, sameIvSize, valuesOf, measureOf, inUse, lawful};
 use crate::lines;
-use crate::lines::Line;
 use crate::lines::Measure;
 use track::Track;
 
@@ -43,38 +41,6 @@ fn in_use(mark: u64, k: usize) -> usize
     if mark == 0 { 0 } else { k }
 }
 
-// The largest word that the place of a single value may hold, by the field's mark.
-fn value_most(mark: u64, bound: u64) -> u64
-    ensures { λ r. ⌜ r ≡ inUse mark bound ⌝ }
-{
-    if mark == 0 { 0 } else { bound }
-}
-
-// Whether a field's mark, its values and the words that it does not use are lawful.
-fn region_ok(w: &[u64], l: Line, mark: u64, m: Measure) -> bool
-    requires { ⌜ Shaped l (length (now w)) ⌝ }
-    requires { ⌜ Small m ⌝ }
-    requires { ⌜ mark ≡ getD (now w) (l .place) 0 ⌝ }
-    ensures { λ r. ⌜ r ≡ regionOk m l (now (w .entry)) ⌝ }
-{
-    let at = l.place;
-    let room = l.room;
-    let bound = l.bound;
-    let want = l.want;
-    let from = at + 1;
-    if room == 1 {
-        return (mark <= 1) & (w[from] <= value_most(mark, bound));
-    }
-    let used = in_use(mark, lines::length_of(want, m));
-    if room < used {
-        return false;
-    }
-    let mid = from + used;
-    (mark <= 1)
-        & ((crate::scan::bits(w, from, mid) <= bound)
-            & (crate::scan::bits(w, mid, from + room) == 0))
-}
-
 // The marks of the fields, in the order of the lines.
 pub fn marks_of(w: &[u64]) -> [u64; 14]
     requires { ⌜ length (now w) ≡ setLen ⌝ }
@@ -98,21 +64,34 @@ pub fn marks_of(w: &[u64]) -> [u64; 14]
     ]
 }
 
-// Whether the regions of the lines from one number up to another are lawful.
-fn regions_ok(w: &[u64], marks: &[u64], m: Measure, from: usize, to: usize) -> bool
+// Whether the regions of all lines are lawful. A field that doesn't stand has no word in use, so the words between two fields that stand are one
+// run of zeros, which is read at once.
+fn regions_ok(w: &[u64], m: Measure) -> bool
     requires { ⌜ length (now w) ≡ setLen ⌝ }
     requires { ⌜ Small m ⌝ }
-    requires { ⌜ (now marks ≡ marksOf (now w)) × (length (now marks) ≡ 14) ⌝ }
-    requires { ⌜ (from ≤ to) × (to ≤ 14) ⌝ }
-    ensures { λ r. ⌜ r ≡ regionsOk m (slice from to lines) (now (w .entry)) ⌝ }
+    ensures { λ r. ⌜ r ≡ regionsOk m lines (now (w .entry)) ⌝ }
 {
     let mut ok = true;
-    let mut i = from;
-    while i < to {
-        ok = ok & region_ok(w, lines::line_at(i), marks[i], m);
+    let mut rest = 0;
+    let mut free = lines::SIZES;
+    let mut i = 0;
+    while i < lines::LINES {
+        let mark = w[lines::place_at(i)];
+        if mark != 0 {
+            let l = lines::line_at(i);
+            let place = l.place;
+            let want = l.want;
+            let used = lines::length_of(want, m);
+            if l.room < used {
+                return false;
+            }
+            rest = rest | crate::scan::bits(w, free, place);
+            free = place + 1 + used;
+            ok = ok & ((mark == 1) & (crate::scan::bits(w, place + 1, free) <= l.bound));
+        }
         i += 1;
     }
-    ok
+    ok & ((rest | crate::scan::bits(w, free, lines::SET)) == 0)
 }
 
 // Whether the fields that stand, by their marks, may stand together.
@@ -140,23 +119,6 @@ pub fn rules_ok(t: Track, n: u64, marks: &[u64]) -> bool
                             & ((!subsamples | (t.protection as u64 != track::NONE))
                                 & ((ivs == (cenc & (n != 0)))
                                     & ((n <= 1) | ((sizes | size) | (t.size != 0))))))))))
-}
-
-// Whether all regions are lawful, and the IV size (id 16) is the parameter, once the first `counted` subsample counts (id 11) are known to be
-// small.
-fn fields_ok(t: Track, w: &[u64], marks: &[u64], m: Measure, counted: usize) -> bool
-    requires { ⌜ length (now w) ≡ setLen ⌝ }
-    requires { ⌜ Small m ⌝ }
-    requires { ⌜ (now marks ≡ marksOf (now w)) × (length (now marks) ≡ 14) ⌝ }
-    requires { ⌜ Counted m counted (now w) ⌝ }
-    requires { ⌜ t .«iv_size» ≤ 16 ⌝ }
-    ensures { λ r. ⌜ r ≡ (regionsOk m lines (now (w .entry)) and sameIvSize t (now (w .entry))) ⌝ }
-{
-    let iv = t.iv_size as u64;
-    let from = lines::SUBSAMPLES + 1;
-    let counts = (marks[9] <= 1) & (crate::scan::bits(w, from + counted, from + 64) == 0);
-    let size = (marks[13] <= 1) & (w[lines::IV_SIZE + 1] == value_most(marks[13], iv));
-    regions_ok(w, marks, m, 0, 9) & (counts & (regions_ok(w, marks, m, 10, 13) & size))
 }
 
 // The subsample counts of a set of n samples, by the mark of id 11.
@@ -211,8 +173,7 @@ pub fn is_lawful(t: Track, w: &[u64]) -> bool
     }
     let iv = t.iv_size as u64;
     let count = n as usize;
-    let marks = marks_of(w);
-    let counted = in_use(marks[9], count);
+    let counted = in_use(w[lines::SUBSAMPLES], count);
     let from = lines::SUBSAMPLES + 1;
     let c = tallied(w, from, from + counted, (253 - iv) / 6);
     if !c.ok {
@@ -224,5 +185,6 @@ pub fn is_lawful(t: Track, w: &[u64]) -> bool
         sum: c.sum,
     };
     (w[lines::BMDT] <= 0x3fff_ffff_ffff_ffff)
-        & ((c.sum <= 256) & (fields_ok(t, w, &marks, m, counted) & rules_ok(t, n, &marks)))
+        & ((c.sum <= 256)
+            & ((regions_ok(w, m) & same_iv_size(t, w)) & rules_ok(t, n, &marks_of(w))))
 }

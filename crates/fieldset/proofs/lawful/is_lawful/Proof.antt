@@ -1,6 +1,6 @@
 -- `fieldset::lawful::is_lawful` meets its contract: each return by the tests that led to it. Assumes nothing.
 use denote.Ref.{now}
-use Rattle.fieldset.proofs.LawfulLaws.{many-samples, many-subsamples, small-counts, lawful-rest, mark-11}
+use Rattle.fieldset.proofs.LawfulLaws.{many-samples, many-subsamples, lawful-rest}
 use borrow.Author.Needs.{needs}
 use Rattle.fieldset.proofs.lawful.is_lawful.Statement.{statement}
 use Rattle.fieldset.proofs.lawful.is_lawful.Tie as tie
@@ -14,11 +14,8 @@ returns c = let s = c .before .before .before in many-samples (s .args .t) (now 
 cast-iv : tie.Need-cast-iv
 cast-iv c = search needs
 
-marks-of-requires : tie.Need-marks-of-requires
-marks-of-requires c κs = search needs
-
-array-read-in-use : tie.Need-array-read-in-use
-array-read-in-use c = search needs
+shared-slice-read-in-use : tie.Need-shared-slice-read-in-use
+shared-slice-read-in-use c = search needs
 
 in-use-requires : tie.Need-in-use-requires
 in-use-requires c κs = search needs
@@ -38,19 +35,20 @@ tallied-requires c κs = search needs
 returns-2 : tie.Need-returns-2
 returns-2 c =
     let s = c .before .before .before .before .before .before .before .before .before in
-    many-subsamples (s .args .t) (now (s .args .w)) (c .before .before .before .before .before .before .if1 .left) (s .pre .1) _ (rw (mark-11 _ _ (c .before .before .before .before .marks-of .ensures)) at (c .before .before .before .in-use .ensures .0)) (c .before .before .tallied .result) (c .before .before .tallied .ensures) (c .if2 .taken)
+    many-subsamples (s .args .t) (now (s .args .w)) (c .before .before .before .before .before .before .if1 .left) (s .pre .1) _ (c .before .before .before .in-use .ensures .0)
+    (c .before .before .tallied .result) (c .before .before .tallied .ensures) (c .if2 .taken)
 
 shared-slice-read-result : tie.Need-shared-slice-read-result
 shared-slice-read-result c = search needs
 
-slice-aggregate-fields-ok : tie.Need-slice-aggregate-fields-ok
-slice-aggregate-fields-ok c = search needs
+regions-ok-requires : tie.Need-regions-ok-requires
+regions-ok-requires c κs = search needs
 
-fields-ok-requires : tie.Need-fields-ok-requires
-fields-ok-requires c κs =
-    let s = c .before .before .before .before .before .before .before .before .before .before .before .before in
-    let few = small-counts (s .args .t) (now (s .args .w)) (c .before .before .before .before .before .before .before .before .before .if1 .left) (s .pre .1) _ (rw (mark-11 _ _ (c .before .before .before .before .before .before .before .marks-of .ensures)) at (c .before .before .before .before .before .before .in-use .ensures .0)) (c .before .before .before .before .before .tallied .result) (c .before .before .before .before .before .tallied .ensures) (c .before .before .before .if2 .left) in
-    (s .pre .0, (search needs, ((c .before .before .before .before .before .before .before .marks-of .ensures, search needs), (few, s .pre .1))))
+same-iv-size-requires : tie.Need-same-iv-size-requires
+same-iv-size-requires c κs = search needs
+
+marks-of-requires : tie.Need-marks-of-requires
+marks-of-requires c κs = search needs
 
 slice-aggregate-rules-ok : tie.Need-slice-aggregate-rules-ok
 slice-aggregate-rules-ok c = search needs
@@ -60,9 +58,10 @@ rules-ok-requires c κs = search needs
 
 returns-3 : tie.Need-returns-3
 returns-3 c =
-    let s = c .before .before .before .before .before .before .before .before .before .before .before .before .before .before .before in
-    lawful-rest (s .args .t) (now (s .args .w)) (c .before .before .before .before .before .before .before .before .before .before .before .before .if1 .left) (s .pre .1) _ (rw (mark-11 _ _ (c .before .before .before .before .before .before .before .before .before .before .marks-of .ensures)) at (c .before .before .before .before .before .before .before .before .before .in-use .ensures .0)) (c .before .before .before .before .before .before .before .before .tallied .result) (c .before .before .before .before .before .before .before .before .tallied .ensures)
-    (c .before .before .before .before .before .before .if2 .left) _ _ (c .before .before .fields-ok .ensures) (rw (c .before .before .before .before .before .before .before .before .before .before .marks-of .ensures) at (c .rules-ok .ensures))
+    let s = c .before .before .before .before .before .before .before .before .before .before .before .before .before .before .before .before in
+    lawful-rest (s .args .t) (now (s .args .w)) (c .before .before .before .before .before .before .before .before .before .before .before .before .before .if1 .left) (s .pre .1) _ (c .before .before .before .before .before .before .before .before .before .before .in-use .ensures .0)
+    (c .before .before .before .before .before .before .before .before .before .tallied .result) (c .before .before .before .before .before .before .before .before .before .tallied .ensures) (c .before .before .before .before .before .before .before .if2 .left)
+    _ _ _ (c .before .before .before .before .regions-ok .ensures) (c .before .before .before .same-iv-size .ensures) (rw (c .before .before .marks-of .ensures) at (c .rules-ok .ensures))
 
 pub is-lawful-spec : {M : Type 1} → statement M
 is-lawful-spec =
@@ -71,8 +70,7 @@ is-lawful-spec =
     shared-slice-read-n
     returns
     cast-iv
-    marks-of-requires
-    array-read-in-use
+    shared-slice-read-in-use
     in-use-requires
     add-from
     add-tallied
@@ -80,8 +78,9 @@ is-lawful-spec =
     tallied-requires
     returns-2
     shared-slice-read-result
-    slice-aggregate-fields-ok
-    fields-ok-requires
+    regions-ok-requires
+    same-iv-size-requires
+    marks-of-requires
     slice-aggregate-rules-ok
     rules-ok-requires
     returns-3)
