@@ -1,5 +1,5 @@
 -- When words are those of a lawful set. 01: "A share is lawful if its numbers keep this page's rules and every place not in use is 0."
-use Prim.Native.Nat.{ℕ, _+_, _-_, _*_, _/_, _^_, _≤_}
+use Prim.Native.Nat.{ℕ, _+_, _-_, _*_, _/_, _^_, _≤_, _<_}
 use mathlib.Core.Path.{_≡_}
 use mathlib.Core.Bool.{Bool, true, cond, not, _&&_, _||_, Bool·beq}
 use mathlib.Core.List.{List, [], _∷_, map}
@@ -12,7 +12,7 @@ use Rattle.track.specs.Track.{none, cenc}
 use Rattle.fieldset.specs.declared.lines.Line.{Line}
 use Rattle.fieldset.specs.declared.lines.Measure.{Measure}
 use Rattle.fieldset.specs.declared.lawful.Tally.{Tally}
-use Rattle.fieldset.specs.Lines.{lines, lineFor, lineNumber, wanted, bmdtAt, countAt}
+use Rattle.fieldset.specs.Lines.{lines, placeOf, lineFor, lineNumber, wanted, bmdtAt, countAt}
 
 -- the field of an id stands
 unfoldable pub has : ℕ → List ℕ → Bool
@@ -95,3 +95,7 @@ pub record TallyOf (r : Tally) (most : ℕ) (s : List ℕ) : Type 0 where
   pub within : r .ok ≡ allLe most s
   pub total : r .ok ≡ true → r .sum ≡ sum s
   pub small : r .sum ≤ 4096
+
+-- words in which a field that doesn't stand has nothing stored
+pub record Tidy (w : List ℕ) : Type 0 where
+  pub nothing : (i : ℕ) → i < 14 → getD w (placeOf i) 0 ≡ 0 → allZero (slice (placeOf i) (placeOf (i + 1)) w) ≡ true
