@@ -1,18 +1,23 @@
 -- An open share that is lawful. Assumes nothing.
 use Prim.Native.Nat.{ℕ}
-use mathlib.Core.Path.{_≡_}
-use mathlib.Core.Bool.{true, false}
+use native.Mathlib.Omega.{arith}
+use mathlib.Core.Path.{_≡_, refl, sym, _∙_, ap}
+use mathlib.Core.Bool.{Bool, true, false}
 use mathlib.Core.List.{List}
 use borrow.Author.Tests.{not-true}
 use lib.Dec.{eqb}
-use lib.ListN.{getD, drop}
-use Rattle.laws.specs.Tests.{_and_}
-use Rattle.laws.proofs.TestLaws.{left, right}
+use lib.ListN.{length, getD, take, drop, length-drop, take-append-drop}
+use lib.Seq.{drop-drop}
+use Rattle.laws.specs.Tests.{_and_, allZero}
+use Rattle.laws.proofs.TestLaws.{left, right, allZero-append}
 use Rattle.track.specs.declared.Track.{Track}
 use Rattle.track.specs.Track.{lawful as lawfulTrack}
+use Rattle.fieldset.specs.Lines.{setLen}
+use Rattle.fieldset.specs.Lawful.{Tidy}
 use Rattle.fieldset.specs.Lawful.{lawful as lawfulSet}
+use Rattle.fieldset.proofs.TidyLaws.{lawful-tidy, zeros-tidy}
 use Rattle.slots.specs.declared.share.Side.{Side}
-use Rattle.slots.specs.Share.{trackAt, acceptedAt, heldAt, setAt, askedOf, trackOf, isOpen, acceptedOk, prftOk, referenceOk, openOk, lawful}
+use Rattle.slots.specs.Share.{trackAt, acceptedAt, heldAt, prftAt, setAt, shareLen, askedOf, trackOf, isOpen, acceptedOk, prftOk, referenceOk, openOk, lawful}
 
 -- an open share, taken apart
 pub record Opened (side : Side) (s : List ℕ) : Type 0 where
@@ -34,3 +39,24 @@ unfolding referenceOk
 held-facts t s h z =
     let ok : (eqb (getD s heldAt 0) 1 and prftOk s and lawfulSet t (drop setAt s)) ≡ true = rw z at h in
     (left _ _ (right _ _ ok), right _ _ (right _ _ ok))
+
+-- what is left of zeros
+rest-zero : (n : ℕ) (l : List ℕ) → allZero l ≡ true → allZero (drop n l) ≡ true
+rest-zero n l e = right _ _ (sym (allZero-append (take n l) (drop n l)) ∙ ap allZero (take-append-drop n l) ∙ e)
+
+-- a field that doesn't stand in the reference, if there is one, has nothing stored
+pub share-tidy : (side : Side) (s : List ℕ) → length s ≡ shareLen → lawful side s ≡ true → isOpen s ≡ true → Tidy (drop setAt s)
+unfolding referenceOk
+share-tidy side s l h o = go (eqb (getD s heldAt 0) 0) refl
+  where
+    r : referenceOk (trackOf s) s ≡ true
+    r = opened-facts side s h o .reference
+
+    long : length (drop setAt s) ≡ setLen
+    long = omega (arith, length-drop setAt s)
+
+    go : (b : Bool) → eqb (getD s heldAt 0) 0 ≡ b → Tidy (drop setAt s)
+    go true q =
+        let z : allZero (drop prftAt s) ≡ true = rw q at r in
+        zeros-tidy (drop setAt s) long (ap allZero (sym (drop-drop 5 prftAt s)) ∙ rest-zero 5 (drop prftAt s) z)
+    go false q = lawful-tidy (trackOf s) (drop setAt s) long (held-facts (trackOf s) s r q .1)

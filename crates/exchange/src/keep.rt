@@ -1,22 +1,32 @@
 // The reference into the share.
 ghost use mathlib.Core.Path.{_≡_};
 ghost use mathlib.Core.List.{_++_};
-ghost use lib.ListN.{length, take};
+ghost use lib.ListN.{length, take, drop};
 ghost use Rattle.fieldset.specs.Lines.{setLen};
+ghost use Rattle.fieldset.specs.Lawful.{Tidy};
 ghost use Rattle.slots.specs.Share.{setAt, shareLen};
 ghost use Rattle.exchange.specs.Kept.{keptWords};
 use chunk::outer::Prft;
 use fieldset::lines;
+use fieldset::words;
 use slots::share;
 
-// The words of a set into the share.
+// The words of a set into the share. A field that stands neither in the old set nor in the new one has nothing stored in either: its words stay.
 fn copy_set(s: &mut [u64], x: &[u64])
     requires { ⌜ (length (now s) ≡ shareLen) × (length (now x) ≡ setLen) ⌝ }
+    requires { ⌜ Tidy (drop setAt (now s)) × Tidy (now x) ⌝ }
     ensures { λ r. ⌜ now (s .exit) ≡ take setAt (now (s .entry)) ++ now (x .entry) ⌝ }
 {
+    words::copy(x, lines::BMDT, lines::SIZES, &mut *s, share::SET);
+    let mut from = lines::SIZES;
     let mut i = 0;
-    while i < lines::SET {
-        s[share::SET + i] = x[i];
+    while i < lines::LINES {
+        let to = lines::place_at(i + 1);
+        let at = share::SET + from;
+        if (s[at] != 0) | (x[from] != 0) {
+            words::copy(x, from, to - from, &mut *s, at);
+        }
+        from = to;
         i += 1;
     }
 }
@@ -24,6 +34,7 @@ fn copy_set(s: &mut [u64], x: &[u64])
 // The reference after an accepted object. A full object replaces all of it, its prft included.
 pub fn keep(s: &mut [u64], delta: bool, prft: Prft, sequence: u64, x: &[u64])
     requires { ⌜ (length (now s) ≡ shareLen) × (length (now x) ≡ setLen) ⌝ }
+    requires { ⌜ Tidy (drop setAt (now s)) × Tidy (now x) ⌝ }
     ensures { λ r. ⌜ now (s .exit) ≡ keptWords delta sequence prft (now (x .entry)) (now (s .entry)) ⌝ }
 {
     s[share::ACCEPTED] = sequence;

@@ -344,6 +344,7 @@ module _ {F : List Row} {o s : List ℕ} {t : Track} {p : Place} {index ev : Lis
                     list = boxes-are ok read;
                     inside = brands-are .inside;
                     named = brands-are .named;
+                    good = rw (← w .head .track) stored-lawful;
                     writable = writable h;
                   };
             }

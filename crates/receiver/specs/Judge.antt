@@ -9,6 +9,7 @@ use lib.Seq.{slice}
 use Rattle.laws.specs.Ladder.{Rung, ladder}
 use Rattle.wire.specs.declared.form.Row.{Row}
 use Rattle.track.specs.declared.Track.{Track}
+use Rattle.fieldset.specs.Lawful.{lawful as lawfulSet}
 use Rattle.slots.specs.declared.share.Side.the-variants.{Receiver}
 use Rattle.slots.specs.Share.{shareLen, isOpen, lawful}
 use Rattle.block.specs.Entries.{Tells}
@@ -63,6 +64,7 @@ pub record Ready (F : List Row) (o s : List ℕ) (j : Judged) (ws x : List ℕ) 
   pub list : eventsOf o ws (j .events) ≡ boxes (track F o s) (bmdt F o s) (events F o s)
   pub inside : j .brands .at + j .brands .len ≤ length o
   pub named : slice (j .brands .at) (j .brands .at + j .brands .len) o ≡ brands F o s
+  pub good : lawfulSet (track F o s) x ≡ true
   pub writable : Writable (track F o s) x (length (payload F o)) (j .prft) o ws (j .events) (brands F o s)
 
 pub record JudgedAs (rungs : List Rung) (F : List Row) (o s : List ℕ) (j : Judged) (ws x : List ℕ) : Type 0 where

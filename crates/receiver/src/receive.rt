@@ -12,6 +12,8 @@ ghost use Rattle.receiver.specs.Receive.{afterRefusal, judgeRungs, roomR
 ghost use Rattle.receiver.specs.Judge.{Judgeable, Ready};
 use crate::judge;
 use crate::judge::Judged;
+use chunk::front::front_length;
+use chunk::front::put_front;
 use object::head::Head;
 use object::head::Place;
 use slots::calls::TABLE;
@@ -49,40 +51,30 @@ fn accept<'a>(
     o: &'a [u8],
     s: &mut [u64],
     j: Judged,
-    events: &[u64],
+    list: &[u64],
     x: &[u64],
     output: &mut [u8],
     number: &mut u64,
     front: &mut u64,
 ) -> &'a [u8]
     requires { ⌜ Judgeable (rows form) (now o) (now s) t p ⌝ }
-    requires { ⌜ Ready (rows form) (now o) (now s) j (now events) (now x) ⌝ }
+    requires { ⌜ Ready (rows form) (now o) (now s) j (now list) (now x) ⌝ }
     ensures { λ r. ⌜ out (took (now (number .exit)) (now (front .exit)) (now r) (now (output .exit))) (now (s .exit)) ≡ ladder (roomRungs (rows form) (now (o .entry)) (now (output .entry)) (now (s .entry))) (refusing (now (output .entry)) (now (s .entry))) (done (rows form) (now (o .entry)) (now (output .entry)) (now (s .entry))) ⌝ }
 {
     let from = j.brands.at;
     let to = from + j.brands.len;
     let end = p.end;
     let prft = j.prft;
+    let k = j.events;
     let payload = (o.len() - end) as u64;
-    let brands = &o[from..to];
-    let need = chunk::front::front_length(t, x, payload, prft, o, events, j.events, brands);
+    let names = &o[from..to];
+    let need = front_length(t, x, payload, prft, o, list, k, names);
     if output.len() < need {
         return refuse(o, s, 17, output, number, front);
     }
-    let sequence = (s[share::ACCEPTED] + 1) % 4294967296;
-    let n = chunk::front::put_front(
-        t,
-        sequence,
-        x,
-        payload,
-        prft,
-        o,
-        events,
-        j.events,
-        brands,
-        &mut *output,
-    );
-    exchange::keep::keep(s, p.delta, prft, sequence, x);
+    let count = (s[share::ACCEPTED] + 1) % 4294967296;
+    let n = put_front(t, count, x, payload, prft, o, list, k, names, &mut *output);
+    exchange::keep::keep(s, p.delta, prft, count, x);
     *number = 0;
     *front = n as u64;
     &o[end..]

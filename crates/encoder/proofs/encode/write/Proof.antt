@@ -2,6 +2,9 @@
 use mathlib.Core.Path.{_∙_}
 use borrow.Author.Tests.{not-false}
 use denote.Ref.{now}
+use Rattle.fieldset.proofs.TidyLaws.{lawful-tidy}
+use Rattle.slots.specs.declared.share.Side.the-variants.{Encoder}
+use Rattle.exchange.proofs.OpenLaws.{share-tidy}
 use Rattle.encoder.proofs.WriteLaws.{refused-is, part-in, unfit, room, short, done-is}
 use borrow.Author.Needs.{needs}
 use Rattle.encoder.proofs.encode.write.Statement.{statement}
@@ -69,7 +72,9 @@ keep-requires c κs =
     let w = c .before .before .before .before .before in
     let p = w .before .before .before .before .before .before .before .before in
     let b = p .before .before .before .before .before .before .before in
-    (b .pre .on-share .share, b .pre .set-long)
+    let e = b .pre in
+    let a = e .on-share in
+    ((a .share, e .set-long), (share-tidy Encoder _ (a .share) (a .lawful-share) (a .opened), lawful-tidy _ _ (e .set-long) (e .lawful-set)))
 
 add-end : tie.Need-add-end
 add-end c =

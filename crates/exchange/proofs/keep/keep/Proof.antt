@@ -15,9 +15,9 @@ after c =
     let b = c .before .before .before in
     ⊎-elim
     (λ w.
-    kept-full _ _ _ _ _ (b .pre .0) (w .0 .taken) (w .1 .s)
+    kept-full _ _ _ _ _ (b .pre .0 .0) (w .0 .taken) (w .1 .s)
     (⊎-elim (λ m. marked (b .args .prft) _ (m .0 .taken) (m .1)) (λ m. unmarked (b .args .prft) _ (m .0 .left) (m .1)) (w .1 .came)) _ (w .2))
-    (λ w. kept-delta _ _ _ _ _ (b .pre .0) (w .0 .left) _ (w .1))
+    (λ w. kept-delta _ _ _ _ _ (b .pre .0 .0) (w .0 .left) _ (w .1))
     (c .if1 .came)
 
 slice-write-s : tie.Need-slice-write-s
@@ -33,22 +33,25 @@ slice-write-s-4 : tie.Need-slice-write-s-4
 slice-write-s-4 c = search needs
 
 slice-write-s-5 : tie.Need-slice-write-s-5
-slice-write-s-5 c = simp length-set (omega (arith, c .before .before .before .before .pre .0))
+slice-write-s-5 c = simp length-set (omega (arith, c .before .before .before .before .pre .0 .0))
 
 slice-write-s-6 : tie.Need-slice-write-s-6
-slice-write-s-6 c = simp length-set (omega (arith, c .before .before .before .before .pre .0))
+slice-write-s-6 c = simp length-set (omega (arith, c .before .before .before .before .pre .0 .0))
 
 slice-write-s-7 : tie.Need-slice-write-s-7
-slice-write-s-7 c = simp length-set (omega (arith, c .before .before .before .before .pre .0))
+slice-write-s-7 c = simp length-set (omega (arith, c .before .before .before .before .pre .0 .0))
 
 copy-set-requires : tie.Need-copy-set-requires
-copy-set-requires c κs = (after (c .before) .long ∙ c .before .before .before .before .pre .0, c .before .before .before .before .pre .1)
+copy-set-requires c κs =
+    let k = after (c .before) in
+    let p = c .before .before .before .before .pre in
+    ((k .long ∙ p .0 .0, p .0 .1), (rw (k .rest) (p .1 .0), p .1 .1))
 
 same-length : tie.Need-same-length
 same-length c =
     let m = c .before .before .before .before in
     let b = m .before .before .before in
-    ap length (c .before .before .copy-set .ensures) ∙ copied-long (now (b .args .x)) (now (b .args .s)) (m .if1 .s) (b .pre .0) (b .pre .1) (after m .long)
+    ap length (c .before .before .copy-set .ensures) ∙ copied-long (now (b .args .x)) (now (b .args .s)) (m .if1 .s) (b .pre .0 .0) (b .pre .0 .1) (after m .long)
 
 returns : tie.Need-returns
 returns c = c .before .before .copy-set .ensures ∙ after (c .before .before .before .before) .words

@@ -1,6 +1,9 @@
 -- `receiver::receive::accept` meets its contract, by the laws of `proofs/AcceptLaws.antt`. Assumes nothing.
 use mathlib.Core.Path.{_∙_}
 use denote.Ref.{now}
+use Rattle.fieldset.proofs.TidyLaws.{lawful-tidy}
+use Rattle.slots.specs.declared.share.Side.the-variants.{Receiver}
+use Rattle.exchange.proofs.OpenLaws.{share-tidy}
 use Rattle.receiver.proofs.JudgeLaws.{end-inside}
 use Rattle.receiver.proofs.AcceptLaws.{count-small, sequence-is, writable, room, short, done-is}
 use borrow.Author.Needs.{needs}
@@ -13,14 +16,14 @@ add-to c = search needs
 sub-payload : tie.Need-sub-payload
 sub-payload c = end-inside (c .before .before .before .before .before .before .before .pre .0)
 
-sub-brands : tie.Need-sub-brands
-sub-brands c = search needs
+sub-names : tie.Need-sub-names
+sub-names c = search needs
 
-part-brands-start : tie.Need-part-brands-start
-part-brands-start c = search needs
+part-names-start : tie.Need-part-names-start
+part-names-start c = search needs
 
-part-brands-end : tie.Need-part-brands-end
-part-brands-end c = search needs
+part-names-end : tie.Need-part-names-end
+part-names-end c = search needs
 
 front-length-requires : tie.Need-front-length-requires
 front-length-requires c κs =
@@ -44,11 +47,11 @@ returns c =
     ∙ short _ _ _ _ _ (b .pre .0) _ _ _ (b .pre .1) (now (b .args .output)) _ (f .front-length .ensures)
     (c .before .before .before .before .before .before .before .before .before .if1 .taken)
 
-slice-read-sequence : tie.Need-slice-read-sequence
-slice-read-sequence c = search needs
+slice-read-count : tie.Need-slice-read-count
+slice-read-count c = search needs
 
-add-sequence : tie.Need-add-sequence
-add-sequence c =
+add-count : tie.Need-add-count
+add-count c =
     let b = c .before .before .before .before .before .before .before .before .before .before .before in
     let z = count-small _ _ _ _ _ (b .pre .0) in
     search needs
@@ -64,7 +67,9 @@ put-front-requires c κs =
 keep-requires : tie.Need-keep-requires
 keep-requires c κs =
     let b = c .before .before .before .before .before .before .before .before .before .before .before .before .before .before .before .before in
-    (b .pre .0 .share, b .pre .1 .writable .set .long)
+    let a = b .pre .0 in
+    let r = b .pre .1 in
+    ((a .share, r .writable .set .long), (share-tidy Receiver _ (a .share) (a .lawful) (a .opened), lawful-tidy _ _ (r .writable .set .long) (r .good)))
 
 sub-result : tie.Need-sub-result
 sub-result c =
@@ -100,16 +105,16 @@ accept-spec =
     (tie.spec
     add-to
     sub-payload
-    sub-brands
-    part-brands-start
-    part-brands-end
+    sub-names
+    part-names-start
+    part-names-end
     front-length-requires
     refuse-requires
     same-length
     same-length-2
     returns
-    slice-read-sequence
-    add-sequence
+    slice-read-count
+    add-count
     put-front-requires
     keep-requires
     sub-result
