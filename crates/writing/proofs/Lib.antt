@@ -1,4 +1,5 @@
 pub mod ItemLaws
+pub mod AlikeLaws
 pub mod TupleLaws
 pub mod SameLoop
 pub mod WideLaws
@@ -7,6 +8,7 @@ pub mod ChangeLaws
 pub mod SentLaws
 pub mod PutLaws
 pub mod LinesLaws
+pub mod AbsentLaws
 pub mod StandLaws
 pub mod TimeLaws
 pub mod GoneLaws

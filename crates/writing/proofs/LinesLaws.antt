@@ -45,7 +45,7 @@ module _ (F : List Row) (t : Track) (delta : Bool) (r x : List ℕ) where
       ∙ sym (before-assoc (lineItems t delta r x l F) (linesItems F t delta r x xs) (linesItems F t delta r x ys))
 
   -- no line
-  lines-none : (i : ℕ) → between i i ≡ nothing
+  pub lines-none : (i : ℕ) → between i i ≡ nothing
   unfolding linesItems
   lines-none i = rw (slice-empty i lines)
 
@@ -61,11 +61,18 @@ module _ (F : List Row) (t : Track) (delta : Bool) (r x : List ℕ) where
       ∙ lines-append (slice from i lines) (getD lines i spare ∷ [])
       ∙ ap (λ (is : Items). between from i before is) (line-alone (getD lines i spare))
 
-  lines-cons : (i to : ℕ) → i < to → to ≤ 14 → between i to ≡ fieldAt i before between (i + 1) to
+  pub lines-cons : (i to : ℕ) → i < to → to ≤ 14 → between i to ≡ fieldAt i before between (i + 1) to
   unfolding linesItems
   lines-cons i to h k =
       let n : to ≤ length lines = omega (arith, line-count) in
       rw (slice-cons i to lines spare h n, add-one)
+
+  -- the table in three parts, between which BMDT and the sample count stand
+  pub three-parts : between 0 14 ≡ between 0 9 before between 9 12 before between 12 14
+  unfolding lines
+  three-parts =
+      lines-append (slice 0 9 lines) (slice 9 12 lines ++ slice 12 14 lines)
+      ∙ ap (λ (is : Items). between 0 9 before is) (lines-append (slice 9 12 lines) (slice 12 14 lines))
 
   -- the fields of the lines from one number up to the one at i were weighed
   pub record Weighing (from to : ℕ) (sum : Weight) (i : ℕ) : Type 0 where

@@ -11,9 +11,10 @@ use Rattle.track.specs.declared.Track.{Track}
 use Rattle.writing.specs.declared.tuples.Weight.{Weight}
 use Rattle.writing.specs.Items.{Items, _before_, bytesOf, WeighedAs}
 use Rattle.writing.specs.Fields.{bmdtItems, countItems, fieldItems}
-use Rattle.writing.proofs.ItemLaws.{weighed-both}
+use Rattle.writing.proofs.ItemLaws.{weighed-both, weighed-as}
+use Rattle.writing.proofs.AlikeLaws.{weighed-alike, interleaved}
 use Rattle.writing.proofs.PutLaws.{Left, left-start, left-next}
-use Rattle.writing.proofs.LinesLaws.{between}
+use Rattle.writing.proofs.LinesLaws.{between, three-parts}
 
 -- two weights as one
 abbrev pub Sum : Weight → Weight → Weight → Type 0
@@ -31,13 +32,14 @@ module _ (F : List Row) (t : Track) (delta : Bool) (r x : List ℕ) where
   abbrev later : Items
   later = bmdtItems F t delta r x before rest
 
-  -- all were weighed
-  pub set-weighed : {a b c d e : Weight} → WeighedAs F (between F t delta r x 0 9) 18576 a → WeighedAs F (bmdtItems F t delta r x) 16 b
-      → WeighedAs F (between F t delta r x 9 12) 6192 c → WeighedAs F (countItems F t delta r x) 16 d
-      → WeighedAs F (between F t delta r x 12 14) 4128 e
-      → (u v w z : Weight) → Sum d e u → Sum c u v → Sum b v w → Sum a w z → WeighedAs F (fieldItems F t delta r x) 28928 z
+  -- all were weighed: the lines in one walk, and then the two numbers that stand between them
+  pub set-weighed : {a b c : Weight} → WeighedAs F (between F t delta r x 0 14) 28896 a → WeighedAs F (bmdtItems F t delta r x) 16 b
+      → WeighedAs F (countItems F t delta r x) 16 c → (u z : Weight) → Sum b c u → Sum a u z → WeighedAs F (fieldItems F t delta r x) 28928 z
   unfolding fieldItems
-  set-weighed p q s i j u v w z f g h k = weighed-both p (weighed-both q (weighed-both s (weighed-both i j f) g) h) k
+  set-weighed p q s u z g h =
+      weighed-alike F
+      (interleaved F (between F t delta r x 0 9) (between F t delta r x 9 12) (between F t delta r x 12 14) (bmdtItems F t delta r x) (countItems F t delta r x))
+      (weighed-both (weighed-as (three-parts F t delta r x) p) (weighed-both q s g) h)
 
   -- all are left to be written; then all but the low lines, and so on
   module _ (l : List ℕ) (at : ℕ) (fits : isSome (fieldItems F t delta r x) ≡ true)

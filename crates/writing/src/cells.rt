@@ -113,7 +113,7 @@ fn old_length(t: Track, b: Basis, r: &[u64], x: &[u64], i: usize, l: Line) -> us
 }
 
 // What the object says of a field. Two lists are equal only if their lengths are too: words that aren't in use are 0, as a value can be.
-pub fn change_of(t: Track, b: Basis, r: &[u64], x: &[u64], i: usize, l: Line) -> Change
+fn change_of(t: Track, b: Basis, r: &[u64], x: &[u64], i: usize, l: Line) -> Change
     requires { ⌜ Writable t (b .delta) (now r) (now x) × (b ≡ basisOf t (b .delta) (now r) (now x)) ⌝ }
     requires { ⌜ (i < 14) × (l ≡ getD lines i spare) ⌝ }
     ensures { λ c. ⌜ c ≡ changeOf t (b .delta) (now (r .entry)) (now (x .entry)) l ⌝ }
@@ -238,12 +238,17 @@ fn put_sent(
     )
 }
 
-// The bytes of one field's tuple; none of one that is omitted or deleted.
+// The bytes of one field's tuple; none of one that is omitted or deleted. Most fields don't stand in a chunk, and for those the place of their
+// mark is enough: deleted or not, they have no tuple.
 pub fn line_size(form: Form, t: Track, b: Basis, r: &[u64], x: &[u64], i: usize) -> Weight
     requires { ⌜ Writable t (b .delta) (now r) (now x) × (b ≡ basisOf t (b .delta) (now r) (now x)) ⌝ }
     requires { ⌜ i < 14 ⌝ }
     ensures { λ w. ⌜ WeighedAs (rows form) (lineItems t (b .delta) (now (r .entry)) (now (x .entry)) (getD lines i spare) (rows form)) 2064 w ⌝ }
 {
+    let place = lines::place_at(i);
+    if x[place] == 0 {
+        return tuples::whole(0);
+    }
     let l = lines::line_at(i);
     let change = change_of(t, b, r, x, i, l);
     match change {
@@ -268,6 +273,10 @@ pub fn put_line(
     requires { ⌜ at + length (bytesOf (rows form) (lineItems t (b .delta) (now r) (now x) (getD lines i spare) (rows form))) ≤ length (now out) ⌝ }
     ensures { λ p. ⌜ Wrote (now (out .entry)) at (bytesOf (rows form) (lineItems t (b .delta) (now (r .entry)) (now (x .entry)) (getD lines i spare) (rows form))) (now (out .exit)) p ⌝ }
 {
+    let place = lines::place_at(i);
+    if x[place] == 0 {
+        return at;
+    }
     let l = lines::line_at(i);
     let change = change_of(t, b, r, x, i, l);
     match change {

@@ -191,21 +191,59 @@ fn put_lines(
     p
 }
 
+// The lines between BMDT and the sample count, and those after it, seldom stand: one test of their marks passes over them all.
+fn put_middle(
+    form: Form,
+    t: Track,
+    b: Basis,
+    r: &[u64],
+    x: &[u64],
+    out: &mut [u8],
+    at: usize,
+) -> usize
+    requires { ⌜ Writable t (b .delta) (now r) (now x) × (b ≡ basisOf t (b .delta) (now r) (now x)) ⌝ }
+    requires { ⌜ isSome (linesItems (rows form) t (b .delta) (now r) (now x) (slice 9 12 lines)) ≡ true ⌝ }
+    requires { ⌜ at + length (bytesOf (rows form) (linesItems (rows form) t (b .delta) (now r) (now x) (slice 9 12 lines))) ≤ length (now out) ⌝ }
+    ensures { λ p. ⌜ Wrote (now (out .entry)) at (bytesOf (rows form) (linesItems (rows form) t (b .delta) (now (r .entry)) (now (x .entry)) (slice 9 12 lines))) (now (out .exit)) p ⌝ }
+{
+    if (x[lines::SUBSAMPLES] == 0) & (x[lines::FIRST_FLAGS] == 0) & (x[lines::CLEAR] == 0) {
+        return at;
+    }
+    put_lines(form, t, b, r, x, BEFORE_BMDT, BEFORE_COUNT, out, at)
+}
+
+fn put_high(
+    form: Form,
+    t: Track,
+    b: Basis,
+    r: &[u64],
+    x: &[u64],
+    out: &mut [u8],
+    at: usize,
+) -> usize
+    requires { ⌜ Writable t (b .delta) (now r) (now x) × (b ≡ basisOf t (b .delta) (now r) (now x)) ⌝ }
+    requires { ⌜ isSome (linesItems (rows form) t (b .delta) (now r) (now x) (slice 12 14 lines)) ≡ true ⌝ }
+    requires { ⌜ at + length (bytesOf (rows form) (linesItems (rows form) t (b .delta) (now r) (now x) (slice 12 14 lines))) ≤ length (now out) ⌝ }
+    ensures { λ p. ⌜ Wrote (now (out .entry)) at (bytesOf (rows form) (linesItems (rows form) t (b .delta) (now (r .entry)) (now (x .entry)) (slice 12 14 lines))) (now (out .exit)) p ⌝ }
+{
+    if (x[lines::PROTECTED] == 0) & (x[lines::IV_SIZE] == 0) {
+        return at;
+    }
+    put_lines(form, t, b, r, x, BEFORE_COUNT, lines::LINES, out, at)
+}
+
 // ---- ids 1 to 16
 
+// A sum is the same in any order, so the lines are weighed in one walk, whatever stands between them in the object.
 pub fn set_size(form: Form, t: Track, b: Basis, r: &[u64], x: &[u64]) -> Weight
     requires { ⌜ Writable t (b .delta) (now r) (now x) × (b ≡ basisOf t (b .delta) (now r) (now x)) ⌝ }
     ensures { λ w. ⌜ WeighedAs (rows form) (fieldItems (rows form) t (b .delta) (now (r .entry)) (now (x .entry))) 28928 w ⌝ }
 {
-    let low = lines_size(form, t, b, r, x, 0, BEFORE_BMDT);
+    let fields = lines_size(form, t, b, r, x, 0, lines::LINES);
     let bmdt = bmdt_size(form, t, b.delta, r, x);
-    let middle = lines_size(form, t, b, r, x, BEFORE_BMDT, BEFORE_COUNT);
     let count = count_size(form, t, b.delta, r, x);
-    let high = lines_size(form, t, b, r, x, BEFORE_COUNT, lines::LINES);
-    let last = tuples::both(count, high);
-    let rest = tuples::both(middle, last);
-    let later = tuples::both(bmdt, rest);
-    tuples::both(low, later)
+    let numbers = tuples::both(bmdt, count);
+    tuples::both(fields, numbers)
 }
 
 pub fn put_set(
@@ -224,7 +262,7 @@ pub fn put_set(
 {
     let p = put_lines(form, t, b, r, x, 0, BEFORE_BMDT, out, at);
     let q = put_bmdt(form, t, b.delta, r, x, out, p);
-    let u = put_lines(form, t, b, r, x, BEFORE_BMDT, BEFORE_COUNT, out, q);
+    let u = put_middle(form, t, b, r, x, out, q);
     let v = put_count(form, t, b.delta, r, x, out, u);
-    put_lines(form, t, b, r, x, BEFORE_COUNT, lines::LINES, out, v)
+    put_high(form, t, b, r, x, out, v)
 }

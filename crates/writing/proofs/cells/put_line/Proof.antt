@@ -4,18 +4,43 @@ use native.Mathlib.Omega.{arith}
 use mathlib.Core.Path.{sym, _∙_}
 use mathlib.Core.List.{[], _∷_}
 use types.Run.{miss}
-use Rattle.laws.proofs.WriteLaws.{wrote-none}
 use Rattle.wire.specs.Form.{rows}
-use Rattle.writing.proofs.ItemLaws.{bytes-nothing, some-as, room-as, wrote-items}
+use Rattle.writing.proofs.ItemLaws.{some-as, room-as, wrote-items}
+use Rattle.writing.proofs.PutLaws.{put-nothing}
+use Rattle.writing.proofs.AbsentLaws.{mark-in, absent-at}
 use Rattle.writing.proofs.ChangeLaws.{sent-stands, line-sent, line-unsent}
 use Rattle.writing.proofs.cells.put_line.Statement.{statement}
 use Rattle.writing.proofs.cells.put_line.Tie as tie
+
+place-at-requires : tie.Need-place-at-requires
+place-at-requires c κs = tt
+
+mul-if1 : tie.Need-mul-if1
+mul-if1 c =
+    let b = c .before .before .before .before in
+    let w = b .pre .0 .0 .new-words in
+    omega (arith, mark-in _ (b .pre .1 .0) _ (c .place-at .ensures) (b .args .x .now) w, w)
+
+shared-slice-read-if1 : tie.Need-shared-slice-read-if1
+shared-slice-read-if1 c =
+    let b = c .before .before .before .before .before in
+    mark-in _ (b .pre .1 .0) _ (c .before .place-at .ensures) (b .args .x .now) (b .pre .0 .0 .new-words)
+
+returns : tie.Need-returns
+returns c =
+    let b₁ = c .before .before in
+    let b₂ = b₁ .before .before .before .before in
+    let a = b₂ .args in
+    let F = rows (a .form) in
+    wrote-items F _ _
+    (absent-at F (a .t) (a .b .delta) (a .r .now) (a .x .now) _ (b₂ .pre .1 .0) _ (b₁ .place-at .ensures) (c .if1 .taken))
+    (put-nothing F _ _ (omega (arith, b₂ .pre .1 .1 .1)))
 
 line-at-requires : tie.Need-line-at-requires
 line-at-requires c κs = tt
 
 change-of-requires : tie.Need-change-of-requires
-change-of-requires c κs = (c .before .before .before .before .pre .0, (c .before .before .before .before .pre .1 .0, c .line-at .ensures))
+change-of-requires c κs = let b = c .before .before .before .before .before .before .before in (b .pre .0, (b .pre .1 .0, c .line-at .ensures))
 
 enum-told : tie.Need-enum-told
 enum-told c = search needs
@@ -25,7 +50,7 @@ put-sent-requires c κs =
     let b₁ = c .before in
     let b₂ = b₁ .before .before in
     let b₃ = b₂ .before in
-    let b₄ = b₃ .before .before .before .before in
+    let b₄ = b₃ .before .before .before .before .before .before .before in
     let a = b₄ .args in
     let F = rows (a .form) in
     let e = line-sent F (a .t) (a .b .delta) (a .r .now) (a .x .now) _ _ (b₃ .line-at .ensures)
@@ -41,25 +66,28 @@ put-sent-requires c κs =
       ),
     )
 
-returns : tie.Need-returns
-returns c =
-    let a = c .before .before .before .before .before .before .args in
+returns-2 : tie.Need-returns-2
+returns-2 c =
+    let b₁ = c .before in
+    let b₂ = b₁ .before in
+    let b₃ = b₂ .before .before .before .before .before .before .before in
+    let a = b₃ .args in
     let F = rows (a .form) in
     wrote-items F _ _
-    (line-unsent F (a .t) (a .b .delta) (a .r .now) (a .x .now) _ _ (c .before .before .line-at .ensures) _ (c .before .change-of .ensures)
+    (line-unsent F (a .t) (a .b .delta) (a .r .now) (a .x .now) _ _ (b₂ .line-at .ensures) _ (b₁ .change-of .ensures)
     (λ e. miss (0 ∷ 1 ∷ []) 2 tt (rw e at (c .match .keys1))))
-    (rw (bytes-nothing F) (wrote-none _ _ (omega (arith, c .before .before .before .before .before .before .pre .1 .1 .1))))
+    (put-nothing F _ _ (omega (arith, b₃ .pre .1 .1 .1)))
 
 same-length : tie.Need-same-length
 same-length c = search needs
 
-returns-2 : tie.Need-returns-2
-returns-2 c =
+returns-3 : tie.Need-returns-3
+returns-3 c =
     let b₁ = c .before .before in
     let b₂ = b₁ .before .before in
     let b₃ = b₂ .before .before in
     let b₄ = b₃ .before in
-    let b₅ = b₄ .before .before .before .before in
+    let b₅ = b₄ .before .before .before .before .before .before .before in
     let a = b₅ .args in
     let F = rows (a .form) in
     wrote-items F _ _
@@ -71,10 +99,14 @@ pub put-line-spec : {M : Type 1} → statement M
 put-line-spec =
     tie.close
     (tie.spec
+    place-at-requires
+    mul-if1
+    shared-slice-read-if1
+    returns
     line-at-requires
     change-of-requires
     enum-told
     put-sent-requires
-    returns
+    returns-2
     same-length
-    returns-2)
+    returns-3)
