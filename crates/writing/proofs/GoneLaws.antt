@@ -3,34 +3,55 @@ use Prim.Native.Nat.{ℕ, _+_, _≤_, _<_}
 use native.Mathlib.Numerals.{add-one}
 use native.Mathlib.Omega.{arith}
 use mathlib.Core.Path.{_≡_, refl, sym, _∙_, ap}
-use mathlib.Core.Bool.{Bool, true, false}
+use mathlib.Core.Bool.{Bool, true, false, cond, not, _&&_}
 use mathlib.Core.List.{List, [], _∷_, _++_, append-nil, append-assoc}
 use borrow.Author.Tests.{eq-eqb, ne-eqb}
+use lib.Dec.{eqb}
 use lib.ListN.{length, getD, take, drop, set, length-set}
 use lib.Seq.{length-take-le, take-suc-set}
 use Rattle.wire.specs.declared.form.Row.{Row}
 use Rattle.wire.specs.declared.zigzag.Coding.the-variants.{Plain}
 use Rattle.track.specs.declared.Track.{Track}
 use Rattle.fieldset.specs.declared.lines.Line.{Line}
-use Rattle.fieldset.specs.Lines.{lines, spare}
-use Rattle.fieldset.proofs.LineLaws.{line-here, no-lines}
-use Rattle.writing.specs.declared.cells.Change.{Change}
+use Rattle.fieldset.specs.Lines.{lines, spare, placeOf}
+use Rattle.fieldset.proofs.LineLaws.{line-here, no-lines, place-of}
+use Rattle.fields.specs.Cells.{isIvs}
 use Rattle.writing.specs.declared.cells.Change.the-variants.{Omitted, Deleted, Sent}
 use Rattle.writing.specs.Items.{nothing, itemsIf, runItem}
-use Rattle.writing.specs.Changes.{changeOf}
+use Rattle.writing.specs.Changes.{same, news, olds, changeOf}
 use Rattle.writing.specs.Fields.{isDeleted, goneOf, deletionItems}
 
--- anything else than a deletion
-pub not-deleted : (v : Change) → (v ≡ Deleted → ⊥) → false ≡ isDeleted v
-not-deleted Omitted h = refl
-not-deleted Deleted h = absurd (h refl)
-not-deleted Sent h = refl
-
 module _ (t : Track) (delta : Bool) (r x : List ℕ) where
-  -- what code has of the line at i
-  pub deleted-is : (i : ℕ) (l : Line) → l ≡ getD lines i spare → (v : Change) → v ≡ changeOf t delta r x l
-      → isDeleted v ≡ isDeleted (changeOf t delta r x (getD lines i spare))
-  deleted-is i l e v d = rw (d, e)
+  -- a field is deleted where it stood in the reference and stands no more
+  deleted-by : (l : Line) → (delta && (not (eqb (getD r (l .place) 0) 0) && eqb (getD x (l .place) 0) 0)) ≡ isDeleted (changeOf t delta r x l)
+  unfolding changeOf
+  deleted-by l =
+      go delta (eqb (getD r (l .place) 0) 0) (eqb (getD x (l .place) 0) 0) (not (isIvs (l .want)) && same (olds t delta r x l) (news t delta r x l))
+    where
+      go : (d a b s : Bool)
+          → (d && (not a && b)) ≡ isDeleted (cond (not b) (cond (d && not a && s) Omitted Sent) (cond (d && not a) Deleted Omitted))
+      go false a true s = refl
+      go false a false s = refl
+      go true true true s = refl
+      go true true false s = refl
+      go true false true s = refl
+      go true false false true = refl
+      go true false false false = refl
+
+  -- by its place
+  pub deleted-is : (i : ℕ) → i < 14 → (p : ℕ) → p ≡ placeOf i
+      → (delta && (not (eqb (getD r p 0) 0) && eqb (getD x p 0) 0)) ≡ isDeleted (changeOf t delta r x (getD lines i spare))
+  deleted-is i lt p e = rw (e ∙ place-of i lt) (deleted-by (getD lines i spare))
+
+  -- nothing is deleted in a full object
+  gone-full : delta ≡ false → (ls : List Line) → goneOf t delta r x ls ≡ []
+  unfolding goneOf
+  gone-full d [] = refl
+  gone-full d (l ∷ ls) = let no : isDeleted (changeOf t delta r x l) ≡ false = sym (deleted-by l) ∙ rw d in rw no (gone-full d ls)
+
+  pub collect-full : delta ≡ false → (ids : List ℕ) → length ids ≡ 14
+      → (0 ≡ length (goneOf t delta r x lines)) × (0 ≤ 14) × (take 0 ids ≡ goneOf t delta r x lines) × (length ids ≡ 14)
+  collect-full d ids e = (ap length (sym (gone-full d lines)), omega arith, sym (gone-full d lines), e)
 
   -- the ids of the lines before the one at i are collected, n of them
   pub record Collecting (ids : List ℕ) (n i : ℕ) : Type 0 where
@@ -54,20 +75,20 @@ module _ (t : Track) (delta : Bool) (r x : List ℕ) where
 
     module _ (lt : i < 14) where
       -- the next line's id, where it is deleted
-      pub collect-one : true ≡ isDeleted (changeOf t delta r x (getD lines i spare)) → (l : Line) → l ≡ getD lines i spare
-          → (js : List ℕ) → js ≡ set ids n (l .id) → (k : ℕ) → k ≡ n + 1 → Collecting js k (i + 1)
+      pub collect-one : true ≡ isDeleted (changeOf t delta r x (getD lines i spare)) → (id : ℕ) → id ≡ getD lines i spare .id
+          → (js : List ℕ) → js ≡ set ids n id → (k : ℕ) → k ≡ n + 1 → Collecting js k (i + 1)
       unfolding goneOf
-      collect-one d l e js p k q =
+      collect-one d id e js p k q =
           let m : n < length ids = omega (arith, h .few, h .long) in
-          let here : goneOf t delta r x (drop i lines) ≡ l .id ∷ goneOf t delta r x (drop (i + 1) lines) = rw (line-here i lt, ← d, e) in
-          let first : take k js ≡ take n ids ++ (l .id ∷ []) = rw (p, q, add-one n) (take-suc-set ids n (l .id) m) in
+          let here : goneOf t delta r x (drop i lines) ≡ id ∷ goneOf t delta r x (drop (i + 1) lines) = rw (line-here i lt, ← d, e) in
+          let first : take k js ≡ take n ids ++ (id ∷ []) = rw (p, q, add-one n) (take-suc-set ids n id m) in
           record {
-            long = ap length p ∙ length-set ids n (l .id) ∙ h .long;
+            long = ap length p ∙ length-set ids n id ∙ h .long;
             few = omega (arith, h .few);
             high = omega arith;
             rest =
                 ap (λ (s : List ℕ). s ++ goneOf t delta r x (drop (i + 1) lines)) first
-                ∙ append-assoc (take n ids) (l .id ∷ []) (goneOf t delta r x (drop (i + 1) lines))
+                ∙ append-assoc (take n ids) (id ∷ []) (goneOf t delta r x (drop (i + 1) lines))
                 ∙ ap (λ (s : List ℕ). take n ids ++ s) (sym here)
                 ∙ h .rest;
           }

@@ -10,9 +10,7 @@ ghost use Rattle.fieldset.specs.Lines.{lines, spare};
 ghost use Rattle.writing.specs.Items.{bytesOf, WeighedAs};
 ghost use Rattle.writing.specs.Changes.{basisOf, changeOf, Writable};
 ghost use Rattle.writing.specs.Fields.{isDeleted, goneOf, deletionItems};
-use crate::cells;
 use crate::cells::Basis;
-use crate::cells::Change;
 use crate::tuples;
 use crate::tuples::Weight;
 use fieldset::lines;
@@ -22,16 +20,14 @@ use wire::zigzag::Coding;
 
 const DELETIONS: u64 = 27;
 
+// A field vanished if the reference has it and the new set doesn't; a full object goes by no reference.
 fn is_deleted(t: Track, b: Basis, r: &[u64], x: &[u64], i: usize) -> bool
     requires { ⌜ Writable t (b .delta) (now r) (now x) × (b ≡ basisOf t (b .delta) (now r) (now x)) ⌝ }
     requires { ⌜ i < 14 ⌝ }
     ensures { λ d. ⌜ d ≡ isDeleted (changeOf t (b .delta) (now (r .entry)) (now (x .entry)) (getD lines i spare)) ⌝ }
 {
-    let change = cells::change_of(t, b, r, x, i, lines::line_at(i));
-    match change {
-        Change::Deleted => true,
-        Change::Omitted | Change::Sent => false,
-    }
+    let place = lines::place_at(i);
+    b.delta & ((r[place] != 0) & (x[place] == 0))
 }
 
 // The ids deleted, in the order of the lines, so ascending; and how many there are.
@@ -40,11 +36,14 @@ fn deleted(t: Track, b: Basis, r: &[u64], x: &[u64], ids: &mut [u64]) -> usize
     requires { ⌜ length (now ids) ≡ 14 ⌝ }
     ensures { λ n. ⌜ (n ≡ length (goneOf t (b .delta) (now (r .entry)) (now (x .entry)) lines)) × (n ≤ 14) × (take n (now (ids .exit)) ≡ goneOf t (b .delta) (now (r .entry)) (now (x .entry)) lines) × (length (now (ids .exit)) ≡ 14) ⌝ }
 {
+    if !b.delta {
+        return 0;
+    }
     let mut n = 0;
     let mut i = 0;
     while i < lines::LINES {
         if is_deleted(t, b, r, x, i) {
-            ids[n] = lines::line_at(i).id;
+            ids[n] = lines::id_at(i);
             n += 1;
         }
         i += 1;

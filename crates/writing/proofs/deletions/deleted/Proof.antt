@@ -1,9 +1,10 @@
--- `writing::deletions::deleted` meets its contract: the ids collected so far. Assumes nothing.
+-- `writing::deletions::deleted` meets its contract: none in a full object, and else the ids collected so far. Assumes nothing.
 use borrow.Author.Needs.{needs}
 use Prim.Native.Nat.{_-_}
 use mathlib.Core.Path.{sym, _∙_}
 use mathlib.Core.Logic.{⊎-elim}
-use Rattle.writing.proofs.GoneLaws.{Collecting, collect-start, collect-end, collect-one, collect-none}
+use borrow.Author.Tests.{not-true}
+use Rattle.writing.proofs.GoneLaws.{collect-full, Collecting, collect-start, collect-end, collect-one, collect-none}
 use Rattle.writing.proofs.deletions.deleted.Statement.{statement}
 use Rattle.writing.proofs.deletions.deleted.Tie as tie
 
@@ -13,14 +14,19 @@ Inv-loop t b r x ids₀ n₀ i₀ ids n i = Collecting t (b .delta) r x ids n i
 abbrev μ-loop : tie.MeasureT-loop
 μ-loop t b r x ids₀ n₀ i₀ ids n i = 14 - i
 
+returns : tie.Need-returns Inv-loop μ-loop
+returns c =
+    let b = c .before .before .before .before .before in
+    collect-full _ _ _ _ (not-true _ (c .if1 .taken)) (b .args .ids .now) (b .pre .1)
+
 loop-holds : tie.Need-loop-holds Inv-loop μ-loop
-loop-holds c = collect-start _ _ _ _ _ (c .before .before .before .pre .1)
+loop-holds c = collect-start _ _ _ _ _ (c .before .before .before .before .before .pre .1)
 
 is-deleted-requires : tie.Need-is-deleted-requires Inv-loop μ-loop
 is-deleted-requires c κs = search needs
 
-line-at-requires : tie.Need-line-at-requires Inv-loop μ-loop
-line-at-requires c κs = search needs
+id-at-requires : tie.Need-id-at-requires Inv-loop μ-loop
+id-at-requires c κs = search needs
 
 mul-ids : tie.Need-mul-ids Inv-loop μ-loop
 mul-ids c = search needs
@@ -47,13 +53,13 @@ loop-again c =
     ⊎-elim
     (λ w. collect-one _ _ _ _ _ _ _ h lt (sym (w .0 .taken) ∙ e) _ (w .1 .ensures) _ (w .2) _ (w .3))
     (λ w. collect-none _ _ _ _ _ _ _ h lt (sym (w .0 .left) ∙ e) _ (w .1) _ (w .2))
-    (c .if1 .came)
+    (c .if2 .came)
 
 same-length : tie.Need-same-length Inv-loop μ-loop
 same-length c = search needs
 
-returns : tie.Need-returns Inv-loop μ-loop
-returns c = collect-end _ _ _ _ _ _ _ (c .before .loop .inv) (c .loop-test .left)
+returns-2 : tie.Need-returns-2 Inv-loop μ-loop
+returns-2 c = collect-end _ _ _ _ _ _ _ (c .before .loop .inv) (c .loop-test .left)
 
 pub deleted-spec : {M : Type 1} → statement M
 deleted-spec =
@@ -61,9 +67,10 @@ deleted-spec =
     (tie.spec
     Inv-loop
     μ-loop
+    returns
     loop-holds
     is-deleted-requires
-    line-at-requires
+    id-at-requires
     mul-ids
     slice-write-ids
     add-n
@@ -71,4 +78,4 @@ deleted-spec =
     loop-less
     loop-again
     same-length
-    returns)
+    returns-2)

@@ -1,33 +1,49 @@
--- `writing::deletions::is_deleted` meets its contract: by what the object says of the field. Assumes nothing.
-use borrow.Author.Needs.{needs}
-use mathlib.Core.Path.{sym, _∙_, ap}
-use mathlib.Core.List.{[], _∷_}
-use types.Run.{miss}
-use Rattle.writing.specs.Fields.{isDeleted}
-use Rattle.writing.proofs.GoneLaws.{deleted-is, not-deleted}
+-- `writing::deletions::is_deleted` meets its contract: by the marks of the field. Assumes nothing.
+use native.Mathlib.Omega.{arith}
+use Rattle.writing.proofs.AbsentLaws.{mark-in}
+use Rattle.writing.proofs.GoneLaws.{deleted-is}
 use Rattle.writing.proofs.deletions.is_deleted.Statement.{statement}
 use Rattle.writing.proofs.deletions.is_deleted.Tie as tie
 
-line-at-requires : tie.Need-line-at-requires
-line-at-requires c κs = search needs
+place-at-requires : tie.Need-place-at-requires
+place-at-requires c κs = tt
 
-change-of-requires : tie.Need-change-of-requires
-change-of-requires c κs = search needs
+mul-result : tie.Need-mul-result
+mul-result c =
+    let b = c .before .before .before in
+    let w = b .pre .0 .0 .old-words in
+    omega (arith, mark-in _ (b .pre .1) _ (c .place-at .ensures) (b .args .r .now) w, w)
 
-enum-told : tie.Need-enum-told
-enum-told c = search needs
+shared-slice-read-result : tie.Need-shared-slice-read-result
+shared-slice-read-result c =
+    let b = c .before .before .before .before in
+    mark-in _ (b .pre .1) _ (c .before .place-at .ensures) (b .args .r .now) (b .pre .0 .0 .old-words)
+
+mul-result-2 : tie.Need-mul-result-2
+mul-result-2 c =
+    let b = c .before .before .before .before in
+    let w = b .pre .0 .0 .new-words in
+    omega (arith, mark-in _ (b .pre .1) _ (c .before .place-at .ensures) (b .args .x .now) w, w)
+
+shared-slice-read-result-2 : tie.Need-shared-slice-read-result-2
+shared-slice-read-result-2 c =
+    let b = c .before .before .before .before .before in
+    mark-in _ (b .pre .1) _ (c .before .before .place-at .ensures) (b .args .x .now) (b .pre .0 .0 .new-words)
 
 returns : tie.Need-returns
 returns c =
-    let b₁ = c .before .before in
-    let b₂ = b₁ .before in
-    ap isDeleted (sym (c .enum-told .given .1)) ∙ deleted-is _ _ _ _ _ _ (b₂ .line-at .ensures) _ (b₁ .change-of .ensures)
-
-returns-2 : tie.Need-returns-2
-returns-2 c =
-    not-deleted (c .before .change-of .result) (λ e. miss (0 ∷ 2 ∷ []) 1 tt (rw e at (c .match .keys2)))
-    ∙ deleted-is _ _ _ _ _ _ (c .before .before .line-at .ensures) _ (c .before .change-of .ensures)
+    let b₁ = c .before .before .before in
+    let b₂ = b₁ .before .before .before in
+    let a = b₂ .args in
+    deleted-is (a .t) (a .b .delta) (a .r .now) (a .x .now) _ (b₂ .pre .1) _ (b₁ .place-at .ensures)
 
 pub is-deleted-spec : {M : Type 1} → statement M
 is-deleted-spec =
-    tie.close (tie.spec line-at-requires change-of-requires enum-told returns returns-2)
+    tie.close
+    (tie.spec
+    place-at-requires
+    mul-result
+    shared-slice-read-result
+    mul-result-2
+    shared-slice-read-result-2
+    returns)
