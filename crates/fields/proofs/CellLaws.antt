@@ -1,8 +1,7 @@
 -- What each function of `cells` stored and answered is what the specs say of its field. Assumes nothing.
-use Prim.Native.Nat.{ℕ, suc, _+_, _-_, _*_, _≤_}
+use Prim.Native.Nat.{ℕ, _+_, _*_, _≤_}
 use native.Mathlib.Nat.{add-sub-cancel-left}
 use native.Mathlib.Numerals.{add-one}
-use native.Mathlib.Omega.{arith}
 use mathlib.Core.Path.{_≡_, refl, sym, _∙_, ap}
 use mathlib.Core.Bool.{Bool, true, false, false≢true, _&&_}
 use mathlib.Core.List.{List, []}
@@ -28,7 +27,7 @@ use Rattle.fieldset.specs.declared.lines.Absent.the-variants.{Zero, Middle, Des
 use Rattle.fieldset.specs.Lines.{absentValue}
 use Rattle.fields.specs.declared.said.Span.{Span}
 use Rattle.fields.specs.declared.cells.Cell.{Cell}
-use Rattle.fields.specs.Cells.{Came, TakenAs, Listed, told, right, misfitOf, outOfRange, missing, codingOf, isIvs, packed, filledAs, carried, sentOne, sentList, listIn}
+use Rattle.fields.specs.Cells.{Came, TakenAs, Listed, told, right, misfitOf, outOfRange, missing, codingOf, isIvs, packed, filledAs, carried, sentOne, sentIvs, sentList, spanBytes, listIn}
 
 -- what is known under another name
 pub absent-is : (a : Absent) {b : Absent} (t : Track) → b ≡ a → absentValue t a ≡ absentValue t b
@@ -92,31 +91,29 @@ module _ (want : Want) (j k place : ℕ) (r x : List ℕ) {c : Cell} where
         long = ap length w ∙ simp (length-sets, length-set);
       })
 
+-- ---- IVs
+module _ (o : List ℕ) (want : Want) (s : Span) (k place : ℕ) (x : List ℕ) (inside : s .at + s .number ≤ length o) where
+  raw-length : length (spanBytes o s) ≡ s .number
+  raw-length = length-slice (s .at) (s .at + s .number) o inside ∙ add-sub-cancel-left (s .at) (s .number)
+
+  pub raw-misfit : {c : Cell} → (s .number ≡ 8 * k → ⊥) → c ≡ misfitOf want → TakenAs (sentIvs want k (spanBytes o s)) place x c x
+  raw-misfit n q = rw (raw-length, ne-eqb (s .number) (8 * k) n) (refused q (misfit-broken want) refl)
+
+  pub raw-packed : {c : Cell} → s .number ≡ 8 * k → c ≡ right → (after : List ℕ)
+      → after ≡ sets (set x place 1) (place + 1) (packed k (slice (s .at) (s .at + 8 * k) o))
+      → TakenAs (sentIvs want k (spanBytes o s)) place x c after
+  raw-packed n q after w =
+      rw (raw-length, eq-eqb (s .number) (8 * k) n)
+      (record { answered = q; stored = λ _ _ _. w ∙ rw (n, add-one); long = ap length w ∙ simp (length-sets, length-set) })
+
 -- ---- a list
 module _ (F : List Row) (o : List ℕ) (want : Want) (s : Span) (coding : Coding) (base bound k place : ℕ) (x : List ℕ)
     (h : Listed F o want s) where
-  module _ (i : isIvs want ≡ true) where
-    raw-length : length (listIn F o want s) ≡ s .number
-    unfolding listIn
-    raw-length = rw i (length-slice (s .at) (s .at + s .number) o (h .inside) ∙ add-sub-cancel-left (s .at) (s .number))
-
-    pub raw-misfit : {c : Cell} → (s .number ≡ 8 * k → ⊥) → c ≡ misfitOf want → (olds : List ℕ)
-        → TakenAs (sentList coding base bound want k olds (listIn F o want s)) place x c x
-    unfolding sentList
-    raw-misfit n q olds = rw (i, raw-length, ne-eqb (s .number) (8 * k) n) (refused q (misfit-broken want) refl)
-
-    raw-words : s .number ≡ 8 * k
-        → sets (set x place 1) (place + 1) (packed k (slice (s .at) (s .at + 8 * k) o)) ≡ sets (set x place 1) (suc place) (packed k (listIn F o want s))
-    unfolding listIn
-    raw-words n = rw (i, n, add-one)
-
-    pub raw-packed : {c : Cell} → s .number ≡ 8 * k → c ≡ right → (olds after : List ℕ)
-        → after ≡ sets (set x place 1) (place + 1) (packed k (slice (s .at) (s .at + 8 * k) o))
-        → TakenAs (sentList coding base bound want k olds (listIn F o want s)) place x c after
-    unfolding sentList
-    raw-packed n q olds after w =
-        rw (i, raw-length, eq-eqb (s .number) (8 * k) n)
-        (record { answered = q; stored = λ _ _ _. w ∙ raw-words n; long = ap length w ∙ simp (length-sets, length-set) })
+  -- the bytes of the IVs are a list too
+  pub list-raw : {c : Cell} → isIvs want ≡ true → (olds after : List ℕ) → TakenAs (sentIvs want k (spanBytes o s)) place x c after
+      → TakenAs (sentList coding base bound want k olds (listIn F o want s)) place x c after
+  unfolding sentList listIn
+  list-raw i olds after w = rw i w
 
   module _ (i : isIvs want ≡ false) where
     pub list-misfit : {c : Cell} → (s .count ≡ k → ⊥) → c ≡ misfitOf want → (olds : List ℕ)

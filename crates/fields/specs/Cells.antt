@@ -122,11 +122,15 @@ carried want j k olds = cond (isIvs want) (came missing none) (cond (eqb j k) (w
 unfoldable pub sentOne : Coding → ℕ → ℕ → ℕ → Came
 sentOne coding old bound z = onReached (reached coding old bound z) (λ v. well (some (v ∷ []))) beyond
 
--- 01: "Required: id 1, count less one; 3, 5, 7, 11, the count; 13, 15, the sum of 11." An IV is kept as words of eight bytes.
+-- the IVs: each is kept as words of eight bytes
+abbrev pub sentIvs : Want → ℕ → List ℕ → Came
+sentIvs want k zs = cond (eqb (length zs) (8 * k)) (well (some (packed k zs))) (misfit want)
+
+-- 01: "Required: id 1, count less one; 3, 5, 7, 11, the count; 13, 15, the sum of 11."
 unfoldable pub sentList : Coding → ℕ → ℕ → Want → ℕ → List ℕ → List ℕ → Came
 sentList coding base bound want k olds zs =
     cond (isIvs want)
-    (cond (eqb (length zs) (8 * k)) (well (some (packed k zs))) (misfit want))
+    (sentIvs want k zs)
     (cond (eqb (length zs) k) (let f = stepsF coding base bound olds zs in filledAs (f .answer) (f .values)) (misfit want))
 
 -- the field of a line: `held` says that there is a reference r, whose lengths go by `was`, and the new ones by `m`

@@ -1,12 +1,13 @@
 // One field of the new set.
 ghost use mathlib.Core.Path.{_≡_};
 ghost use Prim.Native.Nat.{_+_, _*_, _≤_};
+ghost use mathlib.Core.List.{[]};
 ghost use lib.ListN.{length};
 ghost use lib.Seq.{slice, sets};
 ghost use Rattle.laws.specs.Bytes.{de};
 ghost use Rattle.wire.specs.Form.{rows};
 ghost use Rattle.fieldset.specs.Lines.{absentValue};
-ghost use Rattle.fields.specs.Cells.{right, misfitOf, outOfRange, missing, codingOf, isIvs, packed, carried, sentOne, sentList, listIn, said, cellOf, TakenAs, Listable, Spans, Takeable};
+ghost use Rattle.fields.specs.Cells.{right, misfitOf, outOfRange, missing, codingOf, isIvs, packed, filledAs, carried, sentOne, sentIvs, sentList, spanBytes, listIn, said, cellOf, TakenAs, Listable, Spans, Takeable};
 use crate::said::Span;
 use crate::said::Word;
 use fieldset::lines;
@@ -193,6 +194,32 @@ fn send_one(coding: Coding, z: u64, old: u64, l: Line, x: &mut [u64]) -> Cell
     well()
 }
 
+// The IVs, which are sent as bytes and kept as words of eight.
+fn send_ivs(o: &[u8], span: Span, l: Line, k: usize, x: &mut [u64]) -> Cell
+    requires { ⌜ (span .at + span .number ≤ length (now o)) × (l .place + 1 + k ≤ length (now x)) ⌝ }
+    ensures { λ c. ⌜ TakenAs (sentIvs (l .want) k (spanBytes (now (o .entry)) span)) (l .place) (now (x .entry)) c (now (x .exit)) ⌝ }
+{
+    let want = l.want;
+    let place = l.place;
+    if span.number != 8 * k as u64 {
+        return misfit(want);
+    }
+    x[place] = 1;
+    pack(o, span.at, k, x, place + 1);
+    well()
+}
+
+// What a list that was read against its old values came to.
+fn filled(f: Outcome) -> Cell
+    ensures { λ c. ⌜ c ≡ filledAs f [] .cell ⌝ }
+{
+    match f {
+        Outcome::Done => well(),
+        Outcome::Misfit => outside(),
+        Outcome::Outside => outside(),
+    }
+}
+
 // A list, against the u old values of the reference.
 fn send_list(
     form: Form,
@@ -211,19 +238,14 @@ fn send_list(
 {
     let want = l.want;
     let place = l.place;
-    let at = span.at;
     if is_ivs(want) {
-        if span.number != 8 * k as u64 {
-            return misfit(want);
-        }
-        x[place] = 1;
-        pack(o, at, k, x, place + 1);
-        return well();
+        return send_ivs(o, span, l, k, x);
     }
     if span.count != k as u64 {
         return misfit(want);
     }
     x[place] = 1;
+    let at = span.at;
     let from = place + 1;
     let f = runs::fill(
         form,
@@ -238,11 +260,7 @@ fn send_list(
         from,
         k,
     );
-    match f {
-        Outcome::Done => well(),
-        Outcome::Misfit => outside(),
-        Outcome::Outside => outside(),
-    }
+    filled(f)
 }
 
 // One field: `held` says that there is a reference r, whose lengths go by `was`, and the new ones by `m`.
@@ -271,12 +289,7 @@ pub fn take(
     let j = lines::length_of(want, was);
     match word {
         Word::Deleted => well(),
-        Word::Omitted => {
-            if stood {
-                return carry(r, l, j, k, x);
-            }
-            well()
-        }
+        Word::Omitted => { if stood { carry(r, l, j, k, x) } else { well() } }
         Word::Sent(span) => {
             let base = absent_value(t, absent);
             let c = coding_of(coding, absent);

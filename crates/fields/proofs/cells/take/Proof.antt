@@ -34,15 +34,6 @@ carry-requires c κs =
     let b = c .before .before .before .before .before .before .before .before .before .before in
     (omega (arith, b .pre .0 .there, b .pre .0 .room, c .before .before .before .before .before .before .length-of .ensures), omega (arith, b .pre .0 .here, b .pre .0 .room, c .before .before .before .before .before .before .length-of .ensures))
 
-same-length : tie.Need-same-length
-same-length c = c .before .before .carry .ensures .long
-
-returns : tie.Need-returns
-returns c =
-    let b = c .before .before .before .before .before .before .before .before .before .before .before .before .before in
-    take-carried (rows (b .args .form)) _ _ _ _ _ _ _ _ _ _ _ _ (c .before .before .before .before .before .enum-told2 .given .1) (c .before .before .before .before .if1 .taken) _ _ (c .before .before .before .before .before .before .before .length-of2 .ensures) (c .before .before .before .before .before .before .before .before .before .length-of .ensures)
-    (c .before .before .carry .ensures)
-
 well-requires-2 : tie.Need-well-requires-2
 well-requires-2 c κs = search needs
 
@@ -69,11 +60,11 @@ send-one-requires c κs =
     let b = c .before .before .before .before .before .before .before .before .before .before .before .before .before .before .before in
     omega (arith, b .pre .0 .here, c .before .before .if2 .taken)
 
-same-length-2 : tie.Need-same-length-2
-same-length-2 c = c .before .before .send-one .ensures .long
+same-length : tie.Need-same-length
+same-length c = c .before .before .send-one .ensures .long
 
-returns-2 : tie.Need-returns-2
-returns-2 c =
+returns : tie.Need-returns
+returns c =
     let b = c .before .before .before .before .before .before .before .before .before .before .before .before .before .before .before .before .before .before in
     take-one (rows (b .args .form)) _ _ _ _ _ _ _ _ _ _ _ _ _ (c .before .before .before .before .before .before .before .before .before .before .word .given .1) _ (c .before .before .before .before .before .before .before .coding-of .ensures) (c .before .before .before .before .before .if2 .taken) (c .before .before .before .before .if3 .old)
     (⊎-elim (λ w. old-stood _ _ _ _ (w .0 .taken) (b .pre .0 .single (c .before .before .before .before .before .if2 .taken)) (omega (arith, b .pre .0 .there, c .before .before .before .before .before .if2 .taken)) _ _ (w .2))
@@ -91,8 +82,17 @@ send-list-requires c κs =
       room = omega (arith, b .pre .0 .here, b .pre .0 .room, c .before .before .before .before .before .before .before .before .before .before .before .length-of .ensures);
     }
 
+returns-2 : tie.Need-returns-2
+returns-2 c = let b = c .before .before .before .before .before .before .before .before .before in take-deleted (rows (b .args .form)) _ _ _ _ _ _ _ _ _ _ _ (c .before .enum-told .given .1) (c .well .ensures)
+
+same-length-2 : tie.Need-same-length-2
+same-length-2 c = c .before .before .carry .ensures .long
+
 returns-3 : tie.Need-returns-3
-returns-3 c = let b = c .before .before .before .before .before .before .before .before .before in take-deleted (rows (b .args .form)) _ _ _ _ _ _ _ _ _ _ _ (c .before .enum-told .given .1) (c .well .ensures)
+returns-3 c =
+    let b = c .before .before .before .before .before .before .before .before .before .before .before .before .before in
+    take-carried (rows (b .args .form)) _ _ _ _ _ _ _ _ _ _ _ _ (c .before .before .before .before .before .enum-told2 .given .1) (c .before .before .before .before .if1 .taken) _ _ (c .before .before .before .before .before .before .before .length-of2 .ensures) (c .before .before .before .before .before .before .before .before .before .length-of .ensures)
+    (c .before .before .carry .ensures)
 
 returns-4 : tie.Need-returns-4
 returns-4 c = let b = c .before .before .before .before .before .before .before .before .before .before in take-none (rows (b .args .form)) _ _ _ _ _ _ _ _ _ _ _ (c .before .before .enum-told2 .given .1) (c .before .if1 .left) (c .well2 .ensures)
@@ -119,8 +119,6 @@ take-spec =
     well-requires
     enum-told-2
     carry-requires
-    same-length
-    returns
     well-requires-2
     enum-known-word
     absent-value-requires
@@ -129,9 +127,11 @@ take-spec =
     mul-old
     shared-slice-read-old
     send-one-requires
-    same-length-2
-    returns-2
+    same-length
+    returns
     send-list-requires
+    returns-2
+    same-length-2
     returns-3
     returns-4
     same-length-3
