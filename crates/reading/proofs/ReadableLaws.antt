@@ -10,6 +10,7 @@ use borrow.Author.Tests.{eqb-false, eq-eqb, ne-eqb}
 use lib.ListN.{length, getD}
 use lib.Seq.{slice, length-slice}
 use Rattle.wire.specs.declared.form.Row.{Row}
+use Rattle.wire.specs.declared.zigzag.Coding.{Coding}
 use Rattle.block.specs.Entries.{HeldAs, body}
 use Rattle.track.specs.declared.Track.{Track}
 use Rattle.fieldset.specs.declared.lines.Line.{Line}
@@ -18,13 +19,15 @@ use Rattle.fieldset.specs.Lines.{lines, spare, setLen, Small}
 use Rattle.fieldset.specs.Lawful.{regionOk, measureOf, lawful}
 use Rattle.fieldset.proofs.LawfulLaws.{lawful-facts, region-at}
 use Rattle.fields.specs.declared.said.Word.{Word}
+use Rattle.fields.specs.declared.said.Word.the-variants.{Omitted, Deleted, Sent}
 use Rattle.fields.specs.Said.{Saying, omitted, deleted, sent, saying, sayingOf, wordIn, saysIn, among, numbers, Marked, AllMarked}
-use Rattle.fields.specs.Cells.{codingFor, cellOf, stood, said, Spans, Takeable}
+use Rattle.fields.specs.Cells.{right, codingFor, cellOf, stood, said, TakenAs, Spans, Takeable}
 use Rattle.fields.proofs.RoomLaws.{takeable}
+use Rattle.fields.proofs.TakeLaws.{take-none, take-deleted}
 use Rattle.fields.proofs.MarkedLaws.{kinded, said-is, spans, marked-omitted, marked-deleted, marked-sent}
 use Rattle.reading.specs.declared.read.Against.{Against}
 use Rattle.fields.specs.Words.{wasOf}
-use Rattle.reading.specs.Read.{cameOf, standsBy, stands, wordStands, brandsIn, brandsFit, Readable, Measured}
+use Rattle.reading.specs.Read.{cameOf, standsBy, stands, wordStands, staysIn, brandsIn, brandsFit, Readable, Measured}
 
 -- the lengths of a lawful reference are small
 pub was-small : (t : Track) (delta : Bool) (r : List ℕ) → t .«iv_size» ≤ 16 → (delta ≡ true → lawful t r ≡ true) → Small (wasOf t delta r)
@@ -45,6 +48,13 @@ word-stands : (F : List Row) (o : List ℕ) (end : ℕ) (index gone : List ℕ) 
 word-stands F o end index gone id b omitted h = rw (marked-omitted F o end index gone [] [] id h)
 word-stands F o end index gone id b deleted h = rw (marked-deleted F o end index gone [] [] id h)
 word-stands F o end index gone id b (sent zs) h = rw (marked-sent F o end index gone [] [] id zs h)
+
+-- a field that doesn't stand is right, and leaves no word
+unstored : (F : List Row) (o : List ℕ) (t : Track) (coding : Coding) (held : Bool) (r : List ℕ) (was : Measure) (l : Line) (m : Measure) (x : List ℕ)
+    (word : Word) → wordStands word (stood held r l) ≡ false → TakenAs (cellOf t coding held r was l m (said F o l word)) (l .place) x right x
+unstored F o t coding held r was l m x Omitted e = take-none F o t coding held r was l m Omitted x right refl e refl
+unstored F o t coding held r was l m x Deleted e = take-deleted F o t coding held r was l m Deleted x right refl refl
+unstored F o t coding held r was l m x (Sent s) e = absurd (false≢true (sym e))
 
 -- the brands' bytes are as many as the index says
 brand-count : (F : List Row) (o index bs : List ℕ) → HeldAs F o (length o) index [] [] 23 bs → getD index 70 0 ≡ length bs
@@ -83,9 +93,8 @@ module _ (F : List Row) (o index gone : List ℕ) (t : Track) (a : Against) (r :
     mark-of = let k = kinded i lt in h .marked .each (getD lines i spare .id) (k .small) (eqb-false _ _ (k .plain))
 
     -- a line's mark is that of what is said of it
-    pub stands-is : wordStands (wordIn index gone (getD lines i spare .id)) (stood (a .held) r (getD lines i spare))
-        ≡ stands t (a .held) r (saysIn F o index) (getD lines i spare)
-    unfolding stands
+    pub stands-is : staysIn index gone (a .held) r (getD lines i spare) ≡ stands t (a .held) r (saysIn F o index) (getD lines i spare)
+    unfolding staysIn stands
     stands-is = word-stands F o (length o) index gone (getD lines i spare .id) (stood (a .held) r (getD lines i spare))
         (sayingOf (saysIn F o index) (getD lines i spare .id)) mark-of
 
@@ -116,3 +125,11 @@ module _ (F : List Row) (o index gone : List ℕ) (t : Track) (a : Against) (r :
               was-is,
               said-is F o (length o) index gone [] [] (getD lines i spare) (kinded i lt) (sayingOf (saysIn F o index) (getD lines i spare .id)) mark-of,
             )
+
+    -- a line whose field doesn't stand has nothing to take
+    pub skipped : (b : Bool) → b ≡ staysIn index gone (a .held) r (getD lines i spare) → b ≡ false → (m : Measure) (x : List ℕ)
+        → TakenAs (cameOf t (a .held) r (saysIn F o index) m (getD lines i spare)) (getD lines i spare .place) x right x
+    unfolding staysIn
+    skipped b eb e m x =
+        rw (← taken-is (getD lines i spare) refl (wordIn index gone (getD lines i spare .id)) refl m)
+        (unstored F o t (a .coding) (a .held) r (a .was) (getD lines i spare) m x (wordIn index gone (getD lines i spare .id)) (sym eb ∙ e))

@@ -13,11 +13,9 @@ use Rattle.track.specs.declared.Track.{Track}
 use Rattle.fieldset.specs.declared.lines.Line.{Line}
 use Rattle.fieldset.specs.Lines.{lines, spare}
 use Rattle.fieldset.proofs.LineLaws.{line-count}
-use Rattle.fields.specs.declared.said.Word.{Word}
-use Rattle.fields.specs.Said.{wordIn, saysIn}
-use Rattle.fields.specs.Cells.{stood}
+use Rattle.fields.specs.Said.{saysIn}
 use Rattle.reading.specs.declared.read.Against.{Against}
-use Rattle.reading.specs.Read.{wordStands, marksIn, marks, stands, Readable}
+use Rattle.reading.specs.Read.{staysIn, marksIn, marks, stands, Readable}
 use Rattle.reading.proofs.ReadableLaws.{stands-is}
 
 -- the marks of the first i of n lines, and zeros
@@ -57,45 +55,35 @@ marks-all g ls i h =
     let z : length ls - i ≡ 0 = omega arith in
     rw (z, take-all i ls h) (append-nil (map g ls))
 
--- the line stands, by the words of its id and the reference's mark
-unfoldable pub standsIn : List ℕ → List ℕ → Bool → List ℕ → Line → Bool
-standsIn index gone held r l = wordStands (wordIn index gone (l .id)) (stood held r l)
-
 module _ (index gone : List ℕ) (held : Bool) (r : List ℕ) where
   -- the marks of the lines before i are stored
   pub record Marking (m : List ℕ) (i : ℕ) : Type 0 where
     pub high : i ≤ 14
-    pub done : m ≡ marksTo (λ l. cond (standsIn index gone held r l) 1 0) lines i
+    pub done : m ≡ marksTo (λ l. cond (staysIn index gone held r l) 1 0) lines i
 
   pub marking-start : Marking (replicate 14 0) 0
-  marking-start = record { high = omega arith; done = rw line-count at (marks-none (λ l. cond (standsIn index gone held r l) 1 0) lines) }
+  marking-start = record { high = omega arith; done = rw line-count at (marks-none (λ l. cond (staysIn index gone held r l) 1 0) lines) }
 
   module _ (m : List ℕ) (i : ℕ) (h : Marking m i) where
     pub marking-end : 14 ≤ i → m ≡ marksIn index gone held r
-    unfolding standsIn
-    marking-end le = h .done ∙ marks-all (λ l. cond (standsIn index gone held r l) 1 0) lines i (omega (arith, line-count))
+    marking-end le = h .done ∙ marks-all (λ l. cond (staysIn index gone held r l) 1 0) lines i (omega (arith, line-count))
 
-    module _ (lt : i < 14) (l : Line) (el : l ≡ getD lines i spare) (word : Word) (ew : word ≡ wordIn index gone (l .id)) (b : Bool)
-        (eb : b ≡ wordStands word (stood held r l)) where
-      by-line : b ≡ standsIn index gone held r (getD lines i spare)
-      unfolding standsIn
-      by-line = eb ∙ rw (ew, el)
-
+    module _ (lt : i < 14) (b : Bool) (eb : b ≡ staysIn index gone held r (getD lines i spare)) where
       -- a line that stands
       pub marking-set : b ≡ true → (n : List ℕ) → n ≡ set m i 1 → Marking n (i + 1)
       marking-set e n en =
           let k : i < length lines = omega (arith, line-count) in
-          let s : set (marksTo (λ l. cond (standsIn index gone held r l) 1 0) lines i) i 1
-          ≡ marksTo (λ l. cond (standsIn index gone held r l) 1 0) lines (suc i) =
-          rw (← by-line, e) at (mark-set (λ l. cond (standsIn index gone held r l) 1 0) lines i k) in
+          let s : set (marksTo (λ l. cond (staysIn index gone held r l) 1 0) lines i) i 1
+          ≡ marksTo (λ l. cond (staysIn index gone held r l) 1 0) lines (suc i) =
+          rw (← eb, e) at (mark-set (λ l. cond (staysIn index gone held r l) 1 0) lines i k) in
           record { high = omega arith; done = en ∙ ap (λ (z : List ℕ). set z i 1) (h .done) ∙ rw add-one s }
 
       -- and one that doesn't
       pub marking-keep : b ≡ false → (n : List ℕ) → n ≡ m → Marking n (i + 1)
       marking-keep e n en =
           let k : i < length lines = omega (arith, line-count) in
-          let z : _≡_ {A = ℕ} (cond (standsIn index gone held r (getD lines i spare)) 1 0) 0 = rw (← by-line, e) in
-          record { high = omega arith; done = en ∙ h .done ∙ rw add-one (mark-keep (λ l. cond (standsIn index gone held r l) 1 0) lines i k z) }
+          let z : _≡_ {A = ℕ} (cond (staysIn index gone held r (getD lines i spare)) 1 0) 0 = rw (← eb, e) in
+          record { high = omega arith; done = en ∙ h .done ∙ rw add-one (mark-keep (λ l. cond (staysIn index gone held r l) 1 0) lines i k z) }
 
 -- marks that are the same line by line
 map-same : (g h : Line → ℕ) (ls : List Line) → ((i : ℕ) → i < length ls → g (getD ls i spare) ≡ h (getD ls i spare)) → map g ls ≡ map h ls
@@ -106,5 +94,5 @@ map-same g h (l ∷ ls) e = λ j. e 0 (omega arith) j ∷ map-same g h ls (λ i 
 pub marks-said : (F : List Row) (o index gone : List ℕ) (t : Track) (a : Against) (r : List ℕ) → Readable F o index gone t a r
     → marksIn index gone (a .held) r ≡ marks t (a .held) r (saysIn F o index)
 marks-said F o index gone t a r h =
-    map-same (λ l. cond (wordStands (wordIn index gone (l .id)) (stood (a .held) r l)) 1 0) (λ l. cond (stands t (a .held) r (saysIn F o index) l) 1 0) lines
+    map-same (λ l. cond (staysIn index gone (a .held) r l) 1 0) (λ l. cond (stands t (a .held) r (saysIn F o index) l) 1 0) lines
     (λ i lt. rw (stands-is F o index gone t a r h i (omega (arith, line-count))))

@@ -8,12 +8,12 @@ use mathlib.Core.List.{List}
 use lib.ListN.{length, getD}
 use lib.Seq.{slice, slice-cons, slice-empty, sets}
 use Rattle.laws.specs.Tests.{_and_}
-use Rattle.laws.proofs.TestLaws.{and-next, and-end, and-left, and-right}
+use Rattle.laws.proofs.TestLaws.{and-is, and-next, and-end, and-left, and-right}
 use Rattle.fieldset.specs.declared.lines.Line.{Line}
 use Rattle.fieldset.specs.Lines.{every, lines, spare, setLen}
 use Rattle.fieldset.proofs.LineLaws.{line-count}
 use Rattle.fields.specs.declared.cells.Cell.{Cell}
-use Rattle.fields.specs.Cells.{Came, wordsOf, told, TakenAs}
+use Rattle.fields.specs.Cells.{Came, wordsOf, told, right, TakenAs}
 use Rattle.fields.specs.Words.{storeAll}
 use Rattle.reading.specs.Read.{TakenAll}
 
@@ -35,6 +35,10 @@ rest-end p from to i b le ge h =
     let e : i ≡ to = omega arith in
     sym (rw (e, slice-empty to lines) (and-end b)) ∙ h
 
+-- a test that holds changes nothing
+and-true : (b : Bool) → (b && true) ≡ b
+and-true b = sym (and-is b true) ∙ and-end b
+
 -- the lines from one number up to the one at i are taken
 pub record Taking (f : Line → Came) (from to : ℕ) (x₀ x : List ℕ) (first second within : Bool) (i : ℕ) : Type 0 where
   pub high : i ≤ to
@@ -53,6 +57,11 @@ module _ (f : Line → Came) (from to : ℕ) (x₀ : List ℕ) where
   unfolding _and_
   taking-start h k e =
       record { high = h; last = k; words = e; long = refl; firsts = refl; seconds = refl; withins = refl; stored = λ _ _ _. refl }
+
+  -- what is known under other names
+  pub taking-as : {x y : List ℕ} {first second within a b c : Bool} {i : ℕ} → Taking f from to x₀ y a b c i
+      → x ≡ y → first ≡ a → second ≡ b → within ≡ c → Taking f from to x₀ x first second within i
+  taking-as h ex ea eb ec = rw (ex, ea, eb, ec) h
 
   module _ (x : List ℕ) (first second within : Bool) (i : ℕ) (h : Taking f from to x₀ x first second within i) where
     -- all are
@@ -100,3 +109,8 @@ module _ (f : Line → Came) (from to : ℕ) (x₀ : List ℕ) where
                 ∙ sym one
                 ∙ h .stored (and-left first (c .first) p) (and-left second (c .second) q) (and-left within (c .within) s);
           }
+
+      -- one that has nothing to take
+      pub taking-skip : TakenAs (f (getD lines i spare)) (getD lines i spare .place) x right x → Taking f from to x₀ x first second within (i + 1)
+      taking-skip k =
+          rw (and-true first, and-true second, and-true within) at (taking-next (getD lines i spare) refl (f (getD lines i spare)) refl right x k)

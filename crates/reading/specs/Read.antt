@@ -100,8 +100,12 @@ wordStands Omitted stood = stood
 wordStands Deleted stood = false
 wordStands (Sent s) stood = true
 
+-- the field of a line stands, by the words of its id and the reference's mark
+unfoldable pub staysIn : List ℕ → List ℕ → Bool → List ℕ → Line → Bool
+staysIn index gone held r l = wordStands (wordIn index gone (l .id)) (stood held r l)
+
 abbrev pub marksIn : List ℕ → List ℕ → Bool → List ℕ → List ℕ
-marksIn index gone held r = map (λ l. cond (wordStands (wordIn index gone (l .id)) (stood held r l)) 1 0) lines
+marksIn index gone held r = map (λ l. cond (staysIn index gone held r l) 1 0) lines
 
 abbrev pub againstOf : Track → Bool → List ℕ → Against
 againstOf t delta r = record { coding = codingFor delta; held = delta; was = wasOf t delta r }

@@ -2,19 +2,18 @@
 ghost use mathlib.Core.Path.{_≡_};
 ghost use mathlib.Core.Bool.{true};
 ghost use Prim.Native.Nat.{_≤_, _<_};
-ghost use lib.ListN.{length, replicate};
+ghost use lib.ListN.{length, getD, replicate};
 ghost use lib.Seq.{slice};
 ghost use Rattle.wire.specs.Form.{rows};
-ghost use Rattle.fieldset.specs.Lines.{lines, setLen};
+ghost use Rattle.fieldset.specs.Lines.{lines, spare, setLen};
 ghost use Rattle.fieldset.specs.Lawful.{lawful};
 ghost use Rattle.wire.specs.declared.zigzag.Reached.the-variants.{To};
 ghost use Rattle.fields.specs.Said.{saysIn, scalarIn, Telling};
 ghost use Rattle.fields.specs.Words.{noFields, setWords};
-ghost use Rattle.reading.specs.Read.{againstOf, countFrom, countReached, brandsIn, wordStands, marksIn, cameOf, newWords, fieldRungs, setRungs, Readable, Measured, TakenAll, ReadAs};
+ghost use Rattle.reading.specs.Read.{againstOf, countFrom, countReached, brandsIn, staysIn, marksIn, cameOf, newWords, fieldRungs, setRungs, Readable, Measured, TakenAll, ReadAs};
 use fields::cells;
 use fields::cells::Cell;
 use fields::said;
-use fields::said::Word;
 use fieldset::lawful;
 use fieldset::lines;
 use fieldset::lines::Measure;
@@ -71,15 +70,14 @@ fn brands_fit(index: &[u64]) -> bool
     (index[69] == 0) | ((index[70] != 0) & (index[70] % 4 == 0))
 }
 
-// Whether a field stands in the new set, by what is said of it and whether it stood in the reference.
-fn stands_by(word: Word, stood: bool) -> bool
-    ensures { λ r. ⌜ r ≡ wordStands word stood ⌝ }
+// Whether the field of the line with the number i stands in the new set: it is sent, or stood and isn't deleted.
+fn stays(index: &[u64], gone: &[u64], held: bool, r: &[u64], i: usize) -> bool
+    requires { ⌜ (i < 14) × (length (now index) ≡ 84) × (length (now gone) ≡ 28) × (length (now r) ≡ setLen) ⌝ }
+    ensures { λ b. ⌜ b ≡ staysIn (now (index .entry)) (now (gone .entry)) held (now (r .entry)) (getD lines i spare) ⌝ }
 {
-    match word {
-        Word::Omitted => stood,
-        Word::Deleted => false,
-        Word::Sent(_) => true,
-    }
+    let id = lines::id_at(i) as usize;
+    let place = lines::place_at(i);
+    (index[id * 3] != 0) | ((gone[id] == 0) & (held & (r[place] != 0)))
 }
 
 // The marks of the fields that stand in the new set, whatever their values are: the rules of the set are asked before the values'.
@@ -90,10 +88,7 @@ fn standing(index: &[u64], gone: &[u64], held: bool, r: &[u64]) -> [u64; 14]
     let mut m = [0u64; 14];
     let mut i = 0;
     while i < lines::LINES {
-        let l = lines::line_at(i);
-        let word = said::word_of(index, gone, l.id);
-        let place = l.place;
-        if stands_by(word, held & (r[place] != 0)) {
+        if stays(index, gone, held, r, i) {
             m[i] = 1;
         }
         i += 1;
@@ -101,7 +96,8 @@ fn standing(index: &[u64], gone: &[u64], held: bool, r: &[u64]) -> [u64; 14]
     m
 }
 
-// The fields of the lines from a number up to another, with lengths that go by m.
+// The fields of the lines from a number up to another, with lengths that go by m. One that is neither sent nor carried on
+// is right as it is, and has no words.
 fn take_lines(
     form: Form,
     a: Against,
@@ -125,12 +121,14 @@ fn take_lines(
     let mut within = true;
     let mut i = from;
     while i < to {
-        let l = lines::line_at(i);
-        let word = said::word_of(index, gone, l.id);
-        let c = cells::take(form, coding, o, word, t, a.held, r, a.was, l, m, &mut *x);
-        first = first & c.first;
-        second = second & c.second;
-        within = within & c.within;
+        if stays(index, gone, a.held, r, i) {
+            let l = lines::line_at(i);
+            let word = said::word_of(index, gone, l.id);
+            let c = cells::take(form, coding, o, word, t, a.held, r, a.was, l, m, &mut *x);
+            first = first & c.first;
+            second = second & c.second;
+            within = within & c.within;
+        }
         i += 1;
     }
     Cell {

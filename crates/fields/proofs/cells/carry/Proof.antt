@@ -1,6 +1,6 @@
 -- `fields::cells::carry` meets its contract, by the laws of `proofs/CellLaws.antt`. Assumes nothing.
 use denote.Ref.{now}
-use mathlib.Core.Path.{refl, sym, _∙_, ap}
+use mathlib.Core.Path.{sym, _∙_, ap}
 use lib.ListN.{length, length-set}
 use lib.Seq.{length-sets}
 use Rattle.fields.proofs.CellLaws.{carry-ivs, carry-long, carry-same}

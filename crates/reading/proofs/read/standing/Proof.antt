@@ -1,8 +1,6 @@
 -- `reading::read::standing` meets its contract, by the laws of `proofs/StandingLaws.antt`. Assumes nothing.
 use Prim.Native.Nat.{_-_}
 use mathlib.Core.Logic.{⊎-elim}
-use native.Mathlib.Omega.{arith}
-use Rattle.reading.proofs.LeafLaws.{line-id, line-place}
 use Rattle.reading.proofs.StandingLaws.{Marking, marking-start, marking-end, marking-set, marking-keep}
 use borrow.Author.Needs.{needs}
 use Rattle.reading.proofs.read.standing.Statement.{statement}
@@ -17,23 +15,8 @@ abbrev μ-loop : tie.MeasureT-loop
 loop-holds : tie.Need-loop-holds Inv-loop μ-loop
 loop-holds c = marking-start _ _ _ _
 
-line-at-requires : tie.Need-line-at-requires Inv-loop μ-loop
-line-at-requires c κs = search needs
-
-word-of-requires : tie.Need-word-of-requires Inv-loop μ-loop
-word-of-requires c κs =
-    let p = c .before .before .before .before .before .before .pre in (line-id _ (c .before .loop-test .taken) _ (c .line-at .ensures), p .0, p .1)
-
-mul-stands-by : tie.Need-mul-stands-by Inv-loop μ-loop
-mul-stands-by c = let h = line-place _ (c .before .before .loop-test .taken) _ (c .before .line-at .ensures) in search needs
-
-shared-slice-read-stands-by : tie.Need-shared-slice-read-stands-by Inv-loop μ-loop
-shared-slice-read-stands-by c =
-    let h = line-place _ (c .before .before .before .loop-test .taken) _ (c .before .before .line-at .ensures) in
-    omega (arith, h, c .before .before .before .before .before .before .before .before .pre .2)
-
-stands-by-requires : tie.Need-stands-by-requires Inv-loop μ-loop
-stands-by-requires c κs = search needs
+stays-requires : tie.Need-stays-requires Inv-loop μ-loop
+stays-requires c κs = let p = c .before .before .before .before .before .pre in (c .loop-test .taken, p .0, p .1, p .2)
 
 mul-m : tie.Need-mul-m Inv-loop μ-loop
 mul-m c = search needs
@@ -50,18 +33,13 @@ loop-less c = search needs
 loop-again : tie.Need-loop-again Inv-loop μ-loop
 loop-again c =
     let b = c .before in
-    let w = b .before .before in
-    let l = w .before in
-    let test = l .before in
-    let loop = test .before in
-    let h = loop .loop .inv in
+    let test = b .before in
+    let h = test .before .loop .inv in
     let lt = test .loop-test .taken in
-    let el = l .line-at .ensures in
-    let ew = w .word-of .ensures in
-    let eb = b .stands-by .ensures in
+    let eb = b .stays .ensures in
     ⊎-elim
-    (λ w. marking-set _ _ _ _ _ _ h lt _ el _ ew _ eb (w .0 .taken) _ (w .1))
-    (λ w. marking-keep _ _ _ _ _ _ h lt _ el _ ew _ eb (w .0 .left) _ (w .1))
+    (λ w. marking-set _ _ _ _ _ _ h lt _ eb (w .0 .taken) _ (w .1))
+    (λ w. marking-keep _ _ _ _ _ _ h lt _ eb (w .0 .left) _ (w .1))
     (c .if1 .came)
 
 returns : tie.Need-returns Inv-loop μ-loop
@@ -74,11 +52,7 @@ standing-spec =
     Inv-loop
     μ-loop
     loop-holds
-    line-at-requires
-    word-of-requires
-    mul-stands-by
-    shared-slice-read-stands-by
-    stands-by-requires
+    stays-requires
     mul-m
     array-write-m
     add-i
