@@ -6,7 +6,7 @@ use mathlib.Core.Bool.{Bool, true, false, _&&_}
 use mathlib.Core.List.{List}
 use lib.ListN.{length}
 use Rattle.laws.specs.Tests.{_and_}
-use Rattle.laws.proofs.TestLaws.{left, right, and-left, and-right}
+use Rattle.laws.proofs.TestLaws.{left, right, both-of}
 use Rattle.track.specs.declared.Track.{Track}
 use Rattle.shape.specs.declared.parts.Part.{Part}
 use Rattle.shape.specs.declared.top.Top.{Top}
@@ -94,10 +94,6 @@ pub record BoxesHold (t : Track) (c : List ℕ) (top : Top) (f : Inner) : Type 0
   pub senc-ok : sencOk t c (f .senc) ≡ true
   pub saiz-ok : saizOk c (f .saiz) ≡ true
   pub saio-ok : saioOk c (f .saio) ≡ true
-
--- both tests of a row that holds
-pub both-of : (a b : Bool) → (a && b) ≡ true → (a ≡ true) × (b ≡ true)
-both-of a b e = (and-left a b e, and-right a b e)
 
 pub boxes-hold : (t : Track) (c : List ℕ) → boxesOk t c ≡ true → BoxesHold t c (topOf c) (innerOf c (topOf c .moof))
 unfolding boxesOk

@@ -21,7 +21,7 @@ use Rattle.chunk.specs.Events.{eventAt, eventsFrom, eventsOf}
 use Rattle.prelude.specs.Emsg.{emsgOk, emsgAt, emsgsOk, eventWords, emsgWords, keptEvents}
 use Rattle.prelude.proofs.NumberLaws.{number-lt}
 use Rattle.prelude.proofs.EmsgLaws.{Strings, strings}
-use Rattle.prelude.proofs.EventLaws.{event-in, event-numbers}
+use Rattle.prelude.proofs.EventLaws.{event-in, event-numbers, event-length, words-length}
 use Rattle.emsgs.specs.Records.{AllWords, AllIn}
 
 -- ---- lengths have 32 bits
@@ -52,10 +52,6 @@ first-narrow c at rest y e =
       message = omega (arith, n, s .scheme-from, s .value-from, s .value-to);
     }
 
-event-length : (c : List ℕ) (b : Part) → length (eventWords c b) ≡ 10
-unfolding eventWords
-event-length c b = refl
-
 all-narrow : (c : List ℕ) (k at i : ℕ) (rest : List ℕ) → Bytes c → emsgsOk c k at ≡ true → i < k
     → Narrow (drop (10 * i) (emsgWords c k at ++ rest))
 unfolding emsgWords emsgsOk
@@ -76,12 +72,6 @@ all-narrow c (suc k) at (suc i) rest y e lt =
     subst Narrow past (all-narrow c k (endOf b) i rest y (right _ _ e) (omega arith))
 
 -- ---- the words are the chunk's events
-
-words-length : (c : List ℕ) (k at : ℕ) → length (emsgWords c k at) ≡ 10 * k
-unfolding emsgWords
-words-length c zero at = refl
-words-length c (suc k) at =
-    length-append (eventWords c (emsgAt c at)) _ ∙ omega (arith, event-length c (emsgAt c at), words-length c k (endOf (emsgAt c at)))
 
 -- events look at their own words only
 event-front : (c ws rest : List ℕ) (i : ℕ) → 10 * i + 10 ≤ length ws → eventAt c (ws ++ rest) i ≡ eventAt c ws i

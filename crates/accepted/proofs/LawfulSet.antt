@@ -20,6 +20,7 @@ use Rattle.shape.proofs.TopLaws.{top-in, moof-inside}
 use Rattle.shape.proofs.InnerLaws.{inner-in, senc-inside}
 use Rattle.chunk.specs.Front.{Event}
 use Rattle.block.specs.Entries.{isSome}
+use Rattle.track.proofs.TrackLaws.{iv-size-le}
 use Rattle.prelude.specs.Styp.{brandsIn}
 use Rattle.fieldset.specs.Lines.{lines, spare, lineFor, lineNumber}
 use Rattle.fieldset.specs.Lawful.{valuesOf, saizOk, sameIvSize, measureOf, lawful}
@@ -43,7 +44,7 @@ use Rattle.gather.proofs.EntryLengths.{senc-counts}
 use Rattle.gather.proofs.FitLaws.{some-bytes}
 use Rattle.accepted.specs.Accepted.{top, inner, boxes, bmdt, fields, boxesOk, countsOk, maximaOk, lateRungs, acceptRungs}
 use Rattle.accepted.proofs.SetKeeps.{Counted, counts, lengths, counts-are, counts-none, counts-few, eleven-is, eleven-long, set-keeps}
-use Rattle.accepted.proofs.SetRules.{iv-le, set-rules}
+use Rattle.accepted.proofs.SetRules.{set-rules}
 
 -- the counts of subsamples, as the rules and as the set have them
 same-counts : (c : List ℕ) (e : Entries) (k at : ℕ) → countsFrom c e k at ≡ allCounts c e k at
@@ -122,12 +123,19 @@ module _ (t : Track) (c : List ℕ) (top : Top) (f : Inner) {events : List Event
 
 -- ---- an accepted chunk
 
+-- the maxima of its samples, and those that are asked last
+abbrev pub samplesFew : List ℕ → Bool
+samplesFew c = leb (countOf c (inner c .trun)) 64 && (leb (sencCount c (inner c .senc)) 64 && leb (sizes.saizCount c (inner c .saiz)) 64)
+
+abbrev pub restFew : List ℕ → Bool
+restFew c = leb (brandsIn (top c .styp)) 16 && (leb (top c .events) 16 && leb (bodyOf (top c .mdat) .len) 16777216)
+
 module _ (F : List Row) (t : Track) (c : List ℕ) (h : Hold (acceptRungs F t c)) where
-  boxes-right : boxesOk t c ≡ true
+  pub boxes-right : boxesOk t c ≡ true
   unfolding acceptRungs
   boxes-right = h .1 .0
 
-  counts-right : countsOk t c ≡ true
+  pub counts-right : countsOk t c ≡ true
   unfolding acceptRungs lateRungs maximaOk
   counts-right = left _ _ (h .1 .1 .0)
 
@@ -142,32 +150,27 @@ module _ (F : List Row) (t : Track) (c : List ℕ) (h : Hold (acceptRungs F t c)
       (and-right (mfhdOk c (inner c .mfhd) && tfhdOk c (inner c .tfhd)) (tfdtOk c (inner c .tfdt) && trunOk c (inner c .trun))
       (left _ _ (right _ _ (right _ _ (right _ _ boxes-right)))))
 
-  senc-right : sencOk t c (inner c .senc) ≡ true
+  pub senc-right : sencOk t c (inner c .senc) ≡ true
   unfolding boxesOk
   senc-right =
       and-left (sencOk t c (inner c .senc)) (sizes.saizOk c (inner c .saiz) && sizes.saioOk c (inner c .saio))
       (right _ _ (right _ _ (right _ _ (right _ _ boxes-right))))
 
-  abbrev samples-few : Bool
-  samples-few =
-      leb (countOf c (inner c .trun)) 64 && (leb (sencCount c (inner c .senc)) 64 && leb (sizes.saizCount c (inner c .saiz)) 64)
-
-  abbrev rest-few : Bool
-  rest-few = leb (brandsIn (top c .styp)) 16 && (leb (top c .events) 16 && leb (bodyOf (top c .mdat) .len) 16777216)
-
-  few-samples : countOf c (inner c .trun) ≤ 64
+  pub rows-few : samplesFew c ≡ true
   unfolding countsOk
+  rows-few = and-left (samplesFew c) (leb (subsamples t c (inner c .senc)) 256 && restFew c) counts-right
+
+  pub rest-few : (leb (subsamples t c (inner c .senc)) 256 && restFew c) ≡ true
+  unfolding countsOk
+  rest-few = and-right (samplesFew c) (leb (subsamples t c (inner c .senc)) 256 && restFew c) counts-right
+
+  pub few-samples : countOf c (inner c .trun) ≤ 64
   few-samples =
       leb-true _ _
-      (and-left (leb (countOf c (inner c .trun)) 64) (leb (sencCount c (inner c .senc)) 64 && leb (sizes.saizCount c (inner c .saiz)) 64)
-      (and-left samples-few (leb (subsamples t c (inner c .senc)) 256 && rest-few) counts-right))
+      (and-left (leb (countOf c (inner c .trun)) 64) (leb (sencCount c (inner c .senc)) 64 && leb (sizes.saizCount c (inner c .saiz)) 64) rows-few)
 
-  few-subsamples : subsamples t c (inner c .senc) ≤ 256
-  unfolding countsOk
-  few-subsamples =
-      leb-true _ _
-      (and-left (leb (subsamples t c (inner c .senc)) 256) rest-few
-      (and-right samples-few (leb (subsamples t c (inner c .senc)) 256 && rest-few) counts-right))
+  pub few-subsamples : subsamples t c (inner c .senc) ≤ 256
+  few-subsamples = leb-true _ _ (and-left (leb (subsamples t c (inner c .senc)) 256) (restFew c) rest-few)
 
   senc-here : Inside c (inner c .senc)
   senc-here = senc-inside (moof-inside (top-in c)) (inner-in c (top c .moof) (moof-inside (top-in c)))
@@ -176,7 +179,7 @@ module _ (F : List Row) (t : Track) (c : List ℕ) (h : Hold (acceptRungs F t c)
   all-counted low iv =
       record {
         bytes = low;
-        iv = iv-le (t .protection) (t .«iv_size») iv;
+        iv = iv-size-le (t .protection) (t .«iv_size») iv;
         few = few-samples;
         counted = λ s. protection-holds t c (top c) (inner c) (rules-protected t c (top c) (inner c) rules-right s) .counts .counted;
         summed =

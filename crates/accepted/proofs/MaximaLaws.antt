@@ -6,7 +6,7 @@ use mathlib.Core.List.{List}
 use borrow.Author.Tests.{leb-true}
 use native.Mathlib.Omega.{arith}
 use lib.Dec.{leb}
-use Rattle.laws.proofs.TestLaws.{and-left, and-right}
+use Rattle.laws.proofs.TestLaws.{and-left, and-right, both-of}
 use Rattle.track.specs.declared.Track.{Track}
 use Rattle.shape.specs.declared.parts.Part.{Part}
 use Rattle.shape.specs.declared.top.Top.{Top}
@@ -22,7 +22,7 @@ use Rattle.encryption.proofs.SencLaws.{count-some, entries-count, senc-stands}
 use Rattle.rules.specs.Rules.{Right}
 use Rattle.gather.specs.Gatherable.{Gatherable}
 use Rattle.accepted.specs.Accepted.{boxesOk, countsOk}
-use Rattle.accepted.proofs.BoxLaws.{BoxesIn, found-in, BoxesHold, found-hold, both-of}
+use Rattle.accepted.proofs.BoxLaws.{BoxesIn, found-in, BoxesHold, found-hold}
 
 -- the code's tests, of the boxes that it has found
 pub counts-by : (t : Track) (c : List ℕ) (top : Top) (f : Inner) (s : Bool) (n b : ℕ) (p : Part) → top ≡ topOf c → f ≡ innerOf c (top .moof)

@@ -9,7 +9,7 @@ use borrow.Author.Tests.{not-true}
 use lib.Dec.{eqb}
 use lib.ListN.{length, getD, take, length-map, length-take}
 use Rattle.laws.specs.Tests.{allLe, sum}
-use Rattle.laws.proofs.TestLaws.{and-right}
+use Rattle.laws.proofs.TestLaws.{and-right, one-le}
 use Rattle.media.specs.Flags.{fiveOf}
 use Rattle.track.specs.declared.Track.{Track}
 use Rattle.shape.specs.declared.inner.Inner.{Inner}
@@ -31,10 +31,10 @@ use Rattle.encryption.proofs.SencLaws.{entries-iv}
 use Rattle.gather.specs.Entries.{allIvs, allCounts}
 use Rattle.gather.specs.Set.{heldIf, heldFor, fieldOf, run, entries, several, equal, size, hasMap, raised}
 use Rattle.gather.specs.Set as G
-use Rattle.gather.proofs.EachLaws.{each-length}
+use Rattle.fragment.proofs.EachLaws.{each-length}
 use Rattle.gather.proofs.EntryLengths.{ivs-length, counts-length, all-clear-length, all-protected-length}
 use Rattle.gather.proofs.FitLaws.{Each, each-at, column-length, some-bytes}
-use Rattle.accepted.proofs.SetValues.{map-le, one-le, five-le, raised-le, other-le, zero-or-other-le}
+use Rattle.accepted.proofs.SetValues.{map-le, five-le, raised-le, other-le, zero-or-other-le}
 use Rattle.accepted.proofs.SetValues.{column-le, sizes-le, field-le, size-le, ivs-le, counts-le, clear-le, protected-le}
 
 -- ---- a field that stands has a line's length and bound; room for it has the table

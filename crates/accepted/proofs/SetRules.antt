@@ -8,7 +8,7 @@ use mathlib.Core.Logic.{_⊎_, inl, inr}
 use borrow.Author.Tests.{eqb-true, eqb-false, eq-eqb, ne-eqb, leb-true, leb-false, le-leb}
 use lib.Dec.{eqb, leb}
 use Rattle.laws.specs.Tests.{_and_, sum}
-use Rattle.laws.proofs.TestLaws.{left, right, both, and-left, and-right}
+use Rattle.laws.proofs.TestLaws.{left, right, both, and-left, and-right, either}
 use Rattle.track.specs.declared.Track.{Track}
 use Rattle.track.specs.Track.{none, cenc, ivOk}
 use Rattle.shape.specs.declared.top.Top.{Top}
@@ -21,7 +21,6 @@ use Rattle.fieldset.specs.Lawful.{setRules}
 use Rattle.fragment.specs.Words.{bitOf}
 use Rattle.fragment.specs.Rows.{durations, offsets, sampleFlags, first, hasColumn, runFlagsOk, trunOk}
 use Rattle.fragment.specs.Samples.{sizesOf}
-use Rattle.fragment.proofs.WordLaws.{either}
 use Rattle.encryption.proofs.SencLaws.{entries-iv}
 use Rattle.rules.specs.Rules.{sizesOk, unprotectedOk}
 use Rattle.rules.proofs.CountLaws.{CountsHold}
@@ -145,13 +144,6 @@ iv-cases p i =
     (λ q. let k : p ≡ 0 = eqb-true p 0 q in inr (λ z. omega arith, e))
     (λ q. let k : p ≡ 2 = eqb-true p 2 q in inr (λ z. omega arith, e))
     (and-left (eqb p 0 || eqb p 2) (eqb i 0) h))
-
-pub iv-le : (p i : ℕ) → ivOk p i ≡ true → i ≤ 16
-iv-le p i h = go (iv-cases p i h)
-  where
-    go : IvCase p i → i ≤ 16
-    go (inl k) = k .1 .1
-    go (inr k) = omega (arith, k .1)
 
 cenc-iv : (p i : ℕ) → ivOk p i ≡ true → not (eqb i 0) ≡ eqb p cenc
 cenc-iv p i h = go (iv-cases p i h)

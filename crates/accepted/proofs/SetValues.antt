@@ -13,11 +13,12 @@ use lib.Pow.{pow-add}
 use lib.Seq.{slice}
 use Rattle.laws.specs.Bytes.{de}
 use Rattle.laws.specs.Tests.{allLe}
-use Rattle.laws.proofs.BytesLaws.{pow-pos, bytes-take, bytes-drop, de-lt}
-use Rattle.laws.proofs.TestLaws.{both, allLe-append}
+use Rattle.laws.proofs.BytesLaws.{pow-pos, bytes-take, bytes-drop, de-lt, bytes-are}
+use Rattle.laws.proofs.TestLaws.{both, allLe-append, one-le}
 use Rattle.media.specs.Flags.{fiveOf}
 use Rattle.media.proofs.FlagLaws.{five-lt}
 use Rattle.tree.specs.Numbers.{u16, u32, u64}
+use Rattle.track.specs.Track.{u32 as most32}
 use Rattle.shape.specs.declared.parts.Part.{Part}
 use Rattle.fragment.specs.declared.rows.Run.{Run}
 use Rattle.fragment.specs.Words.{wordOf, bitOf}
@@ -26,14 +27,9 @@ use Rattle.fragment.specs.Rows.{sizes, columnsIn, hasColumn, cell, sizeAt}
 use Rattle.fragment.specs.Samples.{eachFrom, columnOf, sizesOf}
 use Rattle.encryption.specs.declared.entries.Entries.{Entries}
 use Rattle.encryption.specs.Entries.{pairsAt, lengthAt}
-use Rattle.rules.proofs.InfoLaws.{bytes-are}
 use Rattle.gather.specs.Entries.{ivWords, clearBytes, protectedBytes, allFrom, allIvs, allCounts, allClear, allProtected}
 use Rattle.gather.specs.Set.{allSame, raised}
-use Rattle.gather.proofs.EachLaws.{each-take}
-
--- the most that a number of four bytes can be
-abbrev pub most32 : ℕ
-most32 = 0xffff_ffff
+use Rattle.fragment.proofs.EachLaws.{each-take}
 
 -- ---- lists of numbers within a bound
 
@@ -48,11 +44,6 @@ pub map-le : (b : ℕ) (g : ℕ → ℕ) → ((v : ℕ) → g v ≤ b) → (s : 
 unfolding allLe
 map-le b g h [] = refl
 map-le b g h (x ∷ s) = both _ _ (le-leb _ _ (h x)) (map-le b g h s)
-
--- one number
-pub one-le : (b v : ℕ) → v ≤ b → allLe b (v ∷ []) ≡ true
-unfolding allLe
-one-le b v h = both _ _ (le-leb v b h) refl
 
 -- what stands for each entry of a `senc`
 entries-le : (b : ℕ) (c : List ℕ) (e : Entries) (of : ℕ → List ℕ) → ((p : ℕ) → allLe b (of p) ≡ true) → (k at : ℕ)

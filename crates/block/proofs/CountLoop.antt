@@ -6,6 +6,7 @@ use mathlib.Core.Path.{_≡_, sym, _∙_, ap}
 use mathlib.Core.List.{List}
 use lib.ListN.{length}
 use lib.Seq.{slice, length-slice}
+use borrow.Author.Tests.{lt-leb}
 use Rattle.laws.proofs.SliceLaws.{drop-slice, slice-none}
 use Rattle.wire.specs.declared.form.Row.{Row}
 use Rattle.wire.specs.declared.varint.Got.the-variants.{Cut}
@@ -16,7 +17,7 @@ use Rattle.block.specs.declared.numbers.Counted.the-variants.{Cut as Sho
 use Rattle.block.specs.Front.{Series, before}
 use Rattle.block.specs.Numbers.{numbersRun, counted, countAt, plus}
 use Rattle.block.proofs.ReadLaws.{Found}
-use Rattle.block.proofs.NumberLaws.{numbers-none, numbers-cut, numbers-one, plus-zero, counted-before, count-outside, count-inside}
+use Rattle.block.proofs.NumberLaws.{numbers-none, numbers-cut, numbers-one, plus-zero, counted-before, count-inside}
 
 pub record Counting (F : List Row) (s : List ℕ) (at end n p : ℕ) : Type 0 where
   pub bytes : end ≤ length s
@@ -25,7 +26,8 @@ pub record Counting (F : List Row) (s : List ℕ) (at end n p : ℕ) : Type 0 wh
 
 module _ (F : List Row) (s : List ℕ) (at end : ℕ) where
   pub past : length s < end → Short ≡ countAt F s at end
-  past h = sym (count-outside F s at end h)
+  unfolding countAt
+  past h = rw (lt-leb _ _ h)
 
   pub start : end ≤ length s → Counting F s at end 0 at
   start h = record { bytes = h; few = omega arith; whole = plus-zero _ ∙ sym (count-inside F s at end h) }

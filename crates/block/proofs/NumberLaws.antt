@@ -6,7 +6,7 @@ use mathlib.Core.Path.{_≡_, refl, _∙_, ap}
 use mathlib.Core.Bool.{Bool, true, false, cond}
 use mathlib.Core.List.{List, [], _∷_}
 use mathlib.Core.Option.{none, some}
-use borrow.Author.Tests.{le-leb, lt-leb}
+use borrow.Author.Tests.{le-leb}
 use lib.ListN.{length, drop}
 use lib.Seq.{slice}
 use Rattle.wire.specs.declared.form.Row.{Row}
@@ -70,10 +70,6 @@ counted-before n x r = go (r .whole)
     go false = refl
 
 module _ (F : List Row) (s : List ℕ) (at end : ℕ) where
-  pub count-outside : length s < end → countAt F s at end ≡ Short
-  unfolding countAt
-  count-outside h = rw (lt-leb _ _ h)
-
   pub count-inside : end ≤ length s → countAt F s at end ≡ counted (numbersRun F (slice at end s))
   unfolding countAt
   count-inside h = rw (le-leb _ _ h)

@@ -1,6 +1,5 @@
 -- Laws of the sizes of samples. Assumes nothing.
 use Prim.Native.Nat.{ℕ, _+_, _-_, _≤_, _<_}
-use native.Mathlib.Numerals.{add-one}
 use native.Mathlib.Omega.{arith}
 use mathlib.Core.Path.{_≡_, refl, ap}
 use mathlib.Core.Bool.{Bool, true, false, cond}
@@ -8,9 +7,10 @@ use mathlib.Core.List.{List}
 use borrow.Author.Tests.{lt-ltb, le-ltb, le-leb, lt-leb, leb-true, not-true}
 use lib.Dec.{eqb, leb, ltb}
 use lib.ListN.{length, getD}
-use lib.Seq.{slice, slice-cons}
+use lib.Seq.{slice}
 use Rattle.laws.specs.Tests.{sum}
 use Rattle.laws.proofs.SliceLaws.{slice-none}
+use Rattle.laws.proofs.TestLaws.{sum-next}
 use Rattle.track.specs.declared.Track.{Track}
 use Rattle.fieldset.specs.Lines.{lines, lineFor}
 use Rattle.fieldset.specs.Lawful.{has, valuesOf, inUse}
@@ -29,15 +29,11 @@ module _ (w : List ℕ) (from to whole : ℕ) where
   off-all h = record { fits = h; same = refl }
 
   module _ (left i : ℕ) (h : Off w from to whole left i) where
-    next : i < to → to ≤ length w → sum (slice i to w) ≡ getD w i 0 + sum (slice (i + 1) to w)
-    unfolding sum
-    next lt le = rw (add-one, slice-cons i to w 0 lt le)
-
     pub off-fits : i < to → to ≤ length w → getD w i 0 ≤ left
-    off-fits lt le = omega (arith, next lt le, h .fits)
+    off-fits lt le = omega (arith, sum-next w i to lt le, h .fits)
 
     pub off-next : i < to → to ≤ length w → Off w from to whole (left - getD w i 0) (i + 1)
-    off-next lt le = record { fits = omega (arith, next lt le, h .fits); same = omega (arith, next lt le, h .fits, h .same) }
+    off-sum-next w i to lt le = record { fits = omega (arith, sum-next w i to lt le, h .fits); same = omega (arith, sum-next w i to lt le, h .fits, h .same) }
 
     pub off-end : to ≤ i → left ≡ whole - sum (slice from to w)
     unfolding sum

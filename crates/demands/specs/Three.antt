@@ -4,9 +4,6 @@ use Prim.Native.Nat.{ℕ}
 use mathlib.Core.Path.{_≡_}
 use mathlib.Core.List.{List, [], _∷_, _++_, List·Permᴰ}
 use mathlib.Core.Option.{some}
-use Rattle.wire.specs.declared.form.Row.{Row}
-use Rattle.wire.specs.declared.form.Form.the-variants.{Rfc9000}
-use Rattle.wire.specs.Form.{rows}
 use Rattle.track.specs.declared.Asked.{Asked}
 use Rattle.slots.specs.declared.share.Side.the-variants.{Receiver}
 use Rattle.slots.specs.Table.{Out, out, onTable}
@@ -15,9 +12,7 @@ use Rattle.block.specs.Entries.{Entry}
 use Rattle.exchange.specs.Took.{Took, took, refused}
 use Rattle.receiver.specs.Object.{isDelta, headRungs, tuples, payload}
 use Rattle.receiver.specs.Receive.{receiving}
-
-abbrev F : List Row
-F = rows Rfc9000
+use Rattle.demands.specs.Two.{F}
 
 -- a call on a receiver's table: its slot, and what it is called with
 pub data Call : Type 0 where

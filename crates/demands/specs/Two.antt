@@ -19,7 +19,7 @@ use Rattle.encoder.specs.Encode.{encoding}
 use Rattle.receiver.specs.Receive.{receiving}
 use Rattle.meaning.specs.Meaning.{Meaning, meaningOf, unbranded}
 
-abbrev F : List Row
+abbrev pub F : List Row
 F = rows Rfc9000
 
 -- the object, or the chunk, that a call handed out: its front and then the payload

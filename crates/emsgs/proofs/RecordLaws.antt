@@ -12,11 +12,12 @@ use Rattle.wire.specs.declared.form.Form.{Form}
 use Rattle.wire.specs.Form.{rows, limit}
 use Rattle.wire.specs.Varint.{encode}
 use Rattle.wire.proofs.VarintLaws.{length-encode}
+use Rattle.wire.proofs.SizeLaws.{limit-62}
 use Rattle.track.specs.declared.Track.{Track}
 use Rattle.block.specs.Events.{Event, encText, encEvent, Sayable}
 use Rattle.chunk.specs.Events.{part, eventAt}
 use Rattle.emsgs.specs.Records.{scaleFor, timeFor, sent, encMarks, textBytes, recordBytes, wordsBytes, EventWords, EventIn}
-use Rattle.emsgs.proofs.NumberLaws.{scale-most, limit-32}
+use Rattle.emsgs.proofs.NumberLaws.{scale-most}
 
 -- ---- a text
 
@@ -86,7 +87,7 @@ pub sayable : (form : Form) (t : Track) (bmdt : ℕ) (c ws : List ℕ) (i : ℕ)
     → sent t bmdt (eventAt c ws i) .time < limit (rows form) → Sayable (rows form) (sent t bmdt (eventAt c ws i))
 unfolding sent eventAt
 sayable form t bmdt c ws i w h lt =
-    let l = limit-32 form in
+    let l = limit-62 form in
     record {
       scheme = omega (arith, w .scheme-lt, part-length c _ _ (h .scheme));
       value = omega (arith, w .value-lt, part-length c _ _ (h .value));

@@ -2,7 +2,7 @@
 use Prim.Native.Nat.{ℕ, _+_, _≤_}
 use native.Mathlib.Omega.{arith}
 use mathlib.Core.Path.{_≡_, ap}
-use mathlib.Core.Bool.{Bool, true, _&&_}
+use mathlib.Core.Bool.{Bool, true}
 use mathlib.Core.List.{List}
 use lib.ListN.{length, drop}
 use Rattle.laws.specs.Writes.{Wrote}
@@ -12,6 +12,7 @@ use Rattle.block.specs.Entries.{isSome}
 use Rattle.track.specs.declared.Track.{Track}
 use Rattle.slots.specs.Share.{setAt, trackOf}
 use Rattle.chunk.specs.declared.outer.Prft.{Prft}
+use Rattle.exchange.proofs.OpenLaws.{lent}
 use Rattle.accepted.specs.declared.read.Chunk.{Chunk}
 use Rattle.accepted.specs.Accepted.{prft, brands, events, fields}
 use Rattle.writing.specs.declared.tuples.Weight.{Weight}
@@ -22,13 +23,10 @@ use Rattle.writing.specs.Fields.{fieldItems, deletionItems}
 use Rattle.writing.specs.Prft.{timesItems, versionItems, flagsItems}
 use Rattle.writing.proofs.ItemLaws.{weighed-both, weighed-within}
 use Rattle.writing.proofs.PutLaws.{Left, left-start, left-first, left-next, put-needs}
+use Rattle.writing.proofs.SetLaws.{Sum}
 use Rattle.encoder.specs.Object.{brandItems, eventItems, blockItems}
 use Rattle.encoder.specs.Planned.{Encodable}
-use Rattle.encoder.proofs.GivenLaws.{lent, prft-is, same-sets}
-
--- two weights as one
-abbrev pub Sum : Weight → Weight → Weight → Type 0
-Sum v w u = (u .fits ≡ (v .fits && w .fits)) × (u .bytes ≡ v .bytes + w .bytes)
+use Rattle.encoder.proofs.GivenLaws.{prft-is, same-sets}
 
 -- the parts of the block, and what follows each of them
 module _ (F : List Row) (s c : List ℕ) (delta : Bool) where

@@ -1,32 +1,26 @@
 -- How long a block can be. Assumes nothing.
-use Prim.Native.Nat.{ℕ, suc, _+_, _*_, _/_, _≤_, zero-le, max}
+use Prim.Native.Nat.{ℕ, suc, _+_, _*_, _/_, _≤_, zero-le}
 use native.Mathlib.Nat.{mul-le-mul}
 use native.Mathlib.Omega.{arith}
-use mathlib.Core.Path.{_≡_, refl, ap}
+use mathlib.Core.Path.{_≡_}
 use mathlib.Core.Bool.{Bool, true, false, cond}
 use mathlib.Core.List.{List, [], _∷_, _++_}
 use mathlib.Core.Option.{none, some}
 use borrow.Author.Tests.{leb-true}
-use lib.Dec.{eqb, ltb}
+use lib.Dec.{eqb}
 use lib.ListN.{length, getD, take, length-append, length-take, length-drop}
 use lib.Seq.{slice}
-use Rattle.laws.specs.Bytes.{be}
 use Rattle.laws.specs.Tests.{_and_, sum}
-use Rattle.laws.proofs.BytesLaws.{length-be}
 use Rattle.laws.proofs.TestLaws.{left, right}
 use Rattle.wire.specs.declared.form.Row.{Row}
-use Rattle.wire.specs.declared.form.Form.{Form}
-use Rattle.wire.specs.declared.form.Form.the-variants.{Rfc9000}
-use Rattle.wire.specs.declared.form.Found.{Found}
-use Rattle.wire.specs.declared.form.Found.the-variants.{In, Past}
 use Rattle.wire.specs.declared.zigzag.Coding.{Coding}
 use Rattle.wire.specs.declared.zigzag.Coding.the-variants.{Plain}
 use Rattle.wire.specs.declared.zigzag.Coded.{Coded}
 use Rattle.wire.specs.declared.zigzag.Coded.the-variants.{Number, TooWide}
-use Rattle.wire.specs.Form.{rows, cap, byValue, longest}
-use Rattle.wire.specs.Varint.{encode, sizeOf}
+use Rattle.wire.specs.Form.{longest}
+use Rattle.wire.specs.Varint.{encode}
 use Rattle.wire.specs.Zigzag.{codeOf}
-use Rattle.wire.proofs.VarintLaws.{encode-in, size-in, size-past}
+use Rattle.wire.proofs.SizeLaws.{encode-size, size-longest}
 use Rattle.runs.specs.declared.Measured.{Measured}
 use Rattle.runs.specs.declared.Measured.the-variants.{Bytes}
 use Rattle.runs.specs.declared.Measured.the-variants.{TooWide as TooMany}
@@ -46,40 +40,8 @@ use Rattle.writing.specs.Items.{Items, nothing, _before_, itemsIf, numberItem, 
 use Rattle.writing.specs.Changes.{onChange, news, olds, changeOf, sentItems, lineItems}
 use Rattle.writing.specs.Fields.{isDeleted, goneOf, linesItems, bmdtItems, countItems, fieldItems, deletionItems}
 use Rattle.writing.specs.Prft.{timesItems, unlessItems, versionItems, flagsItems}
+use Rattle.writing.proofs.WideLaws.{wide-length}
 use Rattle.encoder.specs.Object.{brandItems, eventItems}
-
--- ---- a varint
-
--- a number has at most the bytes that it counts as
-encode-size : (F : List Row) (v : ℕ) → length (encode F v) ≤ sizeOf F v
-unfolding encode
-encode-size F v = go (byValue F v) refl
-  where
-    go : (f : Found) → byValue F v ≡ f → length (encode F v) ≤ sizeOf F v
-    go (In r) e = omega (arith, ap length (encode-in F v r e), length-be (r .tail) v, size-in F v r e)
-    go Past e = rw e zero-le
-
--- and at most those of the longest varint
-found-longest : (F : List Row) (v : ℕ) (r : Row) → byValue F v ≡ In r → suc (r .tail) ≤ longest F
-unfolding byValue longest
-found-longest [] v r e = let z : _≡_ {A = ℕ} 0 1 = cc in absurd (omega arith)
-found-longest (q ∷ F) v r e = go (ltb v (cap q)) e (found-longest F v r)
-  where
-    go : (b : Bool) → cond b (In q) (byValue F v) ≡ In r → (byValue F v ≡ In r → suc (r .tail) ≤ longest F)
-        → suc (r .tail) ≤ max (suc (q .tail)) (longest F)
-    go true h k = let z : q ≡ r = cc in omega (arith, ap (λ (y : Row). y .tail) z)
-    go false h k = omega (arith, k h)
-
-size-longest : (F : List Row) (v : ℕ) → sizeOf F v ≤ longest F
-size-longest F v = go (byValue F v) refl
-  where
-    go : (f : Found) → byValue F v ≡ f → sizeOf F v ≤ longest F
-    go (In r) e = omega (arith, size-in F v r e, found-longest F v r e)
-    go Past e = omega (arith, size-past F v e)
-
-pub longest-eight : (form : Form) → longest (rows form) ≤ 8
-unfolding longest
-longest-eight Rfc9000 = omega arith
 
 -- ---- items
 
@@ -156,11 +118,6 @@ module _ (F : List Row) (eight : longest F ≤ 8) where
       go TooMany = zero-le
 
   -- ---- a field
-
-  wide-length : (ws : List ℕ) → length (wideBytes ws) ≡ 8 * length ws
-  unfolding wideBytes
-  wide-length [] = refl
-  wide-length (w ∷ ws) = omega (arith, length-append (be 8 w) (wideBytes ws), length-be 8 w, wide-length ws)
 
   module _ (t : Track) (delta : Bool) (r x : List ℕ) where
     news-length : (l : Line) → length (news t delta r x l) ≤ wanted (l .want) (measureOf t x)

@@ -16,18 +16,18 @@ use Rattle.wire.specs.declared.form.Row.{Row}
 use Rattle.wire.specs.declared.form.Form.{Form}
 use Rattle.wire.specs.Form.{rows, limit}
 use Rattle.wire.specs.Varint.{encode, sizeOf}
+use Rattle.wire.proofs.SizeLaws.{limit-62}
 use Rattle.block.specs.Written.{run}
-use Rattle.emsgs.proofs.NumberLaws.{limit-32}
 use Rattle.track.specs.declared.Track.{Track}
 use Rattle.shape.specs.declared.parts.Part.{Part}
 use Rattle.accepted.specs.declared.read.Chunk.{Chunk}
 use Rattle.accepted.specs.Accepted.{bytesAt, brandsOf, brands}
 use Rattle.writing.specs.declared.tuples.Weight.{Weight}
 use Rattle.writing.specs.Items.{nothing, itemsIf, bytesOf, WeighedAs}
+use Rattle.writing.proofs.ItemLaws.{run-parts, run-bytes}
 use Rattle.encoder.specs.Object.{brandItems}
 use Rattle.encoder.specs.Planned.{Encodable}
 use Rattle.encoder.proofs.GivenLaws.{brands-is, brands-inside}
-use Rattle.encoder.proofs.RunLaws.{run-parts, run-bytes}
 
 -- ---- the items, by the brands
 
@@ -108,8 +108,8 @@ module _ (form : Form) {t : Track} {s c : List ℕ} {k : Chunk} {ws x : List ℕ
     pub brands-weighed : {m : ℕ} {w : Weight} → (m ≡ sizeOf (rows form) 23 + (sizeOf (rows form) (n - 4) + (n - 4))) × (m ≤ 16 + (n - 4))
         → (w .fits ≡ true) × (w .bytes ≡ m) → WeighedAs (rows form) (brandItems delta (brands c)) 80 w
     brands-weighed {m} {w} f g =
-        let p : 23 < limit (rows form) = omega (arith, limit-32 form) in
-        let q : length (brands c) < limit (rows form) = omega (arith, limit-32 form, names-length, h .brands-few) in
+        let p : 23 < limit (rows form) = omega (arith, limit-62 form) in
+        let q : length (brands c) < limit (rows form) = omega (arith, limit-62 form, names-length, h .brands-few) in
         let b : length (bytesOf (rows form) (some (run 23 (brands c) ∷ []))) ≡ sizeOf (rows form) 23 + (sizeOf (rows form) (n - 4) + (n - 4)) =
         run-bytes (rows form) 23 (brands c) p q ∙ ap (λ (i : ℕ). sizeOf (rows form) 23 + (sizeOf (rows form) i + i)) names-length in
         rw brands-some (record { fits = g .0; bytes = λ z. g .1 ∙ f .0 ∙ sym b; small = omega (arith, g .1, f .1, h .brands-few) })

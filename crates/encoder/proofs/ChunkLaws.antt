@@ -1,18 +1,18 @@
 -- What is known of a chunk that was accepted. Assumes nothing.
-use Prim.Native.Nat.{ℕ, suc, _+_, _-_, _/_, _%_, _^_, _≤_, _<_}
+use Prim.Native.Nat.{ℕ, _+_, _-_, _/_, _%_, _^_, _≤_, _<_}
 use native.Mathlib.Omega.{arith}
 use mathlib.Core.Path.{_≡_, refl, sym, _∙_, ap, subst}
 use mathlib.Core.Logic.{_⊎_, inl, inr}
 use mathlib.Core.Bool.{Bool, true, false, false≢true, _&&_, _||_}
-use mathlib.Core.List.{List, [], _∷_}
-use borrow.Author.Tests.{leb-true, le-leb, eqb-true, eqb-false}
+use mathlib.Core.List.{List}
+use borrow.Author.Tests.{leb-true, eqb-true, eqb-false}
 use lib.Dec.{eqb, leb}
 use lib.ListN.{length, getD, take, drop, length-append, length-take, length-drop}
-use Rattle.laws.specs.Tests.{_and_, allLe}
-use Rattle.laws.specs.Bytes.{Bytes}
+use Rattle.laws.specs.Tests.{allLe}
 use Rattle.laws.proofs.LadderLaws.{Hold, Numbered}
 use Rattle.laws.proofs.SliceLaws.{slice-lent}
 use Rattle.laws.proofs.TestLaws.{left, right, and-left, and-right}
+use Rattle.laws.proofs.BytesLaws.{bytes-are}
 use Rattle.wire.specs.declared.form.Row.{Row}
 use Rattle.track.specs.declared.Track.{Track}
 use Rattle.track.specs.Track.{ivOk}
@@ -34,8 +34,8 @@ use Rattle.prelude.proofs.StypLaws.{brands-some}
 use Rattle.fragment.specs.Headers.{mfhdOk, tfdtOk}
 use Rattle.fragment.specs.Defaults.{tfhdOk}
 use Rattle.fragment.specs.Rows.{trunOk, countOf}
-use Rattle.encryption.specs.Entries.{sencOk, sencCount, subsamples}
-use Rattle.encryption.specs.Sizes.{saizOk, saizCount, saioOk}
+use Rattle.encryption.specs.Entries.{sencCount, subsamples}
+use Rattle.encryption.specs.Sizes.{saizCount}
 use Rattle.encryption.proofs.SencLaws.{senc-stands, count-some, entries-count}
 use Rattle.emsgs.specs.Records.{listBytes}
 use Rattle.fields.specs.Words.{setWords}
@@ -44,28 +44,8 @@ use Rattle.gather.specs.Set.{chunkSet, fieldOf}
 use Rattle.gather.specs.Gatherable.{Gatherable}
 use Rattle.gather.proofs.FitLaws.{all-fit}
 use Rattle.exchange.proofs.AcceptedLaws.{Ranged}
-use Rattle.accepted.specs.Accepted.{top, inner, bmdt, prft, payload, brandsOf, brands, events, fields, bytesAt, boxesOk, countsOk, maximaOk, lateRungs, acceptRungs}
-use Rattle.accepted.proofs.LawfulSet.{chunk-lawful}
-
--- ---- bytes
-
--- a list of bytes, by its test
-bytes-of : (c : List ℕ) → allLe 255 c ≡ true → Bytes c
-unfolding allLe
-bytes-of [] e = tt
-bytes-of (b ∷ c) e =
-    let h : b ≤ 255 = leb-true b 255 (left _ _ e) in
-    (omega arith, bytes-of c (right _ _ e))
-
--- every number of a list, one by one
-each-le : (b : ℕ) (xs : List ℕ) → ((i : ℕ) → getD xs i 0 ≤ b) → allLe b xs ≡ true
-unfolding allLe _and_
-each-le b [] h = refl
-each-le b (x ∷ xs) h = rw (le-leb x b (h 0)) (each-le b xs (λ i. h (suc i)))
-
--- every byte of a slice of them
-pub all-bytes : (c : List ℕ) → ((i : ℕ) → getD c i 0 < 256) → allLe 255 c ≡ true
-all-bytes c h = each-le 255 c (λ i. let k = h i in omega arith)
+use Rattle.accepted.specs.Accepted.{top, inner, bmdt, prft, payload, brandsOf, brands, events, fields, bytesAt, boxesOk, maximaOk, lateRungs, acceptRungs}
+use Rattle.accepted.proofs.LawfulSet.{chunk-lawful, restFew, boxes-right, senc-right, rows-few, rest-few, few-samples, few-subsamples}
 
 -- ---- the tests one by one
 
@@ -83,20 +63,12 @@ version-or v m h k = go (eqb v 0) refl
     go false q = let n : v ≡ 0 → ⊥ = eqb-false v 0 q in inl (omega arith)
 
 module _ (F : List Row) (t : Track) (c : List ℕ) (h : Hold (acceptRungs F t c)) where
-  boxes-right : boxesOk t c ≡ true
-  unfolding acceptRungs
-  boxes-right = h .1 .0
-
-  counts-right : countsOk t c ≡ true
-  unfolding acceptRungs lateRungs maximaOk
-  counts-right = left _ _ (h .1 .1 .0)
-
   -- the boxes at the top
   outer-right : (stypOk (top c .styp) ≡ true) × (prftOk c (top c .prft) ≡ true)
   unfolding boxesOk
   outer-right =
       let e : (stypOk (top c .styp) && (prftOk c (top c .prft) && emsgsOk c (top c .events) (top c .emsgs .at))) ≡ true =
-      left _ _ (right _ _ (right _ _ boxes-right)) in (
+      left _ _ (right _ _ (right _ _ (boxes-right F t c h))) in (
         and-left (stypOk (top c .styp)) (prftOk c (top c .prft) && emsgsOk c (top c .events) (top c .emsgs .at)) e,
         and-left (prftOk c (top c .prft)) (emsgsOk c (top c .events) (top c .emsgs .at))
             (and-right (stypOk (top c .styp)) (prftOk c (top c .prft) && emsgsOk c (top c .events) (top c .emsgs .at)) e),
@@ -105,33 +77,12 @@ module _ (F : List Row) (t : Track) (c : List ℕ) (h : Hold (acceptRungs F t c)
   -- and those of the `traf`
   head-right : ((mfhdOk c (inner c .mfhd) && tfhdOk c (inner c .tfhd)) && (tfdtOk c (inner c .tfdt) && trunOk c (inner c .trun))) ≡ true
   unfolding boxesOk
-  head-right = left _ _ (right _ _ (right _ _ (right _ _ boxes-right)))
-
-  senc-right : sencOk t c (inner c .senc) ≡ true
-  unfolding boxesOk
-  senc-right =
-      and-left (sencOk t c (inner c .senc)) (saizOk c (inner c .saiz) && saioOk c (inner c .saio))
-      (right _ _ (right _ _ (right _ _ (right _ _ boxes-right))))
-
-  -- the maxima
-  abbrev lastCounts : Bool
-  lastCounts = leb (brandsIn (top c .styp)) 16 && (leb (top c .events) 16 && leb (bodyOf (top c .mdat) .len) 16777216)
-
-  abbrev rowCounts : Bool
-  rowCounts = leb (countOf c (inner c .trun)) 64 && (leb (sencCount c (inner c .senc)) 64 && leb (saizCount c (inner c .saiz)) 64)
-
-  rows-few : rowCounts ≡ true
-  unfolding countsOk
-  rows-few = and-left rowCounts (leb (subsamples t c (inner c .senc)) 256 && lastCounts) counts-right
-
-  rest-few : (leb (subsamples t c (inner c .senc)) 256 && lastCounts) ≡ true
-  unfolding countsOk
-  rest-few = and-right rowCounts (leb (subsamples t c (inner c .senc)) 256 && lastCounts) counts-right
+  head-right = left _ _ (right _ _ (right _ _ (right _ _ (boxes-right F t c h))))
 
   brands-counted : brandsIn (top c .styp) ≤ 16
   brands-counted =
       leb-true _ _ (and-left (leb (brandsIn (top c .styp)) 16) (leb (top c .events) 16 && leb (bodyOf (top c .mdat) .len) 16777216)
-      (and-right (leb (subsamples t c (inner c .senc)) 256) lastCounts rest-few))
+      (and-right (leb (subsamples t c (inner c .senc)) 256) (restFew c) (rest-few F t c h)))
 
   -- ---- the brands
 
@@ -207,7 +158,7 @@ module _ (F : List Row) (t : Track) (c : List ℕ) (h : Hold (acceptRungs F t c)
           let m : versionAt c timing ≡ 0 → mediaTime c timing ≤ 0xffff_ffff =
           λ v.
           let k : prftOf c timing .media < 2 ^ 32 =
-          prft-media c timing (bytes-of c e) (prft-inside (top-in c)) (outer-right .1) (ap (λ (p : Prft). p .version) (sym s) ∙ v) in
+          prft-media c timing (bytes-are c e) (prft-inside (top-in c)) (outer-right .1) (ap (λ (p : Prft). p .version) (sym s) ∙ v) in
           omega (arith, k, ap (λ (p : Prft). p .media) s) in
           subst Ranged s
           ((λ z. absurd (false≢true (sym z))), (λ z. (f .version, version-or (versionAt c timing) (mediaTime c timing) (f .version) m, omega arith)))
@@ -221,7 +172,7 @@ module _ (F : List Row) (t : Track) (c : List ℕ) (h : Hold (acceptRungs F t c)
       let n : InnerIn c (top c .moof) (inner c) = inner-in c (top c .moof) m in
       let a = and-left (mfhdOk c (inner c .mfhd) && tfhdOk c (inner c .tfhd)) (tfdtOk c (inner c .tfdt) && trunOk c (inner c .trun)) head-right in
       let b = and-right (mfhdOk c (inner c .mfhd) && tfhdOk c (inner c .tfhd)) (tfdtOk c (inner c .tfdt) && trunOk c (inner c .trun)) head-right in
-      let r = and-right (leb (countOf c (inner c .trun)) 64) (leb (sencCount c (inner c .senc)) 64 && leb (saizCount c (inner c .saiz)) 64) rows-few in
+      let r = and-right (leb (countOf c (inner c .trun)) 64) (leb (sencCount c (inner c .senc)) 64 && leb (saizCount c (inner c .saiz)) 64) (rows-few F t c h) in
       let s : sencCount c (inner c .senc) ≤ 64 =
       leb-true _ _ (and-left (leb (sencCount c (inner c .senc)) 64) (leb (saizCount c (inner c .saiz)) 64) r) in
       record {
@@ -232,14 +183,12 @@ module _ (F : List Row) (t : Track) (c : List ℕ) (h : Hold (acceptRungs F t c)
         trun-in = trun-inside m n;
         trun-ok = and-right (tfdtOk c (inner c .tfdt)) (trunOk c (inner c .trun)) b;
         senc-in = senc-inside m n;
-        senc-ok = senc-right;
-        samples =
-            leb-true _ _
-            (and-left (leb (countOf c (inner c .trun)) 64) (leb (sencCount c (inner c .senc)) 64 && leb (saizCount c (inner c .saiz)) 64) rows-few);
+        senc-ok = senc-right F t c h;
+        samples = few-samples F t c h;
         entries =
             λ z.
-            omega (arith, entries-count t c (inner c .senc), count-some c (inner c .senc) (senc-stands t c (inner c .senc) senc-right z), s);
-        subsamples = leb-true _ _ (and-left (leb (subsamples t c (inner c .senc)) 256) lastCounts rest-few);
+            omega (arith, entries-count t c (inner c .senc), count-some c (inner c .senc) (senc-stands t c (inner c .senc) (senc-right F t c h) z), s);
+        subsamples = few-subsamples F t c h;
         iv = iv;
       }
 

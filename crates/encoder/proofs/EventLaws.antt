@@ -11,22 +11,22 @@ use Rattle.wire.specs.declared.form.Row.{Row}
 use Rattle.wire.specs.declared.form.Form.{Form}
 use Rattle.wire.specs.Form.{rows, limit}
 use Rattle.wire.specs.Varint.{encode, sizeOf}
+use Rattle.wire.proofs.SizeLaws.{limit-62}
 use Rattle.block.specs.Entries.{isSome}
 use Rattle.block.specs.Events.{Event, encEvents}
 use Rattle.block.specs.Written.{run}
 use Rattle.track.specs.declared.Track.{Track}
 use Rattle.chunk.specs.Events.{eventsFrom, eventsOf}
 use Rattle.emsgs.specs.Records.{allSent, listBytes, timesFit, AllWords, AllIn}
-use Rattle.emsgs.proofs.NumberLaws.{limit-32}
 use Rattle.emsgs.proofs.ListLaws.{times-any, encoded-bytes}
 use Rattle.accepted.specs.declared.read.Chunk.{Chunk}
 use Rattle.accepted.specs.Accepted.{events}
 use Rattle.writing.specs.declared.tuples.Weight.{Weight}
 use Rattle.writing.specs.Items.{Items, nothing, bytesOf, WeighedAs}
+use Rattle.writing.proofs.ItemLaws.{run-parts, run-bytes}
 use Rattle.encoder.specs.Object.{eventItems}
 use Rattle.encoder.specs.Planned.{Encodable}
 use Rattle.encoder.proofs.GivenLaws.{events-is, bmdt-is}
-use Rattle.encoder.proofs.RunLaws.{run-parts, run-bytes}
 
 -- ---- the items, by the events
 
@@ -105,8 +105,8 @@ module _ (form : Form) {t : Track} {s c : List ℕ} {k : Chunk} {ws x : List ℕ
 
       events-bytes : length (bytesOf F (eventItems F (events t c))) ≡ sizeOf F 25 + (sizeOf F (k .list) + k .list)
       events-bytes =
-          let p : 25 < limit F = omega (arith, limit-32 form) in
-          let q : length (encEvents F es) < limit F = omega (arith, limit-32 form, list-long, h .accepted .listed .short) in
+          let p : 25 < limit F = omega (arith, limit-62 form) in
+          let q : length (encEvents F es) < limit F = omega (arith, limit-62 form, list-long, h .accepted .listed .short) in
           ap length bytes-are
           ∙ run-bytes F 25 (encEvents F es) p q
           ∙ ap (λ (i : ℕ). sizeOf F 25 + (sizeOf F i + i)) list-long

@@ -15,7 +15,7 @@ use Rattle.wire.specs.declared.form.Form.{Form}
 use Rattle.wire.specs.Form.{rows, limit}
 use Rattle.wire.specs.Varint.{encode, sizeOf}
 use Rattle.wire.proofs.VarintLaws.{length-encode}
-use Rattle.emsgs.proofs.NumberLaws.{limit-32}
+use Rattle.wire.proofs.SizeLaws.{limit-62}
 use Rattle.block.specs.Entries.{isSome}
 use Rattle.slots.specs.Share.{heldAt}
 use Rattle.accepted.specs.Accepted.{bmdt}
@@ -122,6 +122,6 @@ module _ (form : Form) {s c : List ℕ} {wish : Bool} {a : Plan} (p : PlannedAs 
   pub front-length : {h : ℕ} → h ≡ headerOf (a .delta)
       → sizeOf (rows form) h + (sizeOf (rows form) (a .block) + a .block) ≡ length (front (rows form) s c wish)
   front-length {h} e =
-      let i : headerOf (a .delta) < limit (rows form) = omega (arith, limit-32 form, header-small (a .delta)) in
-      let j : a .block < limit (rows form) = omega (arith, limit-32 form, p .small) in
+      let i : headerOf (a .delta) < limit (rows form) = omega (arith, limit-62 form, header-small (a .delta)) in
+      let j : a .block < limit (rows form) = omega (arith, limit-62 form, p .small) in
       rw e (omega (arith, front-bytes p f, length-encode (rows form) (headerOf (a .delta)) i, length-encode (rows form) (a .block) j))

@@ -7,17 +7,16 @@ use mathlib.Core.List.{List}
 use borrow.Author.Tests.{ne-eqb}
 use borrow.Rule.Slice.PartAt.{part-to-end}
 use lib.Dec.{leb}
-use lib.ListN.{length, getD, take, drop, length-drop}
+use lib.ListN.{length, getD, drop}
 use Rattle.laws.proofs.TestLaws.{left, right}
 use Rattle.wire.specs.declared.form.Row.{Row}
 use Rattle.track.specs.declared.Track.{Track}
 use Rattle.track.proofs.TrackLaws.{ranges}
-use Rattle.fieldset.specs.Lines.{setLen}
 use Rattle.fieldset.specs.Lawful.{lawful}
 use Rattle.fields.proofs.SetLaws.{words-start}
 use Rattle.slots.specs.declared.share.Side.the-variants.{Encoder}
 use Rattle.slots.specs.Share.{setAt, askedOf, trackOf}
-use Rattle.exchange.proofs.OpenLaws.{Opened, opened-facts, held-facts}
+use Rattle.exchange.proofs.OpenLaws.{Opened, opened-facts, held-facts, lent, reference-long}
 use Rattle.shape.specs.Parts.{bodyOf, endOf}
 use Rattle.shape.proofs.PartLaws.{body-in}
 use Rattle.shape.proofs.TopLaws.{top-in, styp-inside}
@@ -27,10 +26,6 @@ use Rattle.accepted.specs.Accepted.{top, bmdt, prft, fields}
 use Rattle.writing.specs.declared.cells.Basis.{Basis}
 use Rattle.writing.specs.Changes.{basisOf, Writable}
 use Rattle.encoder.specs.Planned.{Encodable, Held}
-
--- the reference as it is lent
-abbrev pub lent : List ℕ → List ℕ
-lent s = take (length s - setAt) (drop setAt s)
 
 -- the set has BMDT
 start-is : (t : Track) (c : List ℕ) → getD (fields t c) 0 0 ≡ bmdt c
@@ -76,14 +71,11 @@ module _ {F : List Row} {t : Track} {s c : List ℕ} {k : Chunk} {ws x : List �
   facts : Opened Encoder s
   facts = opened-facts Encoder s (h .on-share .lawful-share) (h .on-share .opened)
 
-  old-long : length (drop setAt s) ≡ setLen
-  old-long = omega (arith, length-drop setAt s, h .on-share .share)
-
   -- the sets can be written: in a delta there is a reference
   pub writable : (delta : Bool) → Held delta s → Writable t delta (lent s) x
   writable delta held =
       record {
-        old-words = rw (part-to-end s setAt) old-long;
+        old-words = rw (part-to-end s setAt) (reference-long s (h .on-share .share));
         new-words = h .set-long;
         old =
             λ d.

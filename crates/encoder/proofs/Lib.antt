@@ -1,5 +1,4 @@
 pub mod GivenLaws
-pub mod RunLaws
 pub mod BrandLaws
 pub mod EventLaws
 pub mod BlockLaws

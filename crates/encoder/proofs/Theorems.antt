@@ -7,14 +7,16 @@ use mathlib.Core.Bool.{Bool, true, false, not, _&&_, _||_}
 use mathlib.Core.List.{List, _++_}
 use borrow.Author.Tests.{leb-true, not-true}
 use lib.Dec.{eqb}
-use lib.ListN.{length, getD, take, drop, length-append, length-drop}
-use lib.Seq.{take-append-seam, drop-append-seam}
+use lib.ListN.{length, getD, take, drop}
+use lib.Seq.{take-append-seam}
 use Rattle.laws.specs.Tests.{_and_, allLe}
 use Rattle.laws.specs.Ladder.{Rung, ladder, Given}
-use Rattle.laws.proofs.LadderLaws.{Hold, Numbered, numberOf, given, given-one, ladder-append, ladder-seen, all-hold, climbed}
+use Rattle.laws.proofs.LadderLaws.{Hold, Numbered, numberOf, given, given-one, ladder-append, ladder-seen, all-hold, climbed, climbs-all, hold-front, hold-back, nonzero, numbered}
 use Rattle.laws.proofs.TestLaws.{left, and-left, and-right}
+use Rattle.laws.proofs.WriteLaws.{front-stays}
 use Rattle.wire.specs.declared.form.Row.{Row}
 use Rattle.wire.specs.Form.{rows, longest}
+use Rattle.wire.proofs.SizeLaws.{longest-eight}
 use Rattle.track.proofs.TrackLaws.{ranges}
 use Rattle.fieldset.specs.Lines.{setLen}
 use Rattle.slots.specs.declared.share.Side.the-variants.{Encoder}
@@ -22,17 +24,16 @@ use Rattle.slots.specs.Share.{shareLen, acceptedAt, heldAt, prftAt, setAt, aske
 use Rattle.slots.specs.Table.{Out, shareAt, tableRungs, onTable}
 use Rattle.slots.specs.Laws.{after, Keeps, Apart}
 use Rattle.slots.proofs.Apart.{apart, others-stay}
-use Rattle.exchange.specs.Took.{Took, refused}
-use Rattle.exchange.proofs.HoldLaws.{climbs-all, hold-front, hold-back, nonzero, numbered}
+use Rattle.exchange.specs.Took.{Took, refused, PastStays}
 use Rattle.exchange.proofs.OpenLaws.{Opened, opened-facts, held-facts}
 use Rattle.exchange.proofs.AcceptedLaws.{accepted-long, accepted-lawful}
 use Rattle.accepted.specs.Accepted.{bmdt, prft, brands, events, fields, lateRungs, acceptRungs}
 use Rattle.encoder.specs.Object.{blockItems, mayDelta, givesDelta, fitsOk, front}
 use Rattle.encoder.specs.Encode.{refusing, lastRungs, chunkRungs, encodeRungs, kept, done, encoding}
-use Rattle.encoder.specs.Laws.{EncodeExactly, EncodeStaysLawful, Refused, EncodeRefuses, PastStays, EncodePast, BlockFits, EncodeOnly, EncodeMakes}
+use Rattle.encoder.specs.Laws.{EncodeExactly, EncodeStaysLawful, Refused, EncodeRefuses, EncodePast, BlockFits, EncodeOnly, EncodeMakes}
 use Rattle.encoder.proofs.ChunkLaws.{brands-length, list-few, prft-ranged, fields-long, fields-lawful}
 use Rattle.encoder.proofs.EncodeLaws.{iv-right}
-use Rattle.encoder.proofs.BlockSizes.{Most, longest-eight, before-most, fields-most, deletions-most, times-most, version-most, flags-most, brands-most, events-most}
+use Rattle.encoder.proofs.BlockSizes.{Most, before-most, fields-most, deletions-most, times-most, version-most, flags-most, brands-most, events-most}
 
 -- ---- numbers
 
@@ -86,15 +87,6 @@ passed F wish c output s h =
     }
 
 -- ---- the output
-
--- the front fits the output, whose length stays, and so do the bytes past the front
-front-stays : (front output : List ℕ) → length front ≤ length output
-    → (length (front ++ drop (length front) output) ≡ length output)
-    × (drop (length front) (front ++ drop (length front) output) ≡ drop (length front) output)
-front-stays front output h = (
-  omega (arith, length-append front (drop (length front) output), length-drop (length front) output),
-  drop-append-seam front (drop (length front) output),
-)
 
 pub encode-past : EncodePast
 unfolding encoding

@@ -3,7 +3,7 @@ use Prim.Native.Nat.{ℕ, _≤_}
 use mathlib.Core.Path.{_≡_}
 use mathlib.Core.Bool.{Bool, true}
 use mathlib.Core.List.{List, [], _++_}
-use lib.ListN.{length, take, drop}
+use lib.ListN.{length, take}
 use Rattle.laws.specs.Tests.{allLe}
 use Rattle.laws.specs.Ladder.{Given}
 use Rattle.wire.specs.declared.form.Row.{Row}
@@ -12,7 +12,7 @@ use Rattle.wire.specs.Form.{rows}
 use Rattle.slots.specs.declared.share.Side.the-variants.{Encoder}
 use Rattle.slots.specs.Share.{shareLen, lawful}
 use Rattle.slots.specs.Table.{Out, shareAt, tableRungs, onTable}
-use Rattle.exchange.specs.Took.{Took, refused}
+use Rattle.exchange.specs.Took.{Took, refused, PastStays}
 use Rattle.writing.specs.Items.{bytesOf}
 use Rattle.accepted.specs.Accepted.{payload}
 use Rattle.encoder.specs.Object.{blockItems, givesDelta, front}
@@ -52,12 +52,6 @@ pub record Refused (room s : List ℕ) (a : Out Took) : Type 0 where
 abbrev pub EncodeRefuses : Type 0
 EncodeRefuses = (F : List Row) (wish : Bool) (c output s : List ℕ) → (encoding F wish c output s .answer .number ≡ 0 → ⊥)
     → Refused output s (encoding F wish c output s)
-
--- 01: "Done reports the front's length; bytes past it stay."
-pub record PastStays (output : List ℕ) (a : Took) : Type 0 where
-  pub room : a .front ≤ length output
-  pub long : length (a .output) ≡ length output
-  pub past : drop (a .front) (a .output) ≡ drop (a .front) output
 
 abbrev pub EncodePast : Type 0
 EncodePast = (F : List Row) (wish : Bool) (c output s : List ℕ) → PastStays output (encoding F wish c output s .answer)

@@ -212,6 +212,10 @@ pub record Walking (c : List ℕ) (e : Entries) (end sum p left : ℕ) : Type 0 
 pub walk-start : (c : List ℕ) (e : Entries) (end : ℕ) → e .at ≤ end → Walking c e end 0 (e .at) (e .count)
 walk-start c e end h = record { here = h; small = omega arith; rest = more-none _ }
 
+-- how long an entry is, by what was found of it: the number of its subsamples, and the bytes after its IV
+pub length-is : (c : List ℕ) (e : Entries) (p : ℕ) {k len : ℕ} → k ≡ pairsAt c e p → len ≡ mapLength e k → e .iv + len ≡ lengthAt c e p
+length-is c e p x y = ap (λ (i : ℕ). e .iv + i) (y ∙ ap (mapLength e) x)
+
 module _ {c : List ℕ} {e : Entries} {end sum p left : ℕ} (m : e .map ≡ true) (w : end ≤ length c) (g : Walking c e end sum p left) where
   wrong-rest : Wrong ≡ entriesIn e left (slice p end c) → Wrong ≡ entriesIn e (e .count) (slice (e .at) end c)
   unfolding more
@@ -224,11 +228,8 @@ module _ {c : List ℕ} {e : Entries} {end sum p left : ℕ} (m : e .map ≡ tru
   walk-head k = omega (arith, map-yes e 0 m, g .here)
 
   module _ (k len : ℕ) (x : k ≡ pairsAt c e p) (y : len ≡ mapLength e k) where
-    len-is : e .iv + len ≡ lengthAt c e p
-    len-is = ap (λ (i : ℕ). e .iv + i) (y ∙ ap (mapLength e) x)
-
     pub walk-cut : 0 < left → e .iv + 2 ≤ end - p → end - p < e .iv + len → Wrong ≡ entriesIn e (e .count) (slice (e .at) end c)
-    walk-cut h a b = wrong-rest (here-cut c e end p w h (omega (arith, map-yes e 0 m)) (g .here) (omega (arith, len-is)))
+    walk-cut h a b = wrong-rest (here-cut c e end p w h (omega (arith, map-yes e 0 m)) (g .here) (omega (arith, length-is c e p x y)))
 
     pub walk-len : len ≡ 2 + 6 * k
     walk-len = y ∙ map-yes e k m
@@ -240,8 +241,8 @@ module _ {c : List ℕ} {e : Entries} {end sum p left : ℕ} (m : e .map ≡ tru
           small = omega (arith, g .small, walk-len);
           rest =
               sym (more-more sum k _)
-              ∙ ap₂ (λ (i j : ℕ). more sum (more i (entriesIn e (left - 1) (slice (p + j) end c)))) x len-is
-              ∙ ap (more sum) (here-on c e end p w left h (omega (arith, len-is, g .here)))
+              ∙ ap₂ (λ (i j : ℕ). more sum (more i (entriesIn e (left - 1) (slice (p + j) end c)))) x (length-is c e p x y)
+              ∙ ap (more sum) (here-on c e end p w left h (omega (arith, length-is c e p x y, g .here)))
               ∙ g .rest;
         }
 
@@ -280,6 +281,9 @@ module _ {c : List ℕ} {e : Entries} {end n p s : ℕ} (h : 0 < n) (g : Left c 
 
   pub left-head : p + (e .iv + mapLength e 0) ≤ length c
   left-head = omega (arith, head-fits, g .within)
+
+  pub left-whole : p + lengthAt c e p ≤ length c
+  left-whole = omega (arith, left-here, g .within)
 
   next : (entriesIn e (n - 1) (slice (p + lengthAt c e p) end c) ≡ With (s - pairsAt c e p)) × (pairsAt c e p ≤ s)
   next = more-inv (pairsAt c e p) s _ (here-on c e end p (g .within) n h left-here ∙ g .rest)

@@ -12,13 +12,13 @@ use lib.Seq.{slice, length-take-le, length-slice, getD-take, getD-drop, getD-app
 use Rattle.laws.specs.Tests.{allZero}
 use Rattle.laws.proofs.TestLaws.{both}
 use Rattle.laws.proofs.SliceLaws.{drop-slice, slice-between}
-use Rattle.track.specs.Track.{narrow}
+use Rattle.track.specs.Track.{narrow, u32}
 use Rattle.track.specs.Track.{lawful as lawfulTrack}
 use Rattle.track.specs.declared.Track.{Track}
 use Rattle.fieldset.specs.Lines.{setLen}
 use Rattle.fieldset.specs.Lawful.{lawful as lawfulSet}
 use Rattle.slots.specs.declared.share.Side.{Side}
-use Rattle.slots.specs.Share.{trackAt, acceptedAt, heldAt, prftAt, setAt, shareLen, u24, u32, asked, askedOf, trackOf, isOpen, acceptedOk, prftOk, referenceOk, openOk, lawful}
+use Rattle.slots.specs.Share.{trackAt, acceptedAt, heldAt, prftAt, setAt, shareLen, u24, asked, askedOf, trackOf, isOpen, acceptedOk, prftOk, referenceOk, openOk, lawful}
 use Rattle.chunk.specs.declared.outer.Prft.{Prft}
 use Rattle.exchange.specs.Kept.{prftWords, keptWords}
 use Rattle.exchange.proofs.OpenLaws.{Opened}

@@ -1,4 +1,3 @@
-pub mod HoldLaws
 pub mod OpenLaws
 pub mod KeepLaws
 pub mod AcceptedLaws

@@ -1,5 +1,5 @@
 -- An open share that is lawful. Assumes nothing.
-use Prim.Native.Nat.{ℕ}
+use Prim.Native.Nat.{ℕ, _-_}
 use native.Mathlib.Omega.{arith}
 use mathlib.Core.Path.{_≡_, refl, sym, _∙_, ap}
 use mathlib.Core.Bool.{Bool, true, false}
@@ -40,6 +40,14 @@ held-facts t s h z =
     let ok : (eqb (getD s heldAt 0) 1 and prftOk s and lawfulSet t (drop setAt s)) ≡ true = rw z at h in
     (left _ _ (right _ _ ok), right _ _ (right _ _ ok))
 
+-- the words of the reference's set
+pub reference-long : (s : List ℕ) → length s ≡ shareLen → length (drop setAt s) ≡ setLen
+reference-long s l = omega (arith, length-drop setAt s)
+
+-- the set as it is lent
+abbrev pub lent : List ℕ → List ℕ
+lent s = take (length s - setAt) (drop setAt s)
+
 -- what is left of zeros
 rest-zero : (n : ℕ) (l : List ℕ) → allZero l ≡ true → allZero (drop n l) ≡ true
 rest-zero n l e = right _ _ (sym (allZero-append (take n l) (drop n l)) ∙ ap allZero (take-append-drop n l) ∙ e)
@@ -52,11 +60,8 @@ share-tidy side s l h o = go (eqb (getD s heldAt 0) 0) refl
     r : referenceOk (trackOf s) s ≡ true
     r = opened-facts side s h o .reference
 
-    long : length (drop setAt s) ≡ setLen
-    long = omega (arith, length-drop setAt s)
-
     go : (b : Bool) → eqb (getD s heldAt 0) 0 ≡ b → Tidy (drop setAt s)
     go true q =
         let z : allZero (drop prftAt s) ≡ true = rw q at r in
-        zeros-tidy (drop setAt s) long (ap allZero (sym (drop-drop 5 prftAt s)) ∙ rest-zero 5 (drop prftAt s) z)
-    go false q = lawful-tidy (trackOf s) (drop setAt s) long (held-facts (trackOf s) s r q .1)
+        zeros-tidy (drop setAt s) (reference-long s l) (ap allZero (sym (drop-drop 5 prftAt s)) ∙ rest-zero 5 (drop prftAt s) z)
+    go false q = lawful-tidy (trackOf s) (drop setAt s) (reference-long s l) (held-facts (trackOf s) s r q .1)

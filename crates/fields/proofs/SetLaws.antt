@@ -143,7 +143,7 @@ store-zeros l (some vs) h =
     rw (sets-eq (1 ∷ vs) (replicate (1 + l .room) 0) 0 k, zeros-drop (0 + suc (length vs)) (1 + l .room) (l .room - length vs) (omega arith))
 
 -- its words and its values have room
-words-fit : (l : Line) (h : Held) → Fits l h → length (wordsOf h) ≤ 1 + l .room
+pub words-fit : (l : Line) (h : Held) → Fits l h → length (wordsOf h) ≤ 1 + l .room
 words-fit l none h = omega arith
 words-fit l (some vs) h = omega arith
 

@@ -8,6 +8,7 @@ use lib.Dec.{eqb}
 use lib.ListN.{getD}
 use Rattle.laws.specs.Tests.{_and_}
 use Rattle.track.specs.declared.Track.{Track}
+use Rattle.track.specs.Track.{u32}
 use Rattle.fieldset.specs.declared.lines.Want.{Want}
 use Rattle.fieldset.specs.declared.lines.Want.the-variants.{One, LessOne, Count, Ivs, Sum}
 use Rattle.fieldset.specs.declared.lines.Absent.{Absent}
@@ -27,9 +28,6 @@ u8 = 0xff
 
 abbrev pub u16 : ℕ
 u16 = 0xffff
-
-abbrev pub u32 : ℕ
-u32 = 0xffff_ffff
 
 abbrev pub u64 : ℕ
 u64 = 0xffff_ffff_ffff_ffff

@@ -7,12 +7,12 @@ use mathlib.Core.List.{List}
 use borrow.Author.Tests.{eqb-true, eq-eqb, ne-eqb}
 use lib.Dec.{eqb}
 use Rattle.laws.specs.Tests.{_and_}
-use Rattle.laws.proofs.TestLaws.{right, and-is}
+use Rattle.laws.proofs.TestLaws.{right, and-is, either}
 use Rattle.shape.specs.declared.parts.Part.{Part}
 use Rattle.fragment.specs.Words.{wordOf, bitOf}
 use Rattle.tree.specs.Numbers.{u32}
 use Rattle.fragment.specs.Defaults.{fieldsIn, tfhdFlagsOk, tfhdOk, isField, fieldOf}
-use Rattle.fragment.proofs.WordLaws.{either, fails, four-less}
+use Rattle.fragment.proofs.WordLaws.{fails, four-less}
 
 -- ---- the four flags
 

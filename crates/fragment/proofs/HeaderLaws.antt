@@ -7,12 +7,11 @@ use mathlib.Core.List.{List}
 use borrow.Author.Tests.{eqb-true, eq-eqb, ne-eqb}
 use lib.Dec.{eqb}
 use Rattle.laws.specs.Tests.{_and_}
-use Rattle.laws.proofs.TestLaws.{left, right, and-is}
+use Rattle.laws.proofs.TestLaws.{left, right, and-is, either}
 use Rattle.shape.specs.declared.parts.Part.{Part}
 use Rattle.fragment.specs.Words.{wordOf}
 use Rattle.tree.specs.Numbers.{u32, u64}
 use Rattle.fragment.specs.Headers.{mfhdOk, tfdtOk, bmdtOf}
-use Rattle.fragment.proofs.WordLaws.{either}
 
 module _ (c : List ℕ) (b : Part) where
   -- ---- mfhd

@@ -9,7 +9,7 @@ use borrow.Author.Tests.{eqb-true, eq-eqb, ne-eqb}
 use lib.Dec.{eqb, leb}
 use lib.ListN.{length}
 use Rattle.laws.specs.Tests.{_and_}
-use Rattle.laws.proofs.TestLaws.{right, and-is}
+use Rattle.laws.proofs.TestLaws.{right, and-is, either}
 use Rattle.shape.specs.declared.parts.Part.{Part}
 use Rattle.shape.specs.Parts.{Inside}
 use Rattle.fragment.specs.Words.{wordOf, bitOf}
@@ -17,7 +17,7 @@ use Rattle.tree.specs.Numbers.{u32}
 use Rattle.fragment.specs.declared.rows.Run.{Run}
 use Rattle.fragment.specs.Rows.{columnsIn, runFlagsOk, runHead, runWidth, countOf, trunOk, runOf, RowsIn}
 use Rattle.fragment.specs.Rows.{firstFlags, isColumn, hasColumn, cell, sizeAt, durations, sizes, sampleFlags, offsets, first}
-use Rattle.fragment.proofs.WordLaws.{either, fails, and-three, four-less}
+use Rattle.fragment.proofs.WordLaws.{fails, and-three, four-less}
 
 -- ---- the four columns
 

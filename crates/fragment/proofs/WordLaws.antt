@@ -2,14 +2,9 @@
 use Prim.Native.Nat.{ℕ, _+_, _%_, _≤_, _<_}
 use native.Mathlib.Omega.{arith}
 use mathlib.Core.Path.{_≡_, refl, sym}
-use mathlib.Core.Bool.{Bool, true, false, _&&_, _||_}
+use mathlib.Core.Bool.{Bool, true, false, _&&_}
 use Rattle.laws.specs.Tests.{_and_}
 use Rattle.fragment.specs.Words.{bitOf}
-
--- what follows from each of two tests follows where one of them holds
-pub either : (P : Type 0) (a b : Bool) → (a ≡ true → P) → (b ≡ true → P) → (a || b) ≡ true → P
-either P true b f g e = f refl
-either P false b f g e = g e
 
 -- the second of two tests fails
 pub fails : (a b : Bool) → b ≡ false → false ≡ (a and b)

@@ -2,10 +2,11 @@
 use Prim.Native.Nat.{ℕ, _+_}
 use native.Mathlib.Numerals.{add-one}
 use mathlib.Core.Path.{_≡_, sym, _∙_, ap}
-use mathlib.Core.Bool.{Bool, true, false, false≢true, not}
+use mathlib.Core.Bool.{Bool, true, false, not}
 use mathlib.Core.List.{List, [], _∷_, map}
 use lib.ListN.{set}
 use lib.Seq.{sets}
+use Rattle.laws.proofs.GateLaws.{failed, held}
 use Rattle.fragment.specs.declared.rows.Run.{Run}
 use Rattle.fragment.specs.Rows.{hasColumn, cell}
 use Rattle.fragment.specs.Samples.{eachFrom, columnOf}
@@ -13,7 +14,7 @@ use Rattle.fields.specs.Cells.{wordsOf}
 use Rattle.gather.specs.declared.cells.Way.{Way}
 use Rattle.gather.specs.Ways.{valueOf}
 use Rattle.gather.specs.Set.{heldIf}
-use Rattle.gather.proofs.EachLaws.{each-map}
+use Rattle.fragment.proofs.EachLaws.{each-map}
 
 -- a way that is known under another name
 pub way-is : (v : Way) {w : Way} (x : ℕ) → w ≡ v → valueOf v x ≡ valueOf w x
@@ -35,19 +36,10 @@ module _ (x : List ℕ) (place : ℕ) {stands : Bool} where
   unfolding heldIf
   one-stored v e = rw (e, add-one)
 
--- a column that the `trun` has, or not, by what was asked
-pub had : (t : Bool) {u : Bool} → t ≡ u → not t ≡ false → u ≡ true
-had true e h = sym e
-had false e h = absurd (false≢true (sym h))
-
-missed : (t : Bool) {u : Bool} → t ≡ u → not t ≡ true → u ≡ false
-missed true e h = absurd (false≢true h)
-missed false e h = sym e
-
 module _ (c : List ℕ) (r : Run) (column : ℕ) (way : Way) (x : List ℕ) (place : ℕ) {has : Bool} (q : has ≡ hasColumn r column) where
   -- the field of a column that isn't there
   pub column-none : not has ≡ true → x ≡ sets x place (wordsOf (heldIf (hasColumn r column) (map (valueOf way) (columnOf c r column))))
-  column-none h = not-stored x place _ (missed has q h)
+  column-none h = not-stored x place _ (failed q h)
 
   -- and of one that is
   pub column-stored : not has ≡ false → {after : List ℕ}
@@ -55,5 +47,5 @@ module _ (c : List ℕ) (r : Run) (column : ℕ) (way : Way) (x : List ℕ) (pla
       → after ≡ sets x place (wordsOf (heldIf (hasColumn r column) (map (valueOf way) (columnOf c r column))))
   unfolding columnOf
   column-stored h w =
-      list-stored x place _ (had has q h)
-      (w ∙ rw (had has q h) (ap (sets (set x place 1) (place + 1)) (sym (each-map (valueOf way) (cell c r column) (r .count) 0))))
+      list-stored x place _ (held q h)
+      (w ∙ rw (held q h) (ap (sets (set x place 1) (place + 1)) (sym (each-map (valueOf way) (cell c r column) (r .count) 0))))

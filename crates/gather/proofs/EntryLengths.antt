@@ -16,7 +16,7 @@ use Rattle.encryption.specs.Entries.{entriesOf, pairsAt, lengthAt, sencOk, subs
 use Rattle.encryption.proofs.EntryLaws.{Left, left-next, left-pairs, left-last}
 use Rattle.encryption.proofs.SencLaws.{senc-left}
 use Rattle.gather.specs.Entries.{ivWords, clearBytes, protectedBytes, allFrom, allIvs, allCounts, allClear, allProtected}
-use Rattle.gather.proofs.EachLaws.{each-length}
+use Rattle.fragment.proofs.EachLaws.{each-length}
 
 -- what stands for one entry
 pub iv-length : (c : List ℕ) (k at : ℕ) → length (ivWords c k at) ≡ k

@@ -10,7 +10,7 @@ use Rattle.tree.specs.Numbers.{u16, u32, u64}
 use Rattle.fieldset.specs.Lines.{setLen}
 use Rattle.fragment.specs.Samples.{eachFrom}
 use Rattle.gather.specs.Entries.{ivWords, clearBytes, protectedBytes}
-use Rattle.gather.proofs.EachLaws.{each-length, each-none}
+use Rattle.fragment.proofs.EachLaws.{each-length, each-none}
 use Rattle.gather.proofs.StoreTwice.{set-past}
 
 -- the next of those that are left

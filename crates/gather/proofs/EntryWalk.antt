@@ -12,7 +12,7 @@ use Rattle.shape.specs.Parts.{endOf, Inside}
 use Rattle.fieldset.specs.Lines.{setLen}
 use Rattle.encryption.specs.declared.entries.Entries.{Entries}
 use Rattle.encryption.specs.Entries.{pairsAt, lengthAt, mapLength, entriesOf, sencOk, subsamples}
-use Rattle.encryption.proofs.EntryLaws.{Left, left-here, left-head, left-pairs, left-next}
+use Rattle.encryption.proofs.EntryLaws.{Left, left-head, left-pairs, left-next, length-is, left-whole}
 use Rattle.encryption.proofs.SencLaws.{senc-left, senc-stands}
 use Rattle.gather.specs.Entries.{allClear}
 use Rattle.gather.specs.Stored.{storedEntry, storedEntries}
@@ -74,16 +74,13 @@ module _ {c : List ℕ} {e : Entries} {x₀ x : List ℕ} {i j p : ℕ} (g : Ent
     walk-head = left-head some-left (g .left)
 
     pub walk-here : p + lengthAt c e p ≤ length c
-    walk-here = omega (arith, left-here some-left (g .left), g .left .within)
+    walk-here = left-whole some-left (g .left)
 
     pub walk-pairs : {k : ℕ} → k ≡ pairsAt c e p → j + k ≤ 256
     walk-pairs q = omega (arith, q, left-pairs some-left (g .left), g .some, g .most)
 
-    len-is : {k len : ℕ} → k ≡ pairsAt c e p → len ≡ mapLength e k → e .iv + len ≡ lengthAt c e p
-    len-is q r = ap (λ (n : ℕ). e .iv + n) (r ∙ ap (mapLength e) q)
-
     pub walk-fits : {k len : ℕ} → k ≡ pairsAt c e p → len ≡ mapLength e k → p + (e .iv + len) ≤ length c
-    walk-fits q r = omega (arith, len-is q r, walk-here)
+    walk-fits q r = omega (arith, length-is c e p q r, walk-here)
 
     stored-on : (n m : ℕ) → m < n
         → storedEntries c e (n - (m + 1)) (p + lengthAt c e p) (m + 1) (j + pairsAt c e p) (storedEntry c e p m j x)
@@ -97,7 +94,7 @@ module _ {c : List ℕ} {e : Entries} {x₀ x : List ℕ} {i j p : ℕ} (g : Ent
     pub walk-next : (k len : ℕ) (y : List ℕ) → k ≡ pairsAt c e p → len ≡ mapLength e k → y ≡ storedEntry c e p i j x
         → Entering c e x₀ y (i + 1) (j + k) (p + (e .iv + len))
     walk-next k len y q r w =
-        let l : e .iv + len ≡ lengthAt c e p = len-is q r in
+        let l : e .iv + len ≡ lengthAt c e p = length-is c e p q r in
         let z : e .count - (i + 1) ≡ e .count - i - 1 = omega arith in
         let s : g .all - (j + k) ≡ g .all - j - pairsAt c e p = omega (arith, q) in
         record {

@@ -24,7 +24,7 @@ use Rattle.fields.proofs.SetLaws.{Fits, AllFit}
 use Rattle.gather.specs.Entries.{allIvs, allCounts, allClear, allProtected}
 use Rattle.gather.specs.Set.{heldIf, heldFor, fieldOf, run, entries}
 use Rattle.gather.specs.Gatherable.{Gatherable}
-use Rattle.gather.proofs.EachLaws.{each-length}
+use Rattle.fragment.proofs.EachLaws.{each-length}
 use Rattle.gather.proofs.EntryLengths.{ivs-length, counts-length, all-clear-length, all-protected-length, senc-counts}
 
 -- what holds of each line of a run, holds of the one at an index

@@ -1,5 +1,4 @@
 pub mod CellLaws
-pub mod EachLaws
 pub mod EntryLengths
 pub mod EntryLoops
 pub mod EntryStores

@@ -1,9 +1,10 @@
 -- What the calls of `set` ask: the rows of the samples, whether their sizes are equal, and how many words there are. Assumes nothing.
 use Prim.Native.Nat.{ℕ, _≤_}
-use mathlib.Core.Path.{_≡_, sym, _∙_, ap, subst}
+use mathlib.Core.Path.{_≡_, sym, _∙_, subst}
 use mathlib.Core.Bool.{Bool}
 use mathlib.Core.List.{List}
-use lib.ListN.{length, getD, set, replicate, length-set, length-replicate}
+use lib.ListN.{length, getD, set, replicate, length-set}
+use Rattle.laws.proofs.ListLaws.{replicate-long}
 use Rattle.track.specs.declared.Track.{Track}
 use Rattle.shape.specs.declared.inner.Inner.{Inner}
 use Rattle.fieldset.specs.Lines.{setLen}
@@ -26,9 +27,6 @@ module _ (t : Track) (c : List ℕ) (f : Inner) where
       → equal ≡ allSame (getD (sizesOf c r (d .size)) 0 0) (sizesOf c r (d .size)) → equal ≡ G.equal t c f
   equal-is d r ed er h = h ∙ (λ j. allSame (getD (sizesOf c (er j) (ed j .size)) 0 0) (sizesOf c (er j) (ed j .size)))
 
--- zeros, and zeros with BMDT and the count
-pub zeros-long : {x : List ℕ} → x ≡ replicate setLen 0 → length x ≡ setLen
-zeros-long e = ap length e ∙ length-replicate {A = ℕ} setLen 0
-
+-- zeros with BMDT and the count
 pub begun-long : (x : List ℕ) (b n : ℕ) → x ≡ replicate setLen 0 → length (set (set x 0 b) 1 n) ≡ setLen
-begun-long x b n e = length-set (set x 0 b) 1 n ∙ length-set x 0 b ∙ zeros-long e
+begun-long x b n e = length-set (set x 0 b) 1 n ∙ length-set x 0 b ∙ replicate-long e

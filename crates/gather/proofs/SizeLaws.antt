@@ -16,7 +16,7 @@ use Rattle.fragment.specs.Rows.{sizeAt}
 use Rattle.fragment.specs.Samples.{eachFrom, sizesOf}
 use Rattle.fields.specs.Cells.{wordsOf}
 use Rattle.gather.specs.Set.{heldIf, allSame}
-use Rattle.gather.proofs.EachLaws.{each-here, each-none, each-first, each-take}
+use Rattle.fragment.proofs.EachLaws.{each-here, each-none, each-first, each-take}
 use Rattle.gather.proofs.CellLaws.{not-stored, list-stored}
 
 -- ---- whether all are equal

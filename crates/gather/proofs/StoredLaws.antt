@@ -1,10 +1,10 @@
 -- The set of a chunk, stored field by field in the order of the code. Assumes nothing.
-use Prim.Native.Nat.{ℕ, _+_, _-_, _≤_}
+use Prim.Native.Nat.{ℕ, _-_, _≤_}
 use native.Mathlib.Omega.{arith}
 use mathlib.Core.Path.{_≡_, refl, sym, _∙_, ap}
 use mathlib.Core.Bool.{Bool, not, _&&_}
 use mathlib.Core.List.{List, [], _∷_, map, map-id, append-nil}
-use mathlib.Core.Option.{none, some}
+use mathlib.Core.Option.{none}
 use lib.Dec.{eqb, leb}
 use lib.ListN.{length, getD, set, take, replicate}
 use lib.Seq.{slice, sets, set-comm}
@@ -22,7 +22,7 @@ use Rattle.fragment.specs.Rows.{hasColumn, durations, offsets, sampleFlags, fir
 use Rattle.fragment.specs.Samples.{columnOf, sizesOf}
 use Rattle.fields.specs.Cells.{Held, wordsOf}
 use Rattle.fields.specs.Words.{setWords, noFields, storeAll, regionsOf}
-use Rattle.fields.proofs.SetLaws.{Fits, AllFit, store-run, words-none, words-bmdt}
+use Rattle.fields.proofs.SetLaws.{AllFit, store-run, words-none, words-bmdt, words-fit}
 use Rattle.gather.specs.declared.cells.Way.the-variants.{Plain, Raised, Five}
 use Rattle.gather.specs.Ways.{valueOf}
 use Rattle.gather.specs.Set.{heldIf, heldFor, fieldOf, chunkSet}
@@ -44,11 +44,6 @@ stored-all b n f h =
 begun : (b n : ℕ) → set (set (replicate setLen 0) 0 b) 1 n ≡ setWords b n noFields
 begun b n =
     set-comm (replicate setLen 0) 0 1 b n (λ z. omega (arith, z)) ∙ ap (λ (w : List ℕ). set w 0 b) (words-none n) ∙ words-bmdt 0 b n noFields
-
--- a field's words have room with its mark
-words-fit : (l : Line) (h : Held) → Fits l h → length (wordsOf h) ≤ 1 + l .room
-words-fit l none h = omega arith
-words-fit l (some vs) h = omega arith
 
 -- id 12 may be stored before ids 9 and 11
 earlier : (z a b w : List ℕ) → length a ≤ 129 → length b ≤ 65 → sets (sets (sets z 463 w) 269 a) 398 b ≡ sets (sets (sets z 269 a) 398 b) 463 w

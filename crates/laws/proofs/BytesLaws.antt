@@ -3,12 +3,16 @@ use Prim.Native.Nat.{ℕ, zero, suc, _+_, _*_, _/_, _%_, _^_, _≤_, _<_}
 use native.Mathlib.Nat.{zero-add, suc-add, zero-mul, add-mul, mul-assoc, add-assoc, mul-comm, div-div-eq-div-mul, mod-one, div-one, mod-eq-of-lt, pow-succ', one-le-pow}
 use native.Mathlib.Omega.{arith}
 use mathlib.Core.Path.{_≡_, refl, sym, _∙_, ap}
+use mathlib.Core.Bool.{true}
 use mathlib.Core.List.{List, [], _∷_, _++_}
+use borrow.Author.Tests.{leb-true}
 use lib.ListN.{length, length-append, getD, take, drop}
 use lib.Arith.{mod-mul, digits-lt}
 use lib.Pow.{pow-add}
 use lib.Dec.{lit<}
 use Rattle.laws.specs.Bytes.{be, de, Bytes}
+use Rattle.laws.specs.Tests.{allLe}
+use Rattle.laws.proofs.TestLaws.{left, right}
 
 pub pow-pos : (k : ℕ) → 0 < 256 ^ k
 pow-pos k = one-le-pow k 256 (lit< tt)
@@ -62,6 +66,12 @@ de-be-small k v h = de-be k v ∙ mod-eq-of-lt h
 pub are-bytes : (s : List ℕ) → ((i : ℕ) → getD s i 0 < 256) → Bytes s
 are-bytes [] h = tt
 are-bytes (b ∷ s) h = (h 0, are-bytes s (λ i. h (suc i)))
+
+-- the same by a test
+pub bytes-are : (s : List ℕ) → allLe 255 s ≡ true → Bytes s
+unfolding allLe
+bytes-are [] e = tt
+bytes-are (b ∷ s) e = let h : b ≤ 255 = leb-true b 255 (left _ _ e) in (omega arith, bytes-are s (right _ _ e))
 
 pub bytes-take : (n : ℕ) (s : List ℕ) → Bytes s → Bytes (take n s)
 bytes-take zero [] h = tt

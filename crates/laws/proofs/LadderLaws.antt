@@ -2,10 +2,14 @@
 use Prim.Native.Nat.{ℕ}
 use mathlib.Core.Path.{_≡_, refl, sym, _∙_, ap}
 use mathlib.Core.Logic.{_⊎_, inl, inr}
-use mathlib.Core.Bool.{Bool, true, false, false≢true}
+use mathlib.Core.Bool.{Bool, true, false, false≢true, not}
 use mathlib.Core.List.{List, [], _∷_, _++_}
+use borrow.Author.Tests.{eqb-false, not-true}
+use lib.Dec.{eqb}
 use Rattle.laws.specs.Gate.{gate}
 use Rattle.laws.specs.Ladder.{Rung, _else_, ladder, Given}
+use Rattle.laws.specs.Tests.{_and_}
+use Rattle.laws.proofs.TestLaws.{left, right}
 
 -- the number that a ladder gives
 abbrev pub numberOf : List Rung → ℕ
@@ -65,6 +69,16 @@ module _ {A : Type 0} (P : A → Type 0) (refuse : ℕ → A) where
       go true q k = k q
       go false q k = e .0
 
+-- what holds of every refusal holds of those that a ladder can give
+each : {A : Type 0} (P : A → Type 0) (refuse : ℕ → A) → ((k : ℕ) → P (refuse k)) → (rs : List Rung) → Each P refuse rs
+each P refuse h [] = tt
+each P refuse h (r ∷ rs) = (h (r .number), each P refuse h rs)
+
+-- what holds of every refusal, and of what is done where every test holds, holds of what the ladder gives
+pub climbs-all : {A : Type 0} (P : A → Type 0) (refuse : ℕ → A) (rs : List Rung) (done : A) → ((k : ℕ) → P (refuse k)) → (Hold rs → P done)
+    → P (ladder rs refuse done)
+climbs-all P refuse rs done h d = climbs P refuse rs done (each P refuse h rs) d
+
 -- one ladder on top of another is one ladder
 pub ladder-append : {A : Type 0} (rs qs : List Rung) (refuse : ℕ → A) (done : A) → ladder (rs ++ qs) refuse done ≡ ladder rs refuse (ladder qs refuse done)
 unfolding ladder
@@ -90,6 +104,16 @@ abbrev pub Numbered : List Rung → Type 0
 Numbered [] = Unit {0}
 Numbered (r ∷ rs) = (r .number ≡ 0 → ⊥) × Numbered rs
 
+-- no rung refuses with 0, as a test
+unfoldable pub nonzero : List Rung → Bool
+nonzero [] = true
+nonzero (r ∷ rs) = not (eqb (r .number) 0) and nonzero rs
+
+pub numbered : (rs : List Rung) → nonzero rs ≡ true → Numbered rs
+unfolding nonzero
+numbered [] e = tt
+numbered (r ∷ rs) e = (eqb-false (r .number) 0 (not-true _ (left _ _ e)), numbered rs (right _ _ e))
+
 -- the number 0 says that every test holds
 pub all-hold : (rs : List Rung) → Numbered rs → numberOf rs ≡ 0 → Hold rs
 unfolding ladder gate
@@ -99,6 +123,15 @@ all-hold (r ∷ rs) n e = go (r .test) refl (all-hold rs (n .1)) e
     go : (b : Bool) → r .test ≡ b → (numberOf rs ≡ 0 → Hold rs) → gate b (r .number) (numberOf rs) ≡ 0 → (r .test ≡ true) × Hold rs
     go true q h z = (q, h z)
     go false q h z = absurd (n .0 z)
+
+-- both parts of a ladder that holds
+pub hold-front : (rs qs : List Rung) → Hold (rs ++ qs) → Hold rs
+hold-front [] qs h = tt
+hold-front (r ∷ rs) qs h = (h .0, hold-front rs qs (h .1))
+
+pub hold-back : (rs qs : List Rung) → Hold (rs ++ qs) → Hold qs
+hold-back [] qs h = h
+hold-back (r ∷ rs) qs h = hold-back rs qs (h .1)
 
 module _ {A : Type 0} (refuse : ℕ → A) (done : A) where
   -- where every test holds, what is done
@@ -125,3 +158,15 @@ module _ {A : Type 0} (rs qs : List Rung) (refuse : ℕ → A) (done : A) where
 
   pub stopped-on : (numberOf rs ≡ 0 → ⊥) → refuse (numberOf rs) ≡ ladder (rs ++ qs) refuse done
   stopped-on n = sym (ladder-append rs qs refuse done ∙ stopped refuse (ladder qs refuse done) rs n)
+
+-- two ladders that begin alike, and agree from there on where the first part holds
+pub agree : {A : Type 0} (refuse : ℕ → A) (rs qs qs′ : List Rung) (done done′ : A) → (Hold rs → ladder qs refuse done ≡ ladder qs′ refuse done′)
+    → ladder (rs ++ qs) refuse done ≡ ladder (rs ++ qs′) refuse done′
+unfolding ladder gate
+agree refuse [] qs qs′ done done′ h = h tt
+agree {A} refuse (r ∷ rs) qs qs′ done done′ h = go (r .test) refl (λ q. agree refuse rs qs qs′ done done′ (λ k. h (q, k)))
+  where
+    go : (b : Bool) → r .test ≡ b → (r .test ≡ true → ladder (rs ++ qs) refuse done ≡ ladder (rs ++ qs′) refuse done′)
+        → gate b (refuse (r .number)) (ladder (rs ++ qs) refuse done) ≡ gate b (refuse (r .number)) (ladder (rs ++ qs′) refuse done′)
+    go true q k = k q
+    go false q k = refl

@@ -6,6 +6,7 @@ pub mod WriteLaws
 pub mod GateLaws
 pub mod LadderLaws
 pub mod TestLaws
+pub mod RowLaws
 pub mod WalkLaws
 pub mod ByLengthLaws
 pub mod LeftLaws

@@ -1,15 +1,17 @@
 -- Laws of tests: a row of tests taken apart and put together, and what one number that collects bits says of all. Assumes nothing.
 use Prim.Native.Nat.{ℕ, zero, suc, _+_, _-_, _*_, _/_, _%_, _^_, _≤_, _<_, max}
 use native.Mathlib.Nat.{zero-add, add-assoc, suc-mul}
+use native.Mathlib.Numerals.{add-one}
 use native.Mathlib.Omega.{arith}
 use mathlib.Core.Path.{_≡_, refl, sym, _∙_, ap, ap₂}
-use mathlib.Core.Bool.{Bool, true, false, false≢true, _&&_}
+use mathlib.Core.Bool.{Bool, true, false, false≢true, _&&_, _||_}
 use mathlib.Core.List.{List, [], _∷_, _++_}
 use borrow.Author.Tests.{eqb-true, eq-eqb, ne-eqb, eqb-false, leb-true, leb-false, le-leb, lt-leb}
 use lib.Dec.{eqb, leb}
 use lib.Arith.{bin-ind, digits-mod}
 use lib.Bits.{bitOr, bitAnd, or-add-and, and-le-l, and-le-r, or-lt, or-step, or-shr}
-use lib.ListN.{length, replicate}
+use lib.ListN.{length, getD, replicate}
+use lib.Seq.{slice, slice-cons}
 use Rattle.laws.specs.Tests.{_and_, allZero, allLe, allBits, sum}
 
 -- both halves of a row of tests that holds
@@ -35,6 +37,23 @@ and-left false b e = e
 pub and-right : (a b : Bool) → (a && b) ≡ true → b ≡ true
 and-right true b e = e
 and-right false b e = absurd (false≢true e)
+
+pub both-of : (a b : Bool) → (a && b) ≡ true → (a ≡ true) × (b ≡ true)
+both-of a b e = (and-left a b e, and-right a b e)
+
+-- what follows from each of two tests follows where one of them holds
+pub either : (P : Type 0) (a b : Bool) → (a ≡ true → P) → (b ≡ true → P) → (a || b) ≡ true → P
+either P true b f g e = f refl
+either P false b f g e = g e
+
+-- a test that holds leaves the one behind it, and one that fails decides
+pub and-true : {a : Bool} (b : Bool) → a ≡ true → (a and b) ≡ b
+unfolding _and_
+and-true b e = simp e
+
+pub and-false : {a : Bool} (b : Bool) → a ≡ false → (a and b) ≡ false
+unfolding _and_
+and-false b e = simp e
 
 -- a row of tests is what code makes of it
 pub and-is : (a b : Bool) → (a and b) ≡ (a && b)
@@ -80,6 +99,19 @@ unfolding allLe _and_
 allLe-append b [] ys = refl
 allLe-append b (x ∷ xs) ys = ap (λ (c : Bool). leb x b and c) (allLe-append b xs ys) ∙ sym (and-assoc (leb x b) (allLe b xs) (allLe b ys))
 
+-- every number keeps a bound, one by one; of one number, and of bytes
+pub each-le : (b : ℕ) (xs : List ℕ) → ((i : ℕ) → getD xs i 0 ≤ b) → allLe b xs ≡ true
+unfolding allLe
+each-le b [] h = refl
+each-le b (x ∷ xs) h = both _ _ (le-leb x b (h 0)) (each-le b xs (λ i. h (suc i)))
+
+pub one-le : (b v : ℕ) → v ≤ b → allLe b (v ∷ []) ≡ true
+unfolding allLe
+one-le b v h = both _ _ (le-leb v b h) refl
+
+pub all-bytes : (s : List ℕ) → ((i : ℕ) → getD s i 0 < 256) → allLe 255 s ≡ true
+all-bytes s h = each-le 255 s (λ i. let k = h i in omega arith)
+
 -- zeros keep every bound
 pub zeros-le : (b : ℕ) (s : List ℕ) → allZero s ≡ true → allLe b s ≡ true
 unfolding allZero allLe
@@ -92,6 +124,11 @@ pub sum-append : (xs ys : List ℕ) → sum (xs ++ ys) ≡ sum xs + sum ys
 unfolding sum
 sum-append [] ys = sym (zero-add (sum ys))
 sum-append (x ∷ xs) ys = ap (λ (n : ℕ). x + n) (sum-append xs ys) ∙ sym (add-assoc x (sum xs) (sum ys))
+
+-- the sum of a part: its first number, and the others
+pub sum-next : (w : List ℕ) (i to : ℕ) → i < to → to ≤ length w → sum (slice i to w) ≡ getD w i 0 + sum (slice (i + 1) to w)
+unfolding sum
+sum-next w i to lt le = rw (add-one, slice-cons i to w 0 lt le)
 
 -- numbers within a bound: their sum
 pub sum-most : (b : ℕ) (s : List ℕ) → allLe b s ≡ true → sum s ≤ length s * b
@@ -135,11 +172,8 @@ or-le k a b =
     (λ e.
     let p : a ≤ 2 ^ k - 1 = leb-true _ _ (left _ _ e) in
     let q : b ≤ 2 ^ k - 1 = leb-true _ _ (right _ _ e) in
-    let o : 1 ≤ 2 ^ k = one-le in
+    let o : 1 ≤ 2 ^ k = lib.Pow.pow-pos k in
     le-leb (bitOr a b) (2 ^ k - 1) (omega (arith, or-lt k a b (omega arith) (omega arith))))
-  where
-    one-le : 1 ≤ 2 ^ k
-    one-le = lib.Pow.pow-pos k
 
 -- the collected bits are within a bound of ones just where every number is
 pub bits-le : (k : ℕ) (s : List ℕ) → leb (allBits s) (2 ^ k - 1) ≡ allLe (2 ^ k - 1) s

@@ -6,7 +6,7 @@ use native.Mathlib.Omega.{arith}
 use mathlib.Core.Path.{_≡_, refl, sym, _∙_, ap, subst}
 use mathlib.Core.List.{List, [], _∷_, _++_, append-assoc, append-nil}
 use lib.ListN.{length, getD, set, take, drop, length-append, length-take, length-drop, take-append-drop}
-use lib.Seq.{sets, sets-eq, length-take-le, take-at, drop-append-add, drop-drop, take-suc}
+use lib.Seq.{sets, sets-eq, length-take-le, take-at, drop-append-seam, drop-append-add, drop-drop, take-suc}
 use Rattle.laws.specs.Writes.{Wrote}
 
 -- nothing written
@@ -21,6 +21,15 @@ wrote-none l at h =
           ∙ take-append-drop at l);
       place = omega arith;
     }
+
+-- what is written over the front of a list leaves its length, and what is past the front
+pub front-stays : (front output : List ℕ) → length front ≤ length output
+    → (length (front ++ drop (length front) output) ≡ length output)
+    × (drop (length front) (front ++ drop (length front) output) ≡ drop (length front) output)
+front-stays front output h = (
+  omega (arith, length-append front (drop (length front) output), length-drop (length front) output),
+  drop-append-seam front (drop (length front) output),
+)
 
 -- a run of stores is a write
 pub wrote-sets : (l : List ℕ) (at : ℕ) (vs : List ℕ) → at + length vs ≤ length l → Wrote l at vs (sets l at vs) (at + length vs)

@@ -1,6 +1,6 @@
 -- Tests of numbers, of lists of them, and rows of tests.
 use Prim.Native.Nat.{ℕ, _+_}
-use mathlib.Core.Bool.{Bool, true, false}
+use mathlib.Core.Bool.{Bool, true, false, not}
 use mathlib.Core.List.{List, [], _∷_}
 use lib.Dec.{eqb, leb}
 use lib.Bits.{bitOr}
@@ -15,6 +15,11 @@ false and b = false
 unfoldable pub allZero : List ℕ → Bool
 allZero [] = true
 allZero (x ∷ xs) = eqb x 0 and allZero xs
+
+-- no number is 0
+unfoldable pub noZero : List ℕ → Bool
+noZero [] = true
+noZero (x ∷ xs) = not (eqb x 0) and noZero xs
 
 -- every number is at most the bound
 unfoldable pub allLe : ℕ → List ℕ → Bool

@@ -10,13 +10,14 @@ use lib.Dec.{eqb}
 use lib.ListN.{length, getD}
 use lib.Seq.{slice}
 use Rattle.laws.specs.Tests.{sum}
+use Rattle.laws.proofs.TestLaws.{sum-next}
 use Rattle.track.specs.declared.Track.{Track}
 use Rattle.fieldset.specs.Lines.{lines, lineFor, bmdtAt}
 use Rattle.fieldset.specs.Lawful.{has, valuesOf, inUse}
 use Rattle.chunk.specs.Front.{valueAt, countIn}
 use Rattle.fields.specs.Said.{scalarIn}
 use Rattle.object.specs.Bmdt.{durationsOf, bmdtOf, Timed}
-use Rattle.object.proofs.SumLaws.{part-most, sum-next}
+use Rattle.object.proofs.SumLaws.{part-most}
 
 -- the words of id 3
 durations-are : (r : List ℕ) → has 3 r ≡ true → valuesOf 3 (countIn r) r ≡ slice 69 (69 + countIn r) r

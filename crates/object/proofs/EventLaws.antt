@@ -10,7 +10,7 @@ use borrow.Author.Tests.{eq-eqb, ne-eqb}
 use lib.Dec.{eqb, leb}
 use lib.ListN.{length, getD, set, take, drop, take-append-drop, length-drop, length-append}
 use lib.Seq.{slice, slice-cons, sets, length-sets, length-take-le, getD-drop, getD-take, getD-set-other, take-at, drop-at}
-use Rattle.laws.specs.Tests.{_and_}
+use Rattle.laws.specs.Tests.{_and_, noZero}
 use Rattle.laws.proofs.SliceLaws.{slice-none, take-slice, slice-to-end}
 use Rattle.laws.proofs.StoreLaws.{sets-after, sets-before}
 use Rattle.laws.proofs.TestLaws.{and-next, and-end}
@@ -21,7 +21,7 @@ use Rattle.media.specs.declared.clocks.TrackTime.{TrackTime}
 use Rattle.media.specs.declared.clocks.TrackTime.the-variants.{At, Outside}
 use Rattle.media.specs.Clocks.{trackAt}
 use Rattle.chunk.specs.Events.{part, Inside, EventFits, EventsFit}
-use Rattle.object.specs.Events.{onTrack, onClock, rebuilt, timed, noZero, eventOk, eventsOk, allRebuilt, EventRead, EventsRead}
+use Rattle.object.specs.Events.{onTrack, onClock, rebuilt, timed, eventOk, eventsOk, allRebuilt, EventRead, EventsRead}
 
 -- ---- bytes that are not 0
 

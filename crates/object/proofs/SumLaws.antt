@@ -9,10 +9,10 @@ use mathlib.Core.List.{List}
 use borrow.Author.Tests.{eq-eqb, ne-eqb, eqb-true, leb-true, not-false}
 use lib.Dec.{eqb, leb}
 use lib.ListN.{length, getD}
-use lib.Seq.{slice, slice-cons, length-slice}
+use lib.Seq.{slice, length-slice}
 use Rattle.laws.specs.Tests.{_and_, allLe, sum}
 use Rattle.laws.proofs.SliceLaws.{slice-none, slice-join}
-use Rattle.laws.proofs.TestLaws.{both, and-next, and-end, allLe-append, zeros-le, sum-append, sum-most}
+use Rattle.laws.proofs.TestLaws.{both, and-next, and-end, allLe-append, zeros-le, sum-append, sum-most, sum-next}
 use Rattle.track.specs.declared.Track.{Track}
 use Rattle.fieldset.specs.Lines.{lines, lineFor, setLen}
 use Rattle.fieldset.specs.declared.lines.Line.{Line}
@@ -33,11 +33,6 @@ pub record Adding (w : List ℕ) (from to n i : ℕ) : Type 0 where
   pub inside : to ≤ length w
   pub small : sum (slice from to w) < 2 ^ 64
   pub left : n + sum (slice i to w) ≡ sum (slice from to w)
-
--- the first of the words that are left, and the others
-pub sum-next : (w : List ℕ) (i to : ℕ) → i < to → to ≤ length w → sum (slice i to w) ≡ getD w i 0 + sum (slice (i + 1) to w)
-unfolding sum
-sum-next w i to lt le = rw (add-one, slice-cons i to w 0 lt le)
 
 module _ (w : List ℕ) (from to : ℕ) where
   pub add-start : to ≤ length w → sum (slice from to w) < 2 ^ 64 → Adding w from to 0 from

@@ -2,12 +2,13 @@
 -- lengths of its scheme and its value, its timescale, time, duration and id, and its message's place and length.
 use Prim.Native.Nat.{ℕ, zero, suc, _+_}
 use mathlib.Core.Path.{_≡_}
-use mathlib.Core.Bool.{Bool, true, false, cond, not}
+use mathlib.Core.Bool.{Bool, true, false, cond}
 use mathlib.Core.List.{List, [], _∷_, _++_}
 use lib.Dec.{eqb, leb}
 use lib.ListN.{getD, take, drop}
 use lib.Seq.{sets}
 use Rattle.laws.specs.Tests.{_and_}
+unfoldable pub use Rattle.laws.specs.Tests.{noZero}
 use Rattle.track.specs.declared.Track.{Track}
 use Rattle.track.specs.Track.{u32}
 use Rattle.media.specs.declared.clocks.TrackTime.{TrackTime}
@@ -31,10 +32,6 @@ rebuilt t bmdt e = onClock bmdt e (λ time. sets e 4 (t .timescale ∷ time ∷ 
 -- 01: "A rebuilt time below 0: 15."
 unfoldable pub timed : ℕ → List ℕ → Bool
 timed bmdt e = onClock bmdt e (λ time. true) false true
-
-unfoldable pub noZero : List ℕ → Bool
-noZero [] = true
-noZero (b ∷ s) = not (eqb b 0) and noZero s
 
 -- 01: "A value's range is that of its box field", of 32 bits for timescale, duration and id; "Strings hold no zero byte (15)"
 unfoldable pub eventOk : ℕ → List ℕ → List ℕ → Bool

@@ -4,14 +4,14 @@ use mathlib.Core.Bool.{Bool, true, false, cond}
 use mathlib.Core.List.{List, [], _∷_, map}
 use mathlib.Core.Option.{Option, none, some}
 use lib.Dec.{eqb, leb}
-use Rattle.laws.specs.Tests.{_and_}
+use Rattle.laws.specs.Tests.{_and_, noZero}
 use Rattle.wire.specs.declared.form.Row.{Row}
 use Rattle.track.specs.declared.Track.{Track}
 use Rattle.track.specs.Track.{u32}
 use Rattle.media.specs.Clocks.{trackAt}
 use Rattle.block.specs.Events.{Event, eventsF}
 use Rattle.chunk.specs.Front.{Event as Box}
-use Rattle.object.specs.Events.{onTrack, noZero}
+use Rattle.object.specs.Events.{onTrack}
 
 -- the events that id 25 lists
 unfoldable pub listed : List Row → Option (List ℕ) → List Event

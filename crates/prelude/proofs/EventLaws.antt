@@ -8,13 +8,14 @@ use mathlib.Core.List.{List, [], _∷_, _++_, append-assoc}
 use lib.ListN.{length, getD, set, drop, length-append, length-drop, length-set, drop-of-length-le}
 use lib.Seq.{sets, sets-eq, length-sets, drop-cons, getD-drop, drop-drop, drop-at}
 use Rattle.laws.specs.Bytes.{Bytes}
+use Rattle.laws.specs.Tests.{noZero}
 use Rattle.laws.proofs.StoreLaws.{sets-append}
 use Rattle.laws.proofs.TestLaws.{left, right}
 use Rattle.shape.specs.declared.parts.Part.{Part}
 use Rattle.shape.specs.Parts.{Inside, endOf}
 use Rattle.chunk.specs.Events.{part, EventFits}
 use Rattle.tree.specs.Numbers.{u32, u64}
-use Rattle.prelude.specs.Emsg.{zeroFrom, noZero, schemeAt, schemeEnd, valueEnd, emsgOk, emsgAt, emsgsOk, eventWords, emsgWords, keptEvents}
+use Rattle.prelude.specs.Emsg.{zeroFrom, schemeAt, schemeEnd, valueEnd, emsgOk, emsgAt, emsgsOk, eventWords, emsgWords, keptEvents}
 use Rattle.prelude.proofs.NumberLaws.{number-lt}
 use Rattle.prelude.proofs.ZeroLaws.{zero-text}
 use Rattle.prelude.proofs.EmsgLaws.{Strings, strings, scheme-is, value-is, emsg-inside, emsgs-step}
@@ -58,11 +59,11 @@ words-are c b ok end s ee es v ev t p d n et ep ed en = rw (value-is c b ok end 
 
 -- ---- the events that are kept
 
-event-length : (c : List ℕ) (b : Part) → length (eventWords c b) ≡ 10
+pub event-length : (c : List ℕ) (b : Part) → length (eventWords c b) ≡ 10
 unfolding eventWords
 event-length c b = refl
 
-words-length : (c : List ℕ) (k at : ℕ) → length (emsgWords c k at) ≡ 10 * k
+pub words-length : (c : List ℕ) (k at : ℕ) → length (emsgWords c k at) ≡ 10 * k
 unfolding emsgWords
 words-length c zero at = refl
 words-length c (suc k) at =

@@ -8,7 +8,7 @@ use borrow.Author.Tests.{eqb-true, eqb-false, eq-eqb, ne-eqb}
 use lib.Dec.{eqb}
 use lib.ListN.{length}
 use Rattle.laws.specs.Bytes.{Bytes}
-use Rattle.laws.proofs.TestLaws.{and-left, and-right}
+use Rattle.laws.proofs.TestLaws.{and-left, and-right, either}
 use Rattle.shape.specs.declared.parts.Part.{Part}
 use Rattle.shape.specs.Parts.{Inside}
 use Rattle.chunk.specs.Writable.{Headed}
@@ -16,11 +16,6 @@ use Rattle.prelude.specs.Fields.{versionAt}
 use Rattle.tree.specs.Numbers.{u32, u64}
 use Rattle.prelude.specs.Prft.{prftOk, mediaTime, prftOf, prftTrack}
 use Rattle.prelude.proofs.NumberLaws.{number-lt}
-
--- one of two tests holds
-either : {P : Type 0} (a b : Bool) → (a || b) ≡ true → (a ≡ true → P) → (b ≡ true → P) → P
-either true b e f g = f refl
-either false b e f g = g e
 
 neither : (a b : Bool) → b ≡ false → (a && b) ≡ false
 neither true b e = e
@@ -55,9 +50,8 @@ module _ (c : List ℕ) (b : Part) where
   pub prft-fits : prftOk c b ≡ true → 0 < b .len → PrftFits
   unfolding prftOk
   prft-fits e h =
-      either (eqb (b .len) 0) _ e (λ z. absurd (let q : b .len ≡ 0 = eqb-true (b .len) 0 z in omega arith))
-      (λ z.
-      either (eqb (versionAt c b) 0 && eqb (b .len) 28) _ z
+      either PrftFits (eqb (b .len) 0) _ (λ z. absurd (let q : b .len ≡ 0 = eqb-true (b .len) 0 z in omega arith))
+      (either PrftFits (eqb (versionAt c b) 0 && eqb (b .len) 28) (eqb (versionAt c b) 1 && eqb (b .len) 32)
       (λ y.
       let v : versionAt c b ≡ 0 = eqb-true (versionAt c b) 0 (and-left _ (eqb (b .len) 28) y) in
       let l : b .len ≡ 28 = eqb-true (b .len) 28 (and-right (eqb (versionAt c b) 0) _ y) in
@@ -66,6 +60,7 @@ module _ (c : List ℕ) (b : Part) where
       let v : versionAt c b ≡ 1 = eqb-true (versionAt c b) 1 (and-left _ (eqb (b .len) 32) y) in
       let l : b .len ≡ 32 = eqb-true (b .len) 32 (and-right (eqb (versionAt c b) 1) _ y) in
       record { long = omega arith; wide = λ n. omega arith; version = omega arith }))
+      e
 
   -- a word of a version that isn't 0
   pub media-long : (w : ℕ) → prftOk c b ≡ true → 0 < b .len → w ≡ u32 c (b .at + 8) → (w / 0x100_0000 ≡ 0 → ⊥) → 32 ≤ b .len

@@ -10,10 +10,11 @@ use borrow.Author.Tests.{eq-eqb, ne-eqb}
 use lib.Dec.{eqb}
 use lib.ListN.{length, getD, take, drop}
 use lib.Seq.{slice, slice-cons, length-slice}
+use Rattle.laws.specs.Tests.{noZero}
 use Rattle.laws.proofs.TestLaws.{both}
 use Rattle.laws.proofs.SliceLaws.{slice-none, take-slice, slice-lent}
 use Rattle.chunk.specs.Events.{part}
-use Rattle.prelude.specs.Emsg.{beforeZero, zeroFrom, noZero}
+use Rattle.prelude.specs.Emsg.{beforeZero, zeroFrom}
 
 -- ---- the loop that looks for it
 

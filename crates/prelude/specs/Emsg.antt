@@ -1,6 +1,6 @@
 -- The `emsg` boxes of a chunk, one after another, and the words of their events.
 use Prim.Native.Nat.{ℕ, zero, suc, _+_, _-_, _*_}
-use mathlib.Core.Bool.{Bool, true, not, cond}
+use mathlib.Core.Bool.{Bool, true, cond}
 use mathlib.Core.List.{List, [], _∷_, _++_}
 use lib.Dec.{eqb, leb, ltb}
 use lib.ListN.{length, drop}
@@ -19,11 +19,6 @@ beforeZero (x ∷ xs) = cond (eqb x 0) 0 (suc (beforeZero xs))
 -- the place of the first zero byte from a place on, before another; where there is none, the other, or the place itself if that is past it
 unfoldable pub zeroFrom : List ℕ → ℕ → ℕ → ℕ
 zeroFrom c from to = from + beforeZero (slice from to c)
-
--- no byte is zero
-unfoldable pub noZero : List ℕ → Bool
-noZero [] = true
-noZero (x ∷ xs) = not (eqb x 0) and noZero xs
 
 -- the scheme starts after the fixed fields, and the value after the scheme's end zero
 abbrev pub schemeAt : Part → ℕ

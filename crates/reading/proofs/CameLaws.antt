@@ -8,14 +8,14 @@ use mathlib.Core.Logic.{_⊎_, inl, inr}
 use mathlib.Core.Bool.{Bool, true, false, false≢true, cond, not, _&&_, _||_}
 use mathlib.Core.List.{List, [], _∷_}
 use mathlib.Core.Option.{Option, none, some}
-use borrow.Author.Tests.{eqb-true, eqb-false, leb-true, le-leb, not-true}
+use borrow.Author.Tests.{eqb-true, eqb-false, le-leb, not-true}
 use lib.Dec.{eqb}
 use lib.ListN.{length, getD, take, drop, length-take, length-drop}
 use lib.Seq.{length-slice, getD-drop}
 use Rattle.laws.specs.Tests.{_and_, allLe}
 use Rattle.laws.specs.Bytes.{de, Bytes}
-use Rattle.laws.proofs.TestLaws.{left, right, both, and-left, and-right}
-use Rattle.laws.proofs.BytesLaws.{bytes-take, bytes-drop, de-lt}
+use Rattle.laws.proofs.TestLaws.{both, and-left, and-right, one-le}
+use Rattle.laws.proofs.BytesLaws.{bytes-take, bytes-drop, de-lt, bytes-are}
 use Rattle.wire.specs.declared.zigzag.Coding.{Coding}
 use Rattle.wire.specs.declared.zigzag.Reached.{Reached}
 use Rattle.wire.specs.declared.zigzag.Reached.the-variants.{To}
@@ -365,12 +365,6 @@ module _ (t : Track) (delta : Bool) (r : List ℕ) (words : length r ≡ setLen)
 
 -- ---- within what bound its values are
 
--- bytes, by their test
-bytes-are : (zs : List ℕ) → allLe 255 zs ≡ true → Bytes zs
-unfolding allLe
-bytes-are [] e = tt
-bytes-are (z ∷ zs) e = let h : z ≤ 255 = leb-true z 255 (left _ _ e) in (omega arith, bytes-are zs (right _ _ e))
-
 -- a word of eight bytes
 word-le : (bs : List ℕ) → Bytes bs → length bs ≡ 8 → de bs ≤ 0xffff_ffff_ffff_ffff
 word-le bs h e = let lt : de bs < 256 ^ 8 = rw e at (de-lt bs h) in omega arith
@@ -383,11 +377,6 @@ packed-le (suc k) bs h e =
     let n : length (take 8 bs) ≡ 8 = omega (arith, length-take 8 bs) in
     let d : length (drop 8 bs) ≡ 8 * k = omega (arith, length-drop 8 bs) in
     both _ _ (le-leb (de (take 8 bs)) 0xffff_ffff_ffff_ffff (word-le (take 8 bs) (bytes-take 8 bs h) n)) (packed-le k (drop 8 bs) (bytes-drop 8 bs h) d)
-
--- a single value
-all-one : (b v : ℕ) → v ≤ b → allLe b (v ∷ []) ≡ true
-unfolding allLe
-all-one b v h = both _ _ (le-leb v b h) refl
 
 -- what is said are bytes, where the field is of words of eight
 abbrev Raw : Line → Saying → Type 0
@@ -406,7 +395,7 @@ module _ (t : Track) (coding : Coding) (held : Bool) (r : List ℕ) (was : Measu
         kept = λ e i q _ vs d. held-by (same-field d) (there e);
         changed = λ _ _ _ _ d. no-field d;
         struck = λ _ _ d. no-field d;
-        one = λ zs v n h _ vs d. held-by (same-field d) (all-one (l .bound) v h);
+        one = λ zs v n h _ vs d. held-by (same-field d) (one-le (l .bound) v h);
         past = λ _ _ _ d. no-field d;
         raw = λ zs i n b vs d. held-by (same-field d) (rw (wide i) (packed-le (wanted (l .want) m) zs (bytes-are zs (b zs refl i)) n));
         list = λ zs ws n h _ vs d. held-by (same-field d) h;

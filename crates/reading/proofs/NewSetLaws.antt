@@ -29,8 +29,9 @@ use Rattle.fields.specs.Cells.{Held, codingFor}
 use Rattle.fields.proofs.RoomLaws.{wanted-room}
 use Rattle.fields.specs.Words.{setWords, measure, wasOf}
 use Rattle.reading.specs.Read.{countFrom, countReached, countOf, cameOf, subsamples, came, fieldOf, stands, marks, newWords, fieldRungs, setRungs}
-use Rattle.fields.proofs.SetLaws.{eleven-for, AllFit, Keeps, Within, keeps-fits, map-same, words-start, words-count, words-marks, words-around, around-id, words-regions}
+use Rattle.fields.proofs.SetLaws.{eleven-for, AllFit, Keeps, Within, map-same, words-start, words-count, words-marks, words-around, around-id, words-regions, words-length}
 use Rattle.reading.proofs.CameLaws.{came-early, came-length, came-fits, came-stands}
+use Rattle.reading.proofs.RungLaws.{fits-of}
 
 -- a count that was reached is at most 64 where the old one is
 count-within : (coding : Coding) (o : Option (List ℕ)) (old : ℕ) → old ≤ 64 → onReached (countFrom coding o old) (λ n. n) 0 ≤ 64
@@ -125,11 +126,25 @@ module _ (t : Track) (delta : Bool) (r : List ℕ) (says : Says) where
     unfolding came
     eleven-long vs e = came-length t delta r words good 9 (omega arith) says lengths vs e ∙ eleven-wanted lengths
 
-    module _ (k : Taken) (iv : t .«iv_size» ≤ 16) (bytes : (zs : List ℕ) → says 9 ≡ some zs → allLe 255 zs ≡ true) where
+    module _ (k : Taken) (iv : t .«iv_size» ≤ 16) where
       -- they keep the maxima
       small : Small lengths
       small = record { count = count-le good; ivs = omega arith; sum = omega (arith, k .few) }
 
+      -- each field has room, whatever the object's bytes are
+      pub new-fits : AllFit (fieldOf t delta r says)
+      unfolding came
+      new-fits i lt =
+          fits-of (getD lines i spare) _
+          (λ vs e.
+          let n : length vs ≡ wanted (getD lines i spare .want) lengths = came-length t delta r words good i lt says lengths vs e in
+          omega (arith, n, wanted-room i lt lengths small (k .few)))
+
+      -- so the words are as many as they should be
+      pub new-long : (start : ℕ) → length (newWords t delta r says start) ≡ setLen
+      new-long start = words-length start (countOf t delta r says) (fieldOf t delta r says) new-fits
+
+    module _ (k : Taken) (iv : t .«iv_size» ≤ 16) (bytes : (zs : List ℕ) → says 9 ≡ some zs → allLe 255 zs ≡ true) where
       -- each field keeps its line
       pub new-keeps : (i : ℕ) → i < 14 → Keeps lengths (getD lines i spare) (fieldOf t delta r says (getD lines i spare))
       unfolding came
@@ -137,18 +152,14 @@ module _ (t : Track) (delta : Bool) (r : List ℕ) (says : Says) where
           keeps-of lengths (getD lines i spare) (cameOf t delta r says lengths (getD lines i spare) .field)
           (λ vs e.
           let f = came-fits t delta r words good i lt says bytes lengths vs e in
-          record { long = f .0; room = wanted-room i lt lengths small (k .few); bound = f .1 })
-
-      -- and so has room
-      pub new-fits : AllFit (fieldOf t delta r says)
-      new-fits i lt = keeps-fits lengths (getD lines i spare) (fieldOf t delta r says (getD lines i spare)) (new-keeps i lt)
+          record { long = f .0; room = wanted-room i lt lengths (small k iv) (k .few); bound = f .1 })
 
       module _ (bmdt : ℕ) where
         -- the subsample counts stand in the new words
         values-are : valuesOf 11 (countOf t delta r says) (newWords t delta r says bmdt) ≡ subsamples t delta r says
         values-are =
             around-id 11 (countOf t delta r says) _ _ _ eleven-for
-            (words-around bmdt (countOf t delta r says) (fieldOf t delta r says) new-fits 9 (omega arith)) eleven-long
+            (words-around bmdt (countOf t delta r says) (fieldOf t delta r says) (new-fits k iv) 9 (omega arith)) eleven-long
             ∙ sym subsamples-are
 
         -- the lengths of the new words
@@ -158,7 +169,7 @@ module _ (t : Track) (delta : Bool) (r : List ℕ) (says : Says) where
         -- and their marks
         pub new-marks : marksOf (newWords t delta r says bmdt) ≡ marks t delta r says
         new-marks =
-            words-marks bmdt (countOf t delta r says) (fieldOf t delta r says) new-fits
+            words-marks bmdt (countOf t delta r says) (fieldOf t delta r says) (new-fits k iv)
             ∙ map-same _ _ lines
             (λ i lt. let c : i < 14 = omega (arith, line-count) in ap (λ b. cond b 1 0) (sym (stands-at k i c)))
 

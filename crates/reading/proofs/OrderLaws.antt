@@ -5,9 +5,10 @@ use mathlib.Core.Path.{_≡_, refl, sym, _∙_, ap}
 use mathlib.Core.Bool.{Bool, true, false, not}
 use mathlib.Core.List.{List, [], _∷_}
 use mathlib.Core.Option.{Option, none, some}
-use lib.ListN.{length, set, replicate, length-replicate}
+use lib.ListN.{length, set, replicate}
 use Rattle.laws.proofs.GateLaws.{failed, held}
 use Rattle.laws.proofs.LadderLaws.{broken, passed}
+use Rattle.laws.proofs.ListLaws.{replicate-long}
 use Rattle.wire.specs.declared.form.Row.{Row}
 use Rattle.wire.specs.declared.zigzag.Coding.{Coding}
 use Rattle.wire.specs.declared.zigzag.Reached.{Reached}
@@ -25,10 +26,6 @@ use Rattle.fields.proofs.SetLaws.{words-none}
 use Rattle.wire.proofs.ZigzagLaws.{reached-most}
 use Rattle.reading.proofs.ReadableLaws.{was-small}
 use Rattle.reading.proofs.RungLaws.{refused}
-
--- the words before anything is read
-pub start-length : (x : List ℕ) → x ≡ replicate setLen 0 → length x ≡ setLen
-start-length x e = ap length e ∙ length-replicate {A = ℕ} setLen 0
 
 same-count : (m n : ℕ) → To m ≡ To n → m ≡ n
 same-count m n e = cc
@@ -62,7 +59,7 @@ module _ (F : List Row) (o index : List ℕ) (t : Track) (delta : Bool) (r : Lis
     refuse-count e b gone m q x ex =
         refused _ _ 15 x (λ z. omega arith)
         (passed _ 14 _ (λ k. k) 0 (held (m .answered) q) (broken _ 15 _ (λ k. k) 0 (rw (count-found ∙ e))))
-        (start-length x ex)
+        (replicate-long ex)
 
     module _ (n : ℕ) (en : g ≡ To n) where
       pub found-count : countReached t (a .held) r (saysIn F o index) ≡ To n
@@ -97,7 +94,7 @@ pub refuse-deletions : (t : Track) (delta : Bool) (r : List ℕ) (says : Says) (
     → (x : List ℕ) → x ≡ replicate setLen 0 → ReadAs (setRungs t delta r says) (newWords t delta r says 0) 14 x
 unfolding setRungs
 refuse-deletions t delta r says b gone m q x ex =
-    refused _ _ 14 x (λ z. omega arith) (broken _ 14 _ (λ k. k) 0 (failed (m .answered) q)) (start-length x ex)
+    refused _ _ 14 x (λ z. omega arith) (broken _ 14 _ (λ k. k) 0 (failed (m .answered) q)) (replicate-long ex)
 
 -- the words that the fields are stored into
 pub words-start-at : (n : ℕ) (x : List ℕ) → x ≡ replicate setLen 0 → set x 1 n ≡ setWords 0 n noFields

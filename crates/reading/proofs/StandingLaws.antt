@@ -3,7 +3,7 @@ use Prim.Native.Nat.{ℕ, zero, suc, _+_, _-_, _≤_, _<_}
 use native.Mathlib.Nat.{not-suc-le-zero, le-of-suc-le-suc, sub-zero}
 use native.Mathlib.Numerals.{add-one}
 use native.Mathlib.Omega.{arith}
-use mathlib.Core.Path.{_≡_, refl, _∙_, ap}
+use mathlib.Core.Path.{_≡_, _∙_, ap}
 use mathlib.Core.Bool.{Bool, true, false, cond}
 use mathlib.Core.List.{List, [], _∷_, _++_, map, append-nil}
 use lib.ListN.{length, getD, set, take, replicate}
@@ -14,6 +14,7 @@ use Rattle.fieldset.specs.declared.lines.Line.{Line}
 use Rattle.fieldset.specs.Lines.{lines, spare}
 use Rattle.fieldset.proofs.LineLaws.{line-count}
 use Rattle.fields.specs.Said.{saysIn}
+use Rattle.fields.proofs.SetLaws.{map-same}
 use Rattle.reading.specs.declared.read.Against.{Against}
 use Rattle.reading.specs.Read.{staysIn, marksIn, marks, stands, Readable}
 use Rattle.reading.proofs.ReadableLaws.{stands-is}
@@ -84,11 +85,6 @@ module _ (index gone : List ℕ) (held : Bool) (r : List ℕ) where
           let k : i < length lines = omega (arith, line-count) in
           let z : _≡_ {A = ℕ} (cond (staysIn index gone held r (getD lines i spare)) 1 0) 0 = rw (← eb, e) in
           record { high = omega arith; done = en ∙ h .done ∙ rw add-one (mark-keep (λ l. cond (staysIn index gone held r l) 1 0) lines i k z) }
-
--- marks that are the same line by line
-map-same : (g h : Line → ℕ) (ls : List Line) → ((i : ℕ) → i < length ls → g (getD ls i spare) ≡ h (getD ls i spare)) → map g ls ≡ map h ls
-map-same g h [] e = refl
-map-same g h (l ∷ ls) e = λ j. e 0 (omega arith) j ∷ map-same g h ls (λ i lt. e (suc i) (omega arith)) j
 
 -- the marks are those of what is said of the lines
 pub marks-said : (F : List Row) (o index gone : List ℕ) (t : Track) (a : Against) (r : List ℕ) → Readable F o index gone t a r

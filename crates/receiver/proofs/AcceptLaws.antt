@@ -12,8 +12,9 @@ use Rattle.laws.proofs.LadderLaws.{broken, passed, top}
 use Rattle.laws.proofs.SliceLaws.{slice-lent}
 use Rattle.wire.specs.declared.form.Row.{Row}
 use Rattle.track.specs.declared.Track.{Track}
+use Rattle.track.specs.Track.{u32}
 use Rattle.slots.specs.declared.share.Side.the-variants.{Receiver}
-use Rattle.slots.specs.Share.{acceptedAt, u32, lawful}
+use Rattle.slots.specs.Share.{acceptedAt, lawful}
 use Rattle.slots.specs.Table.{out}
 use Rattle.chunk.specs.Events.{eventsOf}
 use Rattle.chunk.specs.Front.{front}

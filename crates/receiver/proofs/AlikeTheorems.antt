@@ -11,7 +11,7 @@ use lib.ListN.{getD, take}
 use lib.Seq.{getD-take, take-take}
 use Rattle.laws.specs.Tests.{_and_}
 use Rattle.laws.specs.Ladder.{Rung, _else_, ladder}
-use Rattle.laws.proofs.LadderLaws.{Hold, ladder-seen, Numbered, all-hold, climbed}
+use Rattle.laws.proofs.LadderLaws.{Hold, ladder-seen, Numbered, all-hold, climbed, nonzero, numbered, hold-front, hold-back, agree}
 use Rattle.laws.proofs.TestLaws.{left, right, and-left, and-right}
 use Rattle.wire.specs.declared.form.Row.{Row}
 use Rattle.track.specs.declared.Track.{Track}
@@ -33,7 +33,6 @@ use Rattle.object.specs.Values.{listed}
 use Rattle.object.proofs.ObjectLaws.{bmdt-sent, full-alone}
 use Rattle.exchange.specs.Took.{Took, refused}
 use Rattle.exchange.specs.Kept.{prftWords, keptWords}
-use Rattle.exchange.proofs.HoldLaws.{nonzero, numbered, hold-front, hold-back, agree}
 use Rattle.receiver.specs.Object.{isDelta, headRungs, tuples, reads, entries, saying, payload}
 use Rattle.receiver.specs.Receive.{reference, bmdt, prft, events, newSet, heldOk, idsRight, splitRungs, valueRungs, sequence, accepted, refusing, done, receiveRungs, receiving}
 use Rattle.receiver.specs.Laws.{FullForgets, AnyOrder}

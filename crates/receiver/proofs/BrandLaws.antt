@@ -1,15 +1,14 @@
 -- Bytes of an object by its index: the part of an odd id, the brands, and what id 9 says. Assumes nothing.
-use Prim.Native.Nat.{ℕ, suc, _+_, _*_, _-_, _%_, _≤_, _<_}
+use Prim.Native.Nat.{ℕ, _+_, _*_, _-_, _%_, _≤_}
 use native.Mathlib.Omega.{arith}
 use mathlib.Core.Path.{_≡_, refl}
 use mathlib.Core.Bool.{Bool, true, not}
-use mathlib.Core.List.{List, [], _∷_}
+use mathlib.Core.List.{List, []}
 use mathlib.Core.Option.{Option, none, some}
-use borrow.Author.Tests.{eqb-true, eq-eqb, ne-eqb, le-leb}
+use borrow.Author.Tests.{eqb-true, eq-eqb, ne-eqb}
 use lib.Dec.{eqb}
 use lib.ListN.{length, getD}
 use lib.Seq.{slice, slice-empty}
-use Rattle.laws.specs.Tests.{_and_, allLe}
 use Rattle.laws.proofs.LadderLaws.{Hold}
 use Rattle.laws.proofs.TestLaws.{right, and-right}
 use Rattle.wire.specs.declared.form.Row.{Row}
@@ -20,18 +19,6 @@ use Rattle.reading.specs.Read.{brandsFit, fieldRungs, setRungs}
 use Rattle.reading.proofs.TellingLaws.{part-says}
 use Rattle.receiver.specs.declared.judge.Part.{Part}
 use Rattle.receiver.specs.Judge.{partIn}
-
--- ---- bytes
-
--- every number of a list, one by one
-each-le : (b : ℕ) (xs : List ℕ) → ((i : ℕ) → getD xs i 0 ≤ b) → allLe b xs ≡ true
-unfolding allLe _and_
-each-le b [] h = refl
-each-le b (x ∷ xs) h = rw (le-leb x b (h 0)) (each-le b xs (λ i. h (suc i)))
-
--- every byte of a slice of them
-pub all-bytes : (o : List ℕ) → ((i : ℕ) → getD o i 0 < 256) → allLe 255 o ≡ true
-all-bytes o h = each-le 255 o (λ i. let k = h i in omega arith)
 
 -- ---- the part of an odd id
 

@@ -15,12 +15,12 @@ use Rattle.slots.specs.Share.{setAt}
 use Rattle.fields.specs.Said.{Says, saysIn}
 use Rattle.reading.specs.Read.{newWords, fieldRungs, setRungs, ReadAs}
 use Rattle.object.specs.declared.head.Place.{Place}
+use Rattle.exchange.proofs.OpenLaws.{reference-long, lent}
 use Rattle.receiver.specs.declared.judge.Judged.{Judged}
 use Rattle.receiver.specs.Object.{isDelta, saying}
 use Rattle.receiver.specs.Receive.{track, reference, splitRungs, valueRungs, judgeRungs}
 use Rattle.receiver.specs.Judge.{noneJudged, Judgeable, Split, SplitAs, JudgedAs}
-use Rattle.receiver.proofs.ShareFacts.{reference-long}
-use Rattle.receiver.proofs.JudgeLaws.{lent, iv-small, delta-good, judged-none}
+use Rattle.receiver.proofs.JudgeLaws.{iv-small, delta-good, judged-none}
 
 -- no step answers 0 where it refuses
 split-numbered : (F : List Row) (o s : List ℕ) → Numbered (splitRungs F o s)

@@ -8,7 +8,7 @@ use mathlib.Core.Option.{Option, none, some}
 use borrow.Author.Tests.{leb-true}
 use borrow.Rule.Slice.PartAt.{part-to-end}
 use lib.Dec.{leb}
-use lib.ListN.{length, getD, take, drop, replicate, length-replicate, length-drop}
+use lib.ListN.{length, getD, replicate, length-replicate, length-drop}
 use lib.ListN.{set as store}
 use Rattle.laws.specs.Tests.{_and_, allLe}
 use Rattle.laws.specs.Ladder.{Rung, ladder}
@@ -26,8 +26,8 @@ use Rattle.protected.proofs.ProtectableLaws.{lawful-protectable}
 use Rattle.fields.specs.Said.{Says, numbers, scalarIn}
 use Rattle.reading.specs.Read.{countOf, fieldOf, newWords, setRungs}
 use Rattle.reading.proofs.TellingLaws.{scalar-says}
-use Rattle.fields.proofs.SetLaws.{words-bmdt, words-length}
-use Rattle.reading.proofs.NewSetLaws.{taken-facts, new-fits, new-lawful}
+use Rattle.fields.proofs.SetLaws.{words-bmdt}
+use Rattle.reading.proofs.NewSetLaws.{taken-facts, new-lawful, new-long}
 use Rattle.object.specs.declared.head.Place.{Place}
 use Rattle.object.specs.declared.prft.Told.{Told}
 use Rattle.object.specs.Bmdt.{bmdtOf, Timed}
@@ -43,15 +43,12 @@ use Rattle.receiver.specs.Object.{isDelta, blockEnd, saying, payload}
 use Rattle.receiver.specs.Receive.{track, reference, bmdt, prft, events, brands, newSet, valuesOk, sumsOk, valueRungs}
 use Rattle.receiver.specs.Judge.{partIn, noneJudged, Judgeable, Split, JudgedAs}
 use Rattle.object.proofs.ObjectLaws.{prft-says, prft-headed}
-use Rattle.receiver.proofs.ShareFacts.{reference-long, iv-most, delta-lawful, reference-timed, kept-small}
+use Rattle.exchange.proofs.OpenLaws.{reference-long, lent}
+use Rattle.receiver.proofs.ShareFacts.{iv-most, delta-lawful, reference-timed, kept-small}
 use Rattle.receiver.proofs.SaidLaws.{raw-bytes}
 use Rattle.receiver.proofs.BrandLaws.{BrandsTold, brands-told, brands-fours}
 
 -- ---- two tests, one after the other
-
-pub first-broken : (a b : Bool) → a ≡ false → false ≡ (a and b)
-unfolding _and_
-first-broken a b e = rw e
 
 pub first-held : (a b c : Bool) → a ≡ true → c ≡ b → c ≡ (a and b)
 unfolding _and_
@@ -121,10 +118,6 @@ module _ (F : List Row) (o s : List ℕ) where
       record { answered = m ∙ h; ready = λ z. absurd (n (sym m ∙ z)) }
 
 -- ---- what is lent
-
--- the reference as it is lent
-abbrev pub lent : List ℕ → List ℕ
-lent s = take (length s - setAt) (drop setAt s)
 
 module _ {F : List Row} {o s : List ℕ} {t : Track} {p : Place} (j : Judgeable F o s t p) where
   pub lent-timed : Timed (lent s)
@@ -252,14 +245,13 @@ module _ {F : List Row} {o s : List ℕ} {t : Track} {p : Place} {index ev : Lis
     long : length (reference F o s) ≡ setLen
     long = reference-long s (w .head .share)
 
-    new-long : (n : ℕ) → length (newWords t (isDelta F o) (reference F o s) (saying F o) n) ≡ setLen
-    new-long n =
-        words-length n (countOf t (isDelta F o) (reference F o s) (saying F o)) (fieldOf t (isDelta F o) (reference F o s) (saying F o))
-        (new-fits t (isDelta F o) (reference F o s) (saying F o) long (delta-good (w .head))
-        (taken-facts t (isDelta F o) (reference F o s) (saying F o) (g .hold)) (iv-small (w .head)) raw)
+    new-words : (n : ℕ) → length (newWords t (isDelta F o) (reference F o s) (saying F o) n) ≡ setLen
+    new-words =
+        new-long t (isDelta F o) (reference F o s) (saying F o) long (delta-good (w .head))
+        (taken-facts t (isDelta F o) (reference F o s) (saying F o) (g .hold)) (iv-small (w .head))
 
     pub some-words : 0 < length x
-    some-words = let n : length x ≡ setLen = ap length (g .words) ∙ new-long 0 in omega arith
+    some-words = let n : length x ≡ setLen = ap length (g .words) ∙ new-words 0 in omega arith
 
     stored : store x 0 b ≡ newWords t (isDelta F o) (reference F o s) (saying F o) b
     stored =
@@ -267,7 +259,7 @@ module _ {F : List Row} {o s : List ℕ} {t : Track} {p : Place} {index ev : Lis
         ∙ words-bmdt 0 b (countOf t (isDelta F o) (reference F o s) (saying F o)) (fieldOf t (isDelta F o) (reference F o s) (saying F o))
 
     stored-long : length (store x 0 b) ≡ setLen
-    stored-long = ap length stored ∙ new-long b
+    stored-long = ap length stored ∙ new-words b
 
     stored-set : store x 0 b ≡ newSet F o s
     unfolding newSet

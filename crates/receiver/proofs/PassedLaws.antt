@@ -8,14 +8,13 @@ use lib.Dec.{leb}
 use lib.ListN.{length}
 use Rattle.laws.specs.Tests.{_and_}
 use Rattle.laws.specs.Ladder.{Rung, _else_}
-use Rattle.laws.proofs.LadderLaws.{Hold}
+use Rattle.laws.proofs.LadderLaws.{Hold, hold-front, hold-back}
 use Rattle.laws.proofs.TestLaws.{left, and-left, and-right}
 use Rattle.wire.specs.declared.form.Row.{Row}
 use Rattle.slots.specs.declared.share.Side.the-variants.{Receiver}
 use Rattle.slots.specs.Share.{trackOf, isOpen, lawful}
 use Rattle.slots.specs.Calls.{openedRungs}
 use Rattle.reading.specs.Read.{setRungs}
-use Rattle.exchange.proofs.HoldLaws.{hold-front, hold-back}
 use Rattle.receiver.specs.Object.{isDelta, headRungs, saying}
 use Rattle.receiver.specs.Receive.{reference, bmdt, prft, valuesOk, heldOk, splitRungs, valueRungs, judgeRungs, chunk, roomRungs, receiveRungs}
 

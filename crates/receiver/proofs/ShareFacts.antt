@@ -16,11 +16,12 @@ use Rattle.track.proofs.TrackLaws.{ranges}
 use Rattle.fieldset.specs.Lines.{setLen}
 use Rattle.fieldset.specs.Lawful.{lawful as lawfulSet}
 use Rattle.slots.specs.declared.share.Side.the-variants.{Receiver}
-use Rattle.slots.specs.Share.{shareLen, heldAt, prftAt, ntpAt, versionAt, prftFlagsAt, mediaTimeAt, setAt, u24, u32, askedOf, trackOf, prftOk, referenceOk, isOpen, lawful}
+use Rattle.slots.specs.Share.{shareLen, heldAt, prftAt, ntpAt, versionAt, prftFlagsAt, mediaTimeAt, setAt, u24, askedOf, trackOf, prftOk, referenceOk, isOpen, lawful}
 use Rattle.block.proofs.AnswerLaws.{blank-zeros}
+use Rattle.track.specs.Track.{u32}
 use Rattle.object.specs.Bmdt.{Timed}
 use Rattle.object.proofs.ObjectLaws.{lawful-timed, zeros-timed}
-use Rattle.exchange.proofs.OpenLaws.{Opened, opened-facts, held-facts}
+use Rattle.exchange.proofs.OpenLaws.{Opened, opened-facts, held-facts, reference-long}
 use Rattle.receiver.specs.Object.{isDelta}
 use Rattle.receiver.specs.Receive.{heldOk}
 
@@ -34,10 +35,6 @@ zero-at : (xs : List ℕ) (i : ℕ) → allZero xs ≡ true → getD xs i 0 ≡ 
 zero-at xs i e = ap (λ (l : List ℕ). getD l i 0) (zeros-are xs e) ∙ blank-zeros (length xs) i
 
 module _ (s : List ℕ) (l : length s ≡ shareLen) where
-  -- the words of the reference's set
-  pub reference-long : length (drop setAt s) ≡ setLen
-  reference-long = omega (arith, length-drop setAt s)
-
   -- where the words from the `prft` on are zeros
   zeros-behind : allZero (drop prftAt s) ≡ true → drop setAt s ≡ replicate setLen 0
   zeros-behind e =
@@ -80,7 +77,7 @@ module _ (s : List ℕ) (l : length s ≡ shareLen) where
       where
         go : (b : Bool) → eqb (getD s heldAt 0) 0 ≡ b → Timed (drop setAt s)
         go true q = rw (zeros-behind (none-held q)) zeros-timed
-        go false q = lawful-timed (trackOf s) (drop setAt s) reference-long (one-held q .1)
+        go false q = lawful-timed (trackOf s) (drop setAt s) (reference-long s l) (one-held q .1)
 
     -- the version and the flags that are kept fit their box
     pub kept-small : (getD s versionAt 0 ≤ 1) × (getD s prftFlagsAt 0 ≤ 0xffffff)

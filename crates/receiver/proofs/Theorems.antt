@@ -1,47 +1,40 @@
 -- Receiving an object: its numbers, what a refusal leaves, what the output holds, and that the share keeps its length and stays lawful. Assumes
 -- nothing.
-use Prim.Native.Nat.{ℕ, _≤_, _<_, zero-le}
+use Prim.Native.Nat.{ℕ, _<_, zero-le}
 use native.Mathlib.Omega.{arith}
 use mathlib.Core.Path.{_≡_, refl, sym, _∙_, ap, subst}
 use mathlib.Core.Bool.{Bool, true, false, _&&_}
 use mathlib.Core.List.{List, _∷_, _++_}
 use borrow.Author.Tests.{le-leb}
 use lib.Dec.{leb}
-use lib.ListN.{length, getD, drop, length-append, length-drop}
-use lib.Seq.{drop-append-seam}
-use Rattle.laws.specs.Tests.{allLe, sum}
+use lib.ListN.{length}
+use Rattle.laws.specs.Tests.{allLe}
 use Rattle.laws.specs.Ladder.{Rung, _else_, ladder, Given}
-use Rattle.laws.proofs.LadderLaws.{numberOf, given, climbs, ladder-append, ladder-seen}
+use Rattle.laws.proofs.LadderLaws.{numberOf, given, climbs, ladder-append, ladder-seen, climbs-all}
+use Rattle.laws.proofs.WriteLaws.{front-stays}
 use Rattle.wire.specs.declared.form.Row.{Row}
-use Rattle.track.specs.declared.Track.{Track}
-use Rattle.track.proofs.TrackLaws.{ranges}
-use Rattle.fieldset.specs.Lines.{lines, spare, setLen, wanted, Small}
+use Rattle.track.specs.Track.{u32}
+use Rattle.fieldset.specs.Lines.{setLen}
 use Rattle.fieldset.specs.Lawful.{lawful as lawfulSet}
-use Rattle.fields.specs.Said.{Says}
-use Rattle.fields.proofs.RoomLaws.{wanted-room}
 use Rattle.slots.specs.declared.share.Side.the-variants.{Receiver}
-use Rattle.slots.specs.Share.{shareLen, setAt, u32, askedOf, trackOf, acceptedOk, prftOk, lawful, dropped}
+use Rattle.slots.specs.Share.{shareLen, trackOf, acceptedOk, prftOk, lawful, dropped}
 use Rattle.slots.specs.Table.{Out, shareAt, tableRungs, onTable}
 use Rattle.slots.specs.Calls.{openedRungs}
 use Rattle.slots.specs.Laws.{after, Keeps, Apart}
 use Rattle.slots.proofs.Lawful.{dropped-lawful, dropped-long}
 use Rattle.slots.proofs.Apart.{apart, others-stay}
-use Rattle.reading.specs.Read.{newWords, came, countOf, fieldOf}
-use Rattle.reading.proofs.RungLaws.{fits-of}
-use Rattle.fields.proofs.SetLaws.{AllFit, words-length}
-use Rattle.reading.proofs.CameLaws.{came-length}
-use Rattle.reading.proofs.NewSetLaws.{Taken, taken-facts, count-le, lengths, new-lawful}
+use Rattle.reading.proofs.NewSetLaws.{taken-facts, new-lawful, new-long}
 use Rattle.object.proofs.ObjectLaws.{prft-lawful}
-use Rattle.exchange.specs.Took.{Took, refused}
-use Rattle.exchange.proofs.HoldLaws.{climbs-all}
-use Rattle.exchange.proofs.OpenLaws.{Opened, opened-facts, held-facts}
+use Rattle.exchange.specs.Took.{Took, refused, PastStays}
+use Rattle.exchange.proofs.OpenLaws.{Opened, opened-facts, held-facts, reference-long}
 use Rattle.exchange.proofs.AcceptedLaws.{Ranged, accepted-long, accepted-lawful}
 use Rattle.receiver.specs.Object.{isDelta, headRungs, saying}
 use Rattle.receiver.specs.Receive.{afterRefusal, reference, bmdt, prft, newSet, heldOk, judgeRungs, sequence, chunk, accepted, refusing, done, roomRungs, receiveRungs, receiving}
-use Rattle.receiver.specs.Laws.{ReceiveExactly, ReceiveStaysLawful, Refused, ReceiveRefuses, PastStays, ReceivePast}
-use Rattle.receiver.proofs.ShareFacts.{delta-held}
+use Rattle.receiver.specs.Laws.{ReceiveExactly, ReceiveStaysLawful, Refused, ReceiveRefuses, ReceivePast}
+use Rattle.receiver.proofs.ShareFacts.{delta-held, iv-most}
 use Rattle.receiver.proofs.PassedLaws.{Passed, passed, value-facts}
 use Rattle.receiver.proofs.SaidLaws.{raw-bytes}
+use Rattle.receiver.proofs.RefusalLaws.{refusal-keeps}
 
 -- ---- numbers
 
@@ -64,17 +57,13 @@ module _ (s : List ℕ) where
   unfolding afterRefusal
   refusal-drops k e = rw e
 
-  refusal-keeps : (k : ℕ) → leb 12 k && leb k 16 ≡ false → afterRefusal k s ≡ s
-  unfolding afterRefusal
-  refusal-keeps k e = rw e
-
   -- what holds of the share, and of the share without its reference
   refusal-either : (P : List ℕ → Type 0) (k : ℕ) → P s → P (dropped s) → P (afterRefusal k s)
   refusal-either P k a b = go (leb 12 k && leb k 16) refl
     where
       go : (c : Bool) → leb 12 k && leb k 16 ≡ c → P (afterRefusal k s)
       go true e = subst P (sym (refusal-drops k e)) b
-      go false e = subst P (sym (refusal-keeps k e)) a
+      go false e = subst P (refusal-keeps k s e) a
 
 -- a refusal writes nothing and hands back nothing; 12 to 16 drop the reference, and any other changes nothing
 refusing-refused : (output s : List ℕ) (k : ℕ) → Refused output s (refusing output s k)
@@ -84,7 +73,7 @@ refusing-refused output s k =
       payload = refl;
       untouched = refl;
       drops = λ a b. refusal-drops s k (rw (le-leb 12 k a, le-leb k 16 b));
-      kept = λ e. refusal-keeps s k e;
+      kept = λ e. sym (refusal-keeps k s e);
     }
 
 pub receive-refuses : ReceiveRefuses
@@ -96,12 +85,6 @@ receive-refuses F o output s =
     P a = (a .answer .number ≡ 0 → ⊥) → Refused output s a
 
 -- ---- the output
-
--- the front fits the output, whose length stays, and so do the bytes past the front
-front-stays : (front output : List ℕ) → length front ≤ length output
-    → (length (front ++ drop (length front) output) ≡ length output) × (drop (length front) (front ++ drop (length front) output) ≡ drop (length front) output)
-front-stays front output h =
-    (omega (arith, length-append front (drop (length front) output), length-drop (length front) output), drop-append-seam front (drop (length front) output))
 
 pub receive-past : ReceivePast
 unfolding receiving
@@ -117,34 +100,10 @@ receive-past F o output s =
 
 -- ---- the share's length
 
--- the words of a new set that broke no rule are as many as they should be, whatever the object's bytes are
-module _ (t : Track) (delta : Bool) (r : List ℕ) (says : Says) (words : length r ≡ setLen) (good : delta ≡ true → lawfulSet t r ≡ true)
-    (k : Taken t delta r says) (iv : t .«iv_size» ≤ 16) where
-  small : Small (lengths t delta r says)
-  small = record { count = count-le t delta r says good; ivs = omega arith; sum = omega (arith, k .few) }
-
-  fields-fit : AllFit (fieldOf t delta r says)
-  unfolding came
-  fields-fit i lt =
-      fits-of (getD lines i spare) _
-      (λ vs e.
-      let m = lengths t delta r says in
-      let n : length vs ≡ wanted (getD lines i spare .want) m = came-length t delta r words good i lt says m vs e in
-      omega (arith, n, wanted-room i lt m small (k .few)))
-
-  new-long : (start : ℕ) → length (newWords t delta r says start) ≡ setLen
-  new-long start = words-length start (countOf t delta r says) (fieldOf t delta r says) fields-fit
-
 -- what an object that broke no rule is read against
 module _ (F : List Row) (o output s : List ℕ) (l : length s ≡ shareLen) (h : Passed F o output s) where
   opened : Opened Receiver s
   opened = opened-facts Receiver s (h .lawful) (h .opened)
-
-  few-bytes : trackOf s .«iv_size» ≤ 16
-  few-bytes = ranges (askedOf s) (opened .track) .iv-size
-
-  set-words : length (reference F o s) ≡ setLen
-  set-words = omega (arith, length-drop setAt s)
 
   set-good : isDelta F o ≡ true → lawfulSet (trackOf s) (reference F o s) ≡ true
   set-good d = held-facts (trackOf s) s (opened .reference) (delta-held F o s (h .held) d) .1
@@ -155,8 +114,8 @@ module _ (F : List Row) (o output s : List ℕ) (l : length s ≡ shareLen) (h :
   set-long : length (newSet F o s) ≡ setLen
   unfolding newSet
   set-long =
-      new-long (trackOf s) (isDelta F o) (reference F o s) (saying F o) set-words set-good
-      (taken-facts (trackOf s) (isDelta F o) (reference F o s) (saying F o) (h .fields)) few-bytes (bmdt F o s)
+      new-long (trackOf s) (isDelta F o) (reference F o s) (saying F o) (reference-long s l) set-good
+      (taken-facts (trackOf s) (isDelta F o) (reference F o s) (saying F o) (h .fields)) (iv-most s l (h .lawful) (h .opened)) (bmdt F o s)
 
   done-long : length (accepted F o s) ≡ shareLen
   unfolding accepted
@@ -210,8 +169,8 @@ unfolding accepted newSet
 done-lawful F o output s b l h =
     let v = value-facts F o s (h .values) in
     let good : lawfulSet (trackOf s) (newSet F o s) ≡ true =
-    new-lawful (trackOf s) (isDelta F o) (reference F o s) (saying F o) (h .fields) (bmdt F o s) (v .0) (few-bytes F o output s l h)
-    (set-words F o output s l h) (set-good F o output s l h) (raw-bytes F o b) in
+    new-lawful (trackOf s) (isDelta F o) (reference F o s) (saying F o) (h .fields) (bmdt F o s) (v .0) (iv-most s l (h .lawful) (h .opened))
+    (reference-long s l) (set-good F o output s l h) (raw-bytes F o b) in
     accepted-lawful s l (isDelta F o) (sequence F o s) (prft F o s .prft) (newSet F o s) Receiver (h .opened) (opened F o output s l h) (count-ok F o s)
     (prft-good F o output s l h) (full-ranged F o s (v .1)) good
 

@@ -5,7 +5,7 @@ use mathlib.Core.Bool.{true, false, _&&_}
 use mathlib.Core.List.{List, [], _++_, List·Permᴰ}
 use mathlib.Core.Option.{some}
 use lib.Dec.{leb}
-use lib.ListN.{length, take, drop}
+use lib.ListN.{length, take}
 use Rattle.laws.specs.Tests.{allLe}
 use Rattle.laws.specs.Ladder.{Given}
 use Rattle.wire.specs.declared.form.Row.{Row}
@@ -13,7 +13,7 @@ use Rattle.slots.specs.declared.share.Side.the-variants.{Receiver}
 use Rattle.slots.specs.Share.{shareLen, heldAt, lawful, dropped}
 use Rattle.slots.specs.Table.{Out, shareAt, tableRungs, onTable}
 use Rattle.block.specs.Entries.{Entry}
-use Rattle.exchange.specs.Took.{Took, refused}
+use Rattle.exchange.specs.Took.{Took, refused, PastStays}
 use Rattle.receiver.specs.Object.{isDelta, headRungs, tuples, payload}
 use Rattle.receiver.specs.Receive.{receiveRungs, receiving}
 
@@ -38,12 +38,6 @@ pub record Refused (room s : List ℕ) (a : Out Took) : Type 0 where
 
 abbrev pub ReceiveRefuses : Type 0
 ReceiveRefuses = (F : List Row) (o output s : List ℕ) → (receiving F o output s .answer .number ≡ 0 → ⊥) → Refused output s (receiving F o output s)
-
--- 01: "Done reports the front's length; bytes past it stay."
-pub record PastStays (output : List ℕ) (a : Took) : Type 0 where
-  pub room : a .front ≤ length output
-  pub long : length (a .output) ≡ length output
-  pub past : drop (a .front) (a .output) ≡ drop (a .front) output
 
 abbrev pub ReceivePast : Type 0
 ReceivePast = (F : List Row) (o output s : List ℕ) → PastStays output (receiving F o output s .answer)

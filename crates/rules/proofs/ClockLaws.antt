@@ -6,9 +6,9 @@ use mathlib.Core.List.{List}
 use lib.Dec.{eqb}
 use lib.ListN.{getD}
 use Rattle.laws.specs.Tests.{_and_}
+use Rattle.laws.proofs.RowLaws.{Row}
 use Rattle.chunk.specs.Events.{eventAt, eventsFrom}
 use Rattle.rules.specs.Rules.{clocksOk}
-use Rattle.rules.proofs.SampleLaws.{Row}
 
 -- each event's timescale is the fifth of its ten words
 pub clocks-row : (o ws : List ℕ) → Row (λ i. not (eqb (getD ws (10 * i + 4) 0) 0)) (λ k i. clocksOk (eventsFrom o ws k i))

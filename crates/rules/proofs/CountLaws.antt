@@ -7,7 +7,7 @@ use mathlib.Core.List.{List}
 use borrow.Author.Tests.{eqb-true, eqb-false, not-true, not-false}
 use lib.Dec.{eqb}
 use Rattle.laws.specs.Tests.{_and_}
-use Rattle.laws.proofs.TestLaws.{and-left, and-right, and-is}
+use Rattle.laws.proofs.TestLaws.{and-left, and-right, and-is, and-true}
 use Rattle.track.specs.declared.Track.{Track}
 use Rattle.track.specs.Track.{none}
 use Rattle.shape.specs.declared.top.Top.{Top}
@@ -27,11 +27,6 @@ use Rattle.rules.specs.Rules as R
 -- a test that fails says that two numbers differ
 differ : (a b : ℕ) → not (eqb a b) ≡ true → a ≡ b → ⊥
 differ a b h = eqb-false a b (not-true _ h)
-
--- a test that holds leaves the others
-holds : (a b : Bool) → a ≡ true → (a and b) ≡ b
-unfolding _and_
-holds a b h = rw h
 
 module _ (t : Track) (c : List ℕ) (top : Top) (f : Inner) where
   abbrev run : Run
@@ -104,7 +99,7 @@ module _ (t : Track) (c : List ℕ) (top : Top) (f : Inner) where
       ∙ ap₂ (λ (x y : Bool). x and y) u v
       ∙ ap₂ (λ (x : Entries) (y : Run). protectedBy x y default) p q
       ∙ ap (protectedBy entries run) s
-      ∙ sym (holds (countsOk t c top f) (protectedBy entries run (R.defaults t c top f .size)) h)
+      ∙ sym (and-true (protectedBy entries run (R.defaults t c top f .size)) h)
 
 -- ---- what stands in a chunk whose boxes are right
 

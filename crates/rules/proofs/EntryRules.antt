@@ -14,7 +14,7 @@ use Rattle.fragment.specs.Rows.{sizeAt}
 use Rattle.encryption.specs.declared.entries.Entries.{Entries}
 use Rattle.encryption.specs.Entries.{mapLength, pairsAt, lengthAt}
 use Rattle.encryption.specs.Sizes.{infoSize}
-use Rattle.encryption.proofs.EntryLaws.{map-yes, Left, left-here, left-head, left-pairs, left-next}
+use Rattle.encryption.proofs.EntryLaws.{map-yes, Left, left-head, left-pairs, left-next, length-is, left-whole}
 use Rattle.rules.specs.Rules.{pairsSum, entryOk, entriesOk}
 
 -- ---- an entry
@@ -92,15 +92,12 @@ module _ (c : List ℕ) (e : Entries) (saiz : Part) (r : Run) (default : ℕ) wh
       checking-pairs = omega (arith, left-pairs some-left (g .left), g .few)
 
       pub checking-here : p + lengthAt c e p ≤ length c
-      checking-here = omega (arith, left-here some-left (g .left), g .left .within)
+      checking-here = left-whole some-left (g .left)
 
       -- by what was found of it: the number of its subsamples, and the bytes after its IV
       module _ (k len : ℕ) (x : k ≡ pairsAt c e p) (y : len ≡ mapLength e k) where
-        len-is : e .iv + len ≡ lengthAt c e p
-        len-is = ap (λ (j : ℕ). e .iv + j) (y ∙ ap (mapLength e) x)
-
         pub checking-len : p + (e .iv + len) ≤ length c
-        checking-len = omega (arith, len-is, checking-here)
+        checking-len = omega (arith, length-is c e p x y, checking-here)
 
         pub checking-next : (a : Bool) (size v : ℕ) → a ≡ entryOk c e p size → size ≡ sizeAt c r default i → v ≡ infoSize c saiz i
             → Checking n (ok && (a && eqb v (e .iv + len))) (p + (e .iv + len)) (i + 1)
@@ -108,12 +105,12 @@ module _ (c : List ℕ) (e : Entries) (saiz : Part) (r : Run) (default : ℕ) wh
             let z : n - i - 1 ≡ n - (i + 1) = omega arith in
             let u : suc i ≡ i + 1 = omega arith in
             let t : (a && eqb v (e .iv + len)) ≡ (entryOk c e p (sizeAt c r default i) && eqb (infoSize c saiz i) (lengthAt c e p)) =
-            ap₂ (λ (b d : Bool). b && d) (q ∙ ap (entryOk c e p) s) (ap₂ eqb w len-is) in
+            ap₂ (λ (b d : Bool). b && d) (q ∙ ap (entryOk c e p) s) (ap₂ eqb w (length-is c e p x y)) in
             record {
               end = g .end;
               pairs = g .pairs - pairsAt c e p;
               few = omega (arith, g .few);
-              left = rw (← z, len-is) (left-next some-left (g .left));
+              left = rw (← z, length-is c e p x y) (left-next some-left (g .left));
               rest =
                   and-next ok (a && eqb v (e .iv + len)) _
                   ∙ ap
@@ -121,7 +118,7 @@ module _ (c : List ℕ) (e : Entries) (saiz : Part) (r : Run) (default : ℕ) wh
                   t
                   ∙ ap
                   (λ (b : Bool). ok and ((entryOk c e p (sizeAt c r default i) && eqb (infoSize c saiz i) (lengthAt c e p)) and b))
-                  (rw (← z, ← u, len-is))
+                  (rw (← z, ← u, length-is c e p x y))
                   ∙ ap (λ (b : Bool). ok and b) (entries-more (n - i) i p some-left)
                   ∙ g .rest;
             }

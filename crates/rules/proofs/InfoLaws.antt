@@ -4,13 +4,13 @@ use native.Mathlib.Omega.{arith}
 use mathlib.Core.Path.{_≡_, refl}
 use mathlib.Core.Bool.{Bool, true, false, cond}
 use mathlib.Core.List.{List, [], _∷_}
-use borrow.Author.Tests.{leb-true, le-leb, eqb-true}
+use borrow.Author.Tests.{le-leb, eqb-true}
 use lib.Dec.{eqb}
 use lib.ListN.{length, take, length-take, length-drop}
 use lib.Seq.{slice}
 use Rattle.laws.specs.Bytes.{de, Bytes}
 use Rattle.laws.specs.Tests.{allLe}
-use Rattle.laws.proofs.BytesLaws.{bytes-take, bytes-drop}
+use Rattle.laws.proofs.BytesLaws.{bytes-take, bytes-drop, bytes-are}
 use Rattle.laws.proofs.TestLaws.{left, right, both, and-right}
 use Rattle.tree.specs.Numbers.{u8}
 use Rattle.shape.specs.declared.parts.Part.{Part}
@@ -24,11 +24,6 @@ use Rattle.encryption.proofs.EntryLaws.{map-yes}
 use Rattle.rules.specs.Rules.{entryOk, entriesOk}
 
 -- ---- a byte of a chunk
-
-pub bytes-are : (s : List ℕ) → allLe 255 s ≡ true → Bytes s
-unfolding allLe
-bytes-are [] e = tt
-bytes-are (x ∷ s) e = let h : x ≤ 255 = leb-true x 255 (left _ _ e) in (omega arith, bytes-are s (right _ _ e))
 
 one-byte : (s : List ℕ) → Bytes s → length s ≤ 1 → de s ≤ 255
 unfolding de

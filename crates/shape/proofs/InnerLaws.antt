@@ -8,7 +8,7 @@ use mathlib.Core.Logic.{_⊎_, inl, inr}
 use borrow.Author.Tests.{eqb-true, eqb-false, not-true, eq-eqb, ne-eqb}
 use lib.Dec.{eqb}
 use lib.ListN.{length}
-use Rattle.laws.proofs.TestLaws.{and-left, and-right}
+use Rattle.laws.proofs.TestLaws.{both-of}
 use Rattle.boxes.specs.Box as kinds
 use Rattle.shape.specs.declared.parts.Part.{Part}
 use Rattle.shape.specs.declared.parts.Any.{Any}
@@ -324,9 +324,6 @@ pub record InnerSays (moof : Part) (f : Inner) : Type 0 where
   pub traf-ends : endOf (f .traf) ≡ endOf moof
   pub three-or-none : (endOf (f .trun) ≡ endOf (f .traf)) ⊎ Three f
 
-split : (a b : Bool) → (a && b) ≡ true → (a ≡ true) × (b ≡ true)
-split a b e = (and-left a b e, and-right a b e)
-
 has : (p : Part) → stands p ≡ true → p .len ≡ 0 → ⊥
 has p e = eqb-false _ _ (not-true _ e)
 
@@ -339,9 +336,9 @@ three-says f = by (eqb (endOf (f .trun)) (endOf (f .traf))) refl
         → (endOf (f .trun) ≡ endOf (f .traf)) ⊎ Three f
     by true e z = inl (eqb-true _ _ e)
     by false e z =
-        let p = split (stands (f .senc) && (stands (f .saiz) && stands (f .saio))) (eqb (f .end) (endOf (f .traf))) z in
-        let q = split (stands (f .senc)) (stands (f .saiz) && stands (f .saio)) (p .0) in
-        let r = split (stands (f .saiz)) (stands (f .saio)) (q .1) in
+        let p = both-of (stands (f .senc) && (stands (f .saiz) && stands (f .saio))) (eqb (f .end) (endOf (f .traf))) z in
+        let q = both-of (stands (f .senc)) (stands (f .saiz) && stands (f .saio)) (p .0) in
+        let r = both-of (stands (f .saiz)) (stands (f .saio)) (q .1) in
         inr
         (record {
           senc-stands = has (f .senc) (q .0);
@@ -354,13 +351,13 @@ pub inner-says : (moof : Part) (f : Inner) → innerOk moof f ≡ true → Inner
 unfolding innerOk
 inner-says moof f e =
     let p =
-    split (stands (f .mfhd) && (stands (f .traf) && (stands (f .tfhd) && (stands (f .tfdt) && stands (f .trun)))))
+    both-of (stands (f .mfhd) && (stands (f .traf) && (stands (f .tfhd) && (stands (f .tfdt) && stands (f .trun)))))
     (eqb (endOf (f .traf)) (endOf moof) && threeOrNone f) e in
-    let q = split (stands (f .mfhd)) (stands (f .traf) && (stands (f .tfhd) && (stands (f .tfdt) && stands (f .trun)))) (p .0) in
-    let r = split (stands (f .traf)) (stands (f .tfhd) && (stands (f .tfdt) && stands (f .trun))) (q .1) in
-    let s = split (stands (f .tfhd)) (stands (f .tfdt) && stands (f .trun)) (r .1) in
-    let t = split (stands (f .tfdt)) (stands (f .trun)) (s .1) in
-    let u = split (eqb (endOf (f .traf)) (endOf moof)) (threeOrNone f) (p .1) in
+    let q = both-of (stands (f .mfhd)) (stands (f .traf) && (stands (f .tfhd) && (stands (f .tfdt) && stands (f .trun)))) (p .0) in
+    let r = both-of (stands (f .traf)) (stands (f .tfhd) && (stands (f .tfdt) && stands (f .trun))) (q .1) in
+    let s = both-of (stands (f .tfhd)) (stands (f .tfdt) && stands (f .trun)) (r .1) in
+    let t = both-of (stands (f .tfdt)) (stands (f .trun)) (s .1) in
+    let u = both-of (eqb (endOf (f .traf)) (endOf moof)) (threeOrNone f) (p .1) in
     record {
       mfhd-stands = has (f .mfhd) (q .0);
       traf-stands = has (f .traf) (r .0);

@@ -10,9 +10,9 @@ use lib.Dec.{eqb, ltb}
 use lib.ListN.{length, take, length-drop}
 use lib.Seq.{length-take-le}
 use Rattle.laws.specs.Tests.{_and_}
-use Rattle.laws.proofs.TestLaws.{left, right, both}
+use Rattle.laws.proofs.TestLaws.{left, right, both, and-true, and-false}
 use Rattle.tree.specs.Whole.{sizeOf, kindOf, sized}
-use Rattle.tree.proofs.WholeLaws.{Sized, sized-says, sized-is, and-true}
+use Rattle.tree.proofs.WholeLaws.{Sized, sized-says, sized-is}
 use Rattle.tree.proofs.HeadLaws.{HeadAt}
 use Rattle.shape.specs.declared.parts.Part.{Part}
 use Rattle.shape.specs.declared.parts.Any.{Any}
@@ -53,10 +53,6 @@ body-in p = by (ltb (p .len) 8) refl
         record { starts = omega arith; ends = omega arith; past-head = λ h. omega arith; same-end = λ h. omega arith }
 
 -- ---- the code's ways out
-
-and-false : {a : Bool} (b : Bool) → a ≡ false → (a and b) ≡ false
-unfolding _and_
-and-false b e = simp e
 
 abbrev any : ℕ → ℕ → ℕ → Any
 any kind at len = record { kind = kind; at = at; len = len }

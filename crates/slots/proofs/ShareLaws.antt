@@ -14,10 +14,10 @@ use Rattle.laws.proofs.TestLaws.{bits-zero}
 use Rattle.laws.proofs.SliceLaws.{slice-to-end}
 use Rattle.track.specs.declared.Asked.{Asked}
 use Rattle.track.specs.declared.Track.{Track}
-use Rattle.track.specs.Track.{lawful as lawfulTrack}
+use Rattle.track.specs.Track.{lawful as lawfulTrack, u32}
 use Rattle.fieldset.specs.Lawful.{lawful as lawfulSet}
 use Rattle.slots.specs.declared.share.Side.{Side}
-use Rattle.slots.specs.Share.{heldAt, prftAt, ntpAt, mediaTimeAt, versionAt, prftFlagsAt, setAt, u24, u32, trackAt, acceptedAt, shareLen, askedOf, trackOf, paramWords, acceptedOk, prftOk, referenceOk, openOk, lawful}
+use Rattle.slots.specs.Share.{heldAt, prftAt, ntpAt, mediaTimeAt, versionAt, prftFlagsAt, setAt, u24, trackAt, acceptedAt, shareLen, askedOf, trackOf, paramWords, acceptedOk, prftOk, referenceOk, openOk, lawful}
 
 -- the words from a place to the end, folded
 folded : (from : ℕ) (s : List ℕ) (b : ℕ) → length s ≡ shareLen → b ≡ allBits (slice from shareLen s) → eqb b 0 ≡ allZero (drop from s)

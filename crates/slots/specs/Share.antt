@@ -9,7 +9,7 @@ use lib.Seq.{slice}
 use Rattle.laws.specs.Tests.{_and_, allZero}
 use Rattle.track.specs.declared.Asked.{Asked}
 use Rattle.track.specs.declared.Track.{Track}
-use Rattle.track.specs.Track.{narrow}
+use Rattle.track.specs.Track.{narrow, u32}
 use Rattle.track.specs.Track.{lawful as lawfulTrack}
 use Rattle.fieldset.specs.Lawful.{lawful as lawfulSet}
 use Rattle.slots.specs.declared.share.Side.{Side}
@@ -48,9 +48,6 @@ shareLen = 996
 
 abbrev pub u24 : ℕ
 u24 = 0xff_ffff
-
-abbrev pub u32 : ℕ
-u32 = 0xffff_ffff
 
 abbrev pub asked : ℕ → ℕ → ℕ → ℕ → ℕ → ℕ → ℕ → ℕ → Asked
 asked track timescale description duration size flags protection ivSize =

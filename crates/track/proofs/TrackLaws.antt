@@ -11,7 +11,7 @@ use Rattle.track.specs.declared.Asked.{Asked}
 use Rattle.track.specs.Track.{lawful, ivOk, u32}
 
 -- the IV size is 0, 8 or 16
-iv-size-le : (p i : ℕ) → ivOk p i ≡ true → i ≤ 16
+pub iv-size-le : (p i : ℕ) → ivOk p i ≡ true → i ≤ 16
 iv-size-le p i e = go (eqb p 1) (eqb i 8) refl (eqb i 16) refl (eqb p 0) (eqb p 2) (eqb i 0) refl e
   where
     go : (a b : Bool) → eqb i 8 ≡ b → (c : Bool) → eqb i 16 ≡ c → (d f g : Bool) → eqb i 0 ≡ g → ((a && (b || c)) || ((d || f) && g)) ≡ true → i ≤ 16

@@ -10,10 +10,11 @@ use Rattle.laws.specs.Bytes.{be}
 use Rattle.laws.specs.Tests.{_and_}
 use Rattle.laws.proofs.BytesLaws.{de-be-small}
 use Rattle.laws.proofs.SliceLaws.{slice-between}
+use Rattle.laws.proofs.TestLaws.{and-true}
 use Rattle.boxes.specs.Box.{box}
 use Rattle.boxes.proofs.BoxLaws.{length-box}
 use Rattle.tree.specs.Whole.{sizeOf, kindOf, insideOf, afterOf, container, whole}
-use Rattle.tree.proofs.WholeLaws.{Sized, and-true, whole-sized, whole-empty, first-holds}
+use Rattle.tree.proofs.WholeLaws.{Sized, whole-sized, whole-empty, first-holds}
 
 module _ (type : ℕ) (body l : List ℕ) where
   pub box-kind : type < 2 ^ 32 → kindOf (box type body ++ l) ≡ type

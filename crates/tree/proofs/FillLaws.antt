@@ -10,11 +10,11 @@ use lib.ListN.{length}
 use Rattle.laws.specs.ByLength.{Local}
 use Rattle.laws.specs.Tests.{_and_}
 use Rattle.laws.proofs.ByLengthLaws.{by-step}
-use Rattle.laws.proofs.TestLaws.{left, right, and-assoc}
+use Rattle.laws.proofs.TestLaws.{left, right, and-assoc, and-true}
 use Rattle.tree.specs.Whole.{insideOf, afterOf, sized, container, whole}
 use Rattle.tree.specs.Fills.{fillsBy, fills}
 use Rattle.tree.proofs.WholeLaws.{Sized, sized-says, sized-is, after-less, inside-append, kind-append, after-append, sized-append}
-use Rattle.tree.proofs.WholeLaws.{and-cong, and-true, firstBy, whole-empty, whole-sized, whole-first, by-shorter}
+use Rattle.tree.proofs.WholeLaws.{and-cong, firstBy, whole-empty, whole-sized, whole-first, by-shorter}
 
 fills-local : Local fillsBy
 fills-local f g l h =

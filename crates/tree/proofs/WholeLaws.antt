@@ -14,7 +14,7 @@ use Rattle.laws.specs.ByLength.{Local}
 use Rattle.laws.specs.Tests.{_and_}
 use Rattle.laws.proofs.ByLengthLaws.{by-step}
 use Rattle.laws.proofs.SliceLaws.{slice-to-end, slice-join}
-use Rattle.laws.proofs.TestLaws.{left, right, both}
+use Rattle.laws.proofs.TestLaws.{left, right, both, and-true}
 use Rattle.tree.specs.Whole.{sizeOf, kindOf, insideOf, afterOf, sized, container, wholeBy, whole}
 
 -- ---- a first box that stands in its list
@@ -87,11 +87,6 @@ pub and-cong : (a : Bool) {x y : Bool} → (a ≡ true → x ≡ y) → (a and x
 unfolding _and_
 and-cong true h = h refl
 and-cong false h = refl
-
--- a test that holds in front of another
-pub and-true : {a : Bool} (b : Bool) → a ≡ true → (a and b) ≡ b
-unfolding _and_
-and-true b e = simp e
 
 -- what is asked of the first box, by what is said of the list inside it
 abbrev pub firstBy : Bool → List ℕ → Bool

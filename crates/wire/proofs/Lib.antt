@@ -5,3 +5,4 @@ pub mod Writing
 pub mod JoinLoop
 pub mod PutLoop
 pub mod ZigzagLaws
+pub mod SizeLaws

@@ -172,3 +172,16 @@ pub reached-most : (coding : Coding) (old bound z v : ℕ) → reached coding ol
 unfolding reached
 reached-most Plain old bound z v e = ranged-most bound (pos z) v e
 reached-most Delta old bound z v e = ranged-most bound (pos old +ℤ unzigzag z) v e
+
+-- ---- a number that is written as it is
+
+module _ (F : List Row) (z : ℕ) where
+  -- a number was given: it is this one, and the form holds it
+  pub fitted-inv : {v : ℕ} → fitted F z ≡ Number v → (v ≡ z) × (z < limit F)
+  unfolding wireOf
+  fitted-inv e = let p = coded-inv F Plain 0 z (code-plain F 0 z ∙ e) in (p .0, omega (arith, p .0, p .1))
+
+  -- none was given: the form does not hold it
+  pub fitted-wide : fitted F z ≡ TooWide → limit F ≤ z
+  unfolding wireOf
+  fitted-wide e = coded-wide F Plain 0 z (code-plain F 0 z ∙ e)

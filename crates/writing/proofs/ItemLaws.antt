@@ -1,25 +1,19 @@
 -- Items that are to stand in a block: some and then others, their bytes and their weight, and how long one item is. Assumes nothing.
-use Prim.Native.Nat.{ℕ, suc, _+_, _^_, _≤_, _<_, max}
-use native.Mathlib.Nat.{le-trans, le-max-left, le-max-right, le-refl}
+use Prim.Native.Nat.{ℕ, _+_, _≤_, _<_}
+use native.Mathlib.Nat.{le-trans}
 use native.Mathlib.Omega.{arith}
-use mathlib.Core.Path.{_≡_, refl, sym, _∙_, ap, subst}
-use mathlib.Core.Bool.{Bool, true, false, false≢true, cond, _&&_}
+use mathlib.Core.Path.{_≡_, refl, sym, _∙_, ap}
+use mathlib.Core.Bool.{true, false, false≢true, _&&_}
 use mathlib.Core.List.{List, [], _∷_, _++_, append-assoc, append-nil}
 use mathlib.Core.Option.{none, some}
-use lib.Dec.{ltb}
 use lib.ListN.{length, length-append}
-use Rattle.laws.specs.Writes.{Wrote}
 use Rattle.laws.proofs.TestLaws.{and-left, and-right}
 use Rattle.wire.specs.declared.form.Row.{Row}
-use Rattle.wire.specs.declared.form.Form.{Form}
-use Rattle.wire.specs.declared.form.Form.the-variants.{Rfc9000}
-use Rattle.wire.specs.declared.form.Found.{Found}
-use Rattle.wire.specs.declared.form.Found.the-variants.{In, Past}
 use Rattle.wire.specs.declared.zigzag.Coding.{Coding}
 use Rattle.wire.specs.declared.zigzag.Coded.{Coded}
 use Rattle.wire.specs.declared.zigzag.Coded.the-variants.{Number, TooWide}
-use Rattle.wire.specs.Form.{rows, cap, byValue, limit, longest, onFound}
-use Rattle.wire.specs.Varint.{sizeOf}
+use Rattle.wire.specs.Form.{limit}
+use Rattle.wire.specs.Varint.{encode, sizeOf}
 use Rattle.wire.specs.Zigzag.{codeOf}
 use Rattle.wire.proofs.VarintLaws.{length-encode}
 use Rattle.wire.proofs.ZigzagLaws.{coded-inv}
@@ -92,6 +86,15 @@ module _ (F : List Row) where
   unfolding encItem
   run-length id bs h k = simp length-append (rw (length-encode F id h, length-encode F (length bs) k))
 
+  -- a tuple with a body as it is written, a head and then the body, and its length
+  pub run-parts : (id : ℕ) (bs : List ℕ) → (encode F id ++ encode F (length bs)) ++ bs ≡ bytesOf F (some (run id bs ∷ []))
+  unfolding encItem
+  run-parts id bs = append-assoc (encode F id) (encode F (length bs)) bs ∙ sym (block-one (run id bs))
+
+  pub run-bytes : (id : ℕ) (bs : List ℕ) → id < limit F → length bs < limit F
+      → length (bytesOf F (some (run id bs ∷ []))) ≡ sizeOf F id + (sizeOf F (length bs) + length bs)
+  run-bytes id bs p q = ap length (block-one (run id bs)) ∙ run-length id bs p q
+
   -- what was made for the wire is a number that the form holds
   pub code-made : (coding : Coding) (old new : ℕ) → Made F (codeOf F coding old new)
   code-made coding old new = go (codeOf F coding old new) refl
@@ -107,21 +110,22 @@ module _ (F : List Row) where
 -- ---- items under another name
 
 module _ (F : List Row) (a b : Items) (e : a ≡ b) where
-  -- they are some too, take as much room, are written and are weighed
+  -- they are some too, and take as much room
   pub some-as : isSome b ≡ true → isSome a ≡ true
   some-as h = rw e h
 
   pub room-as : (at n : ℕ) → at + length (bytesOf F b) ≤ n → at + length (bytesOf F a) ≤ n
   room-as at n h = rw e h
 
-  pub wrote-items : {l m : List ℕ} {at p : ℕ} → Wrote l at (bytesOf F a) m p → Wrote l at (bytesOf F b) m p
-  wrote-items {l} {m} {at} {p} w = subst (λ (is : Items). Wrote l at (bytesOf F is) m p) e w
-
-  pub weighed-items : {k n : ℕ} {w : Weight} → WeighedAs F a k w → k ≤ n → WeighedAs F b n w
-  weighed-items {k} {n} {w} h le =
-      subst (λ (is : Items). WeighedAs F is n w) e (record { fits = h .fits; bytes = h .bytes; small = le-trans (h .small) le })
-
 -- ---- weights
+
+-- a weight that is at most so much is at most more
+pub weighed-within : {F : List Row} {a : Items} {m n : ℕ} {w : Weight} → m ≤ n → WeighedAs F a m w → WeighedAs F a n w
+weighed-within le h = record { fits = h .fits; bytes = h .bytes; small = le-trans (h .small) le }
+
+-- what was weighed is known under another name
+pub weighed-as : {F : List Row} {a b : Items} {m : ℕ} {w : Weight} → a ≡ b → WeighedAs F a m w → WeighedAs F b m w
+weighed-as e h = rw e at h
 
 -- items that were weighed, and others
 pub weighed-both : {F : List Row} {a b : Items} {m n : ℕ} {v w r : Weight} → WeighedAs F a m v → WeighedAs F b n w
@@ -148,39 +152,3 @@ weighed-nothing e = record { fits = e .0; bytes = λ s. e .1; small = omega (ari
 -- items of which a number is too wide
 pub weighed-wide : {F : List Row} {m : ℕ} {w : Weight} → (w .fits ≡ false) × (w .bytes ≡ 0) → WeighedAs F none m w
 weighed-wide e = record { fits = e .0; bytes = λ s. absurd (false≢true s); small = omega (arith, e .1) }
-
--- ---- sizes
-
--- the size of a row that was found, or else a larger one
-found-le : (f : Found) (m n : ℕ) → onFound f (λ r. suc (r .tail)) m ≤ m → m ≤ n → onFound f (λ r. suc (r .tail)) n ≤ n
-found-le (In r) m n h k = le-trans h k
-found-le Past m n h k = le-refl n
-
--- no size is larger than the longest varint's
-size-longest : (F : List Row) (v : ℕ) → sizeOf F v ≤ longest F
-unfolding sizeOf byValue longest
-size-longest [] v = le-refl 0
-size-longest (q ∷ rs) v = go (ltb v (cap q)) (size-longest rs v)
-  where
-    go : (t : Bool) → onFound (byValue rs v) (λ r. suc (r .tail)) (longest rs) ≤ longest rs
-        → onFound (cond t (In q) (byValue rs v)) (λ r. suc (r .tail)) (max (suc (q .tail)) (longest rs)) ≤ max (suc (q .tail)) (longest rs)
-    go true ih = le-max-left (suc (q .tail)) (longest rs)
-    go false ih = found-le (byValue rs v) (longest rs) _ ih (le-max-right (suc (q .tail)) (longest rs))
-
--- a varint takes at most eight bytes
-pub size-eight : (form : Form) (v : ℕ) → sizeOf (rows form) v ≤ 8
-unfolding longest
-size-eight Rfc9000 v = size-longest (rows Rfc9000) v
-
--- every form holds the numbers of 62 bits
-pub limit-62 : (form : Form) → 2 ^ 62 ≤ limit (rows form)
-unfolding limit
-limit-62 Rfc9000 = omega arith
-
--- a weight that is at most so much is at most more
-pub weighed-within : {F : List Row} {a : Items} {m n : ℕ} {w : Weight} → m ≤ n → WeighedAs F a m w → WeighedAs F a n w
-weighed-within le h = record { fits = h .fits; bytes = h .bytes; small = le-trans (h .small) le }
-
--- what was weighed is known under another name
-pub weighed-as : {F : List Row} {a b : Items} {m : ℕ} {w : Weight} → a ≡ b → WeighedAs F a m w → WeighedAs F b m w
-weighed-as e h = rw e at h

@@ -27,6 +27,9 @@ pub put-nothing : (F : List Row) (l : List ℕ) (at : ℕ) → at ≤ length l �
 unfolding encBlock
 put-nothing F l at h = wrote-none l at h
 
+pub put-none : (F : List Row) {is : Items} (l : List ℕ) (at : ℕ) → is ≡ nothing → at + length (bytesOf F is) ≤ length l → Wrote l at (bytesOf F is) l at
+put-none F l at e h = put-as F (sym e) (put-nothing F l at (omega arith))
+
 -- of the whole, to be written in l from the place at on, these items are left, to be written in m from the place p on
 pub record Left (F : List Row) (whole : Items) (l : List ℕ) (at : ℕ) (is : Items) (m : List ℕ) (p : ℕ) : Type 0 where
   pub long : length m ≡ length l

@@ -17,6 +17,7 @@ use Rattle.wire.specs.declared.zigzag.Coded.{Coded}
 use Rattle.wire.specs.Form.{rows}
 use Rattle.wire.specs.Varint.{encode, sizeOf}
 use Rattle.wire.specs.Zigzag.{codeOf}
+use Rattle.wire.proofs.SizeLaws.{limit-62}
 use Rattle.runs.specs.Run.{first}
 use Rattle.block.specs.Written.{run, encItem}
 use Rattle.track.specs.declared.Track.{Track}
@@ -27,7 +28,7 @@ use Rattle.writing.specs.declared.tuples.Weight.{Weight}
 use Rattle.writing.specs.declared.cells.Basis.{Basis}
 use Rattle.writing.specs.Items.{itemsIf, numberItem, runItem, wideBytes, bytesOf, WeighedAs}
 use Rattle.writing.specs.Changes.{news, olds, sentItems}
-use Rattle.writing.proofs.ItemLaws.{block-one, run-length, limit-62}
+use Rattle.writing.proofs.ItemLaws.{block-one, run-length}
 use Rattle.writing.proofs.WideLaws.{wide-length}
 use Rattle.writing.proofs.FieldLaws.{Field}
 

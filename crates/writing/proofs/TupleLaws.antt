@@ -18,6 +18,7 @@ use Rattle.wire.specs.Varint.{encode, sizeOf}
 use Rattle.wire.specs.Zigzag.{codeOf}
 use Rattle.wire.proofs.VarintLaws.{length-encode}
 use Rattle.wire.proofs.ZigzagLaws.{coded-inv}
+use Rattle.wire.proofs.SizeLaws.{size-eight, limit-62}
 use Rattle.runs.specs.declared.Measured.the-variants.{Bytes, TooWide}
 use Rattle.runs.specs.Run.{first, rest, runOf, measured}
 use Rattle.runs.proofs.RunLaws.{run-wide, run-number, measured-length}
@@ -25,7 +26,7 @@ use Rattle.block.specs.Entries.{isSome}
 use Rattle.block.specs.Written.{num, run, encItem}
 use Rattle.writing.specs.declared.tuples.Weight.{Weight}
 use Rattle.writing.specs.Items.{Items, itemsIf, numberItem, runItem, bytesOf, Made, WeighedAs}
-use Rattle.writing.proofs.ItemLaws.{block-one, bytes-nothing, number-length, run-length, weighed-nothing, weighed-wide, size-eight, limit-62}
+use Rattle.writing.proofs.ItemLaws.{block-one, bytes-nothing, number-length, run-length, weighed-nothing, weighed-wide}
 
 -- ---- a tuple that is left out
 

@@ -6,9 +6,9 @@ use Rattle.laws.proofs.PartLaws.{Parts, parts-all, parts-room, parts-then, part
 use Rattle.wire.specs.Form.{rows}
 use Rattle.chunk.specs.Events.{eventAt}
 use Rattle.emsgs.specs.Records.{sent, encMarks}
-use Rattle.emsgs.proofs.NumberLaws.{fitted-inv, fitted-wide}
 use Rattle.emsgs.proofs.RecordLaws.{markParts, mark-parts}
 use borrow.Author.Needs.{needs}
+use Rattle.wire.proofs.ZigzagLaws.{fitted-inv, fitted-wide}
 use Rattle.emsgs.proofs.records.put_marks.Statement.{statement}
 use Rattle.emsgs.proofs.records.put_marks.Tie as tie
 

@@ -5,8 +5,8 @@ use mathlib.Core.Path.{_∙_, ap}
 use Rattle.wire.specs.Form.{rows}
 use Rattle.wire.specs.Varint.{sizeOf}
 use Rattle.emsgs.specs.Records.{wordsBytes}
-use Rattle.emsgs.proofs.NumberLaws.{size-most}
 use borrow.Author.Needs.{needs}
+use Rattle.wire.proofs.SizeLaws.{size-eight}
 use Rattle.emsgs.proofs.records.record_bytes.Statement.{statement}
 use Rattle.emsgs.proofs.records.record_bytes.Tie as tie
 
@@ -120,10 +120,10 @@ small : (c : tie.After-size3)
     (b₆ .text-bytes .result < 2 ^ 33)
     × (b₅ .text-bytes2 .result < 2 ^ 33)
     × (b₄ .text-bytes3 .result < 2 ^ 33)
-    × (b₃ .size .result ≤ 9)
-    × (b₂ .time-bytes .result ≤ 9)
-    × (b₁ .size2 .result ≤ 9)
-    × (c .size3 .result ≤ 9)
+    × (b₃ .size .result ≤ 8)
+    × (b₂ .time-bytes .result ≤ 8)
+    × (b₁ .size2 .result ≤ 8)
+    × (c .size3 .result ≤ 8)
 small c =
     let b₁ = c .before .before in
     let b₂ = b₁ .before .before in
@@ -136,10 +136,10 @@ small c =
       b₆ .text-bytes .ensures .1,
       b₅ .text-bytes2 .ensures .1,
       b₄ .text-bytes3 .ensures .1,
-      rw (b₃ .size .ensures) (size-most form _),
-      rw (b₂ .time-bytes .ensures) (size-most form _),
-      rw (b₁ .size2 .ensures) (size-most form _),
-      rw (c .size3 .ensures) (size-most form _),
+      rw (b₃ .size .ensures) (size-eight form _),
+      rw (b₂ .time-bytes .ensures) (size-eight form _),
+      rw (b₁ .size2 .ensures) (size-eight form _),
+      rw (c .size3 .ensures) (size-eight form _),
     )
 
 add-result : tie.Need-add-result

@@ -3,8 +3,9 @@ use mathlib.Core.Path.{sym, _∙_, ap}
 use Prim.Native.Nat.{ℕ}
 use Rattle.wire.specs.Form.{rows}
 use Rattle.wire.specs.Varint.{sizeOf}
-use Rattle.emsgs.proofs.NumberLaws.{fitted-inv, wide-size}
 use borrow.Author.Needs.{needs}
+use Rattle.wire.proofs.ZigzagLaws.{fitted-inv}
+use Rattle.wire.proofs.SizeLaws.{wide-size}
 use Rattle.emsgs.proofs.records.time_bytes.Statement.{statement}
 use Rattle.emsgs.proofs.records.time_bytes.Tie as tie
 

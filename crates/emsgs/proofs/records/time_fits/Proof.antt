@@ -3,8 +3,8 @@ use mathlib.Core.Path.{sym, _∙_}
 use borrow.Author.Tests.{lt-ltb, le-ltb}
 use Rattle.chunk.specs.Events.{eventAt}
 use Rattle.emsgs.specs.Records.{sent}
-use Rattle.emsgs.proofs.NumberLaws.{fitted-inv, fitted-wide}
 use borrow.Author.Needs.{needs}
+use Rattle.wire.proofs.ZigzagLaws.{fitted-inv, fitted-wide}
 use Rattle.emsgs.proofs.records.time_fits.Statement.{statement}
 use Rattle.emsgs.proofs.records.time_fits.Tie as tie
 

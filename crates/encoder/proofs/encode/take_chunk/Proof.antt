@@ -1,10 +1,10 @@
 -- `encoder::encode::take_chunk` meets its contract, by the laws of `proofs/EncodeLaws.antt`. Assumes nothing.
 use mathlib.Core.Path.{refl, _∙_}
 use denote.Ref.{now}
-use Rattle.encoder.proofs.ChunkLaws.{all-bytes}
 use Rattle.encoder.proofs.WriteLaws.{refused-is}
 use Rattle.encoder.proofs.EncodeLaws.{iv-small, chunk-stops, chunk-late, encodable, chunk-climbs}
 use borrow.Author.Needs.{needs}
+use Rattle.laws.proofs.TestLaws.{all-bytes}
 use Rattle.encoder.proofs.encode.take_chunk.Statement.{statement}
 use Rattle.encoder.proofs.encode.take_chunk.Tie as tie
 

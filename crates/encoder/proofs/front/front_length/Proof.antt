@@ -1,9 +1,9 @@
 -- `encoder::front::front_length` meets its contract: the lengths of its parts together. Assumes nothing.
 use Prim.Native.Nat.{ℕ, _+_}
 use mathlib.Core.Path.{_∙_, ap₂}
-use Rattle.emsgs.proofs.NumberLaws.{size-most}
 use Rattle.encoder.proofs.FrontLaws.{front-length}
 use borrow.Author.Needs.{needs}
+use Rattle.wire.proofs.SizeLaws.{size-eight}
 use Rattle.encoder.proofs.front.front_length.Statement.{statement}
 use Rattle.encoder.proofs.front.front_length.Tie as tie
 
@@ -19,16 +19,16 @@ size-requires-2 c κs = search needs
 add-result : tie.Need-add-result
 add-result c =
     let b = c .before .before .before .before .before .before .before .before in
-    let i = size-most (b .args .form) (c .before .before .before .header-of .result) in
-    let j = size-most (b .args .form) (b .args .a .block) in
+    let i = size-eight (b .args .form) (c .before .before .before .header-of .result) in
+    let j = size-eight (b .args .form) (b .args .a .block) in
     let m = b .pre .1 .0 .small in
     search needs
 
 add-result-2 : tie.Need-add-result-2
 add-result-2 c =
     let b = c .before .before .before .before .before .before .before .before in
-    let i = size-most (b .args .form) (c .before .before .before .header-of .result) in
-    let j = size-most (b .args .form) (b .args .a .block) in
+    let i = size-eight (b .args .form) (c .before .before .before .header-of .result) in
+    let j = size-eight (b .args .form) (b .args .a .block) in
     let m = b .pre .1 .0 .small in
     search needs
 

@@ -1,8 +1,9 @@
 -- `encoder::properties::brands_size` meets its contract: no brands, or one tuple with the bytes of the `styp` but its minor version. Assumes nothing.
 use native.Mathlib.Omega.{arith}
-use Rattle.encoder.proofs.RunLaws.{none-weighed}
 use Rattle.encoder.proofs.BrandLaws.{brands-none, brands-long, brands-weighed}
 use borrow.Author.Needs.{needs}
+use mathlib.Core.Path.{sym}
+use Rattle.writing.proofs.ItemLaws.{weighed-as, weighed-nothing}
 use Rattle.encoder.proofs.properties.brands_size.Statement.{statement}
 use Rattle.encoder.proofs.properties.brands_size.Tie as tie
 
@@ -12,7 +13,7 @@ whole-requires c κs = search needs
 returns : tie.Need-returns
 returns c =
     let b = c .before .before .before .before .before .before in
-    none-weighed _ 80 (brands-none (b .args .form) (b .pre) _ (c .before .if1 .taken)) (c .whole .ensures)
+    weighed-as (sym (brands-none (b .args .form) (b .pre) _ (c .before .if1 .taken))) (weighed-nothing (c .whole .ensures))
 
 sub-body-size : tie.Need-sub-body-size
 sub-body-size c =

@@ -1,8 +1,9 @@
 -- `encoder::properties::events_size` meets its contract: no events, or one tuple with their records. Assumes nothing.
 use native.Mathlib.Omega.{arith}
-use Rattle.encoder.proofs.RunLaws.{none-weighed}
 use Rattle.encoder.proofs.EventLaws.{all-words, events-none, events-weighed}
 use borrow.Author.Needs.{needs}
+use mathlib.Core.Path.{sym}
+use Rattle.writing.proofs.ItemLaws.{weighed-as, weighed-nothing}
 use Rattle.encoder.proofs.properties.events_size.Statement.{statement}
 use Rattle.encoder.proofs.properties.events_size.Tie as tie
 
@@ -12,7 +13,7 @@ whole-requires c κs = search needs
 returns : tie.Need-returns
 returns c =
     let b = c .before .before .before .before .before .before .before in
-    none-weighed _ 4112 (events-none (b .args .form) (b .pre) (c .before .if1 .taken)) (c .whole .ensures)
+    weighed-as (sym (events-none (b .args .form) (b .pre) (c .before .if1 .taken))) (weighed-nothing (c .whole .ensures))
 
 shared-slice-read-times-fit : tie.Need-shared-slice-read-times-fit
 shared-slice-read-times-fit c = search needs

@@ -7,9 +7,9 @@ use Rattle.accepted.specs.Accepted.{brands}
 use Rattle.writing.specs.Items.{bytesOf}
 use Rattle.encoder.specs.Object.{brandItems}
 use Rattle.encoder.proofs.GivenLaws.{brands-inside}
-use Rattle.encoder.proofs.RunLaws.{none-put}
 use Rattle.encoder.proofs.BrandLaws.{brands-none, brands-long, brandParts, brand-parts}
 use borrow.Author.Needs.{needs}
+use Rattle.writing.proofs.PutLaws.{put-none}
 use Rattle.encoder.proofs.properties.put_brands.Statement.{statement}
 use Rattle.encoder.proofs.properties.put_brands.Tie as tie
 
@@ -35,7 +35,7 @@ begun c =
 returns : tie.Need-returns
 returns c =
     let b = c .before .before .before .before .before .before in
-    none-put _ _ _ (brands-none (b .args .form) (b .pre .0) _ (c .if1 .taken)) (b .pre .1)
+    put-none _ _ _ (brands-none (b .args .form) (b .pre .0) _ (c .if1 .taken)) (b .pre .1)
 
 sub-put-head : tie.Need-sub-put-head
 sub-put-head c = let i = lies c in search needs

@@ -5,9 +5,9 @@ use Rattle.wire.specs.Form.{rows}
 use Rattle.accepted.specs.Accepted.{events}
 use Rattle.writing.specs.Items.{bytesOf}
 use Rattle.encoder.specs.Object.{eventItems}
-use Rattle.encoder.proofs.RunLaws.{none-put}
 use Rattle.encoder.proofs.EventLaws.{all-words, all-in, times-fit, events-none, eventParts, event-parts}
 use borrow.Author.Needs.{needs}
+use Rattle.writing.proofs.PutLaws.{put-none}
 use Rattle.encoder.proofs.properties.put_events.Statement.{statement}
 use Rattle.encoder.proofs.properties.put_events.Tie as tie
 
@@ -25,7 +25,7 @@ begun c =
 returns : tie.Need-returns
 returns c =
     let b = c .before .before .before .before .before .before .before in
-    none-put _ _ _ (events-none (b .args .form) (b .pre .0) (c .if1 .taken)) (b .pre .1 .1)
+    put-none _ _ _ (events-none (b .args .form) (b .pre .0) (c .if1 .taken)) (b .pre .1 .1)
 
 put-head-requires : tie.Need-put-head-requires
 put-head-requires c κs = parts-room (begun (c .before))

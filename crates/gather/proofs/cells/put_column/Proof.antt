@@ -5,9 +5,10 @@ use native.Mathlib.Omega.{arith}
 use lib.ListN.{length-set}
 use Rattle.fragment.specs.Rows.{cell}
 use Rattle.gather.specs.Ways.{valueOf}
-use Rattle.gather.proofs.EachLaws.{Storing, store-start, store-next, store-end}
-use Rattle.gather.proofs.CellLaws.{had, column-none, column-stored}
+use Rattle.fragment.proofs.EachLaws.{Storing, store-start, store-next, store-end}
+use Rattle.gather.proofs.CellLaws.{column-none, column-stored}
 use borrow.Author.Needs.{needs}
+use Rattle.laws.proofs.GateLaws.{held}
 use Rattle.gather.proofs.cells.put_column.Statement.{statement}
 use Rattle.gather.proofs.cells.put_column.Tie as tie
 
@@ -35,7 +36,7 @@ loop-holds : tie.Need-loop-holds Inv-loop μ-loop
 loop-holds c = store-start _ _ _ _ (simp length-set (omega (arith, c .before .before .before .before .pre)))
 
 cell-requires : tie.Need-cell-requires Inv-loop μ-loop
-cell-requires c κs = let b = c .before .before .before .before .before .before in (b .pre .0 .0, (b .pre .1 .0, (had _ (c .before .before .before .has .ensures) (c .before .before .if1 .left), c .loop-test .taken)))
+cell-requires c κs = let b = c .before .before .before .before .before .before in (b .pre .0 .0, (b .pre .1 .0, (held (c .before .before .before .has .ensures) (c .before .before .if1 .left), c .loop-test .taken)))
 
 value-requires : tie.Need-value-requires Inv-loop μ-loop
 value-requires c κs = search needs

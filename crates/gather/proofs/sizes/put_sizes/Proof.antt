@@ -3,7 +3,7 @@ use Prim.Native.Nat.{_-_}
 use native.Mathlib.Omega.{arith}
 use lib.ListN.{length-set}
 use Rattle.fragment.specs.Rows.{sizeAt}
-use Rattle.gather.proofs.EachLaws.{Storing, store-start, store-next, store-end}
+use Rattle.fragment.proofs.EachLaws.{Storing, store-start, store-next, store-end}
 use Rattle.gather.proofs.SizeLaws.{several, sizes-none, sizes-stored}
 use borrow.Author.Needs.{needs}
 use Rattle.gather.proofs.sizes.put_sizes.Statement.{statement}

@@ -1,8 +1,8 @@
 -- `receiver::judge::judge_values` meets its contract: its tests are the definitions', in their order, and what it leaves is ready. Assumes nothing.
 use borrow.Author.Needs.{needs}
 use Rattle.laws.proofs.GateLaws.{failed, held}
+use Rattle.laws.proofs.TestLaws.{all-bytes}
 use Rattle.wire.specs.Form.{rows}
-use Rattle.receiver.proofs.BrandLaws.{all-bytes}
 use Rattle.receiver.proofs.JudgeLaws.{Worked, Gathered, lent-timed, end-inside, plain-is, refuses-plain, events-lent, payload-most, fit-is}
 use Rattle.receiver.proofs.JudgeLaws.{refuses-events, some-words, stored-summable, sums-are, refuses-sums, accepts}
 use Rattle.receiver.proofs.judge.judge_values.Statement.{statement}

@@ -1,7 +1,9 @@
 -- `receiver::judge::sums_ok` meets its contract: the sizes are asked before the protected sums. Assumes nothing.
 use borrow.Author.Needs.{needs}
+use mathlib.Core.Path.{sym}
 use Rattle.laws.proofs.GateLaws.{failed, held}
-use Rattle.receiver.proofs.JudgeLaws.{first-broken, first-held}
+use Rattle.laws.proofs.TestLaws.{and-false}
+use Rattle.receiver.proofs.JudgeLaws.{first-held}
 use Rattle.receiver.proofs.judge.sums_ok.Statement.{statement}
 use Rattle.receiver.proofs.judge.sums_ok.Tie as tie
 
@@ -9,7 +11,7 @@ sizes-ok-requires : tie.Need-sizes-ok-requires
 sizes-ok-requires c κs = search needs
 
 returns : tie.Need-returns
-returns c = first-broken _ _ (failed (c .before .sizes-ok .ensures) (c .if1 .taken))
+returns c = sym (and-false _ (failed (c .before .sizes-ok .ensures) (c .if1 .taken)))
 
 protected-ok-requires : tie.Need-protected-ok-requires
 protected-ok-requires c κs =

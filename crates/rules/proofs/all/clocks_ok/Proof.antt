@@ -3,9 +3,9 @@ use Prim.Native.Nat.{_-_}
 use mathlib.Core.Path.{refl}
 use mathlib.Core.List.{[]}
 use borrow.Author.Needs.{needs}
+use Rattle.laws.proofs.RowLaws.{Tested, tests-start, tests-next, tests-end}
 use Rattle.chunk.specs.Events.{eventsFrom}
 use Rattle.rules.specs.Rules.{clocksOk}
-use Rattle.rules.proofs.SampleLaws.{Tested, tests-start, tests-next, tests-end}
 use Rattle.rules.proofs.ClockLaws.{clocks-row}
 use Rattle.rules.proofs.all.clocks_ok.Statement.{statement}
 use Rattle.rules.proofs.all.clocks_ok.Tie as tie

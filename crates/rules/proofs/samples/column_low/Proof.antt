@@ -6,10 +6,11 @@ use borrow.Author.Needs.{needs}
 use Rattle.laws.specs.Tests.{allLe}
 use Rattle.laws.proofs.GateLaws.{failed, held}
 use lib.Dec.{leb}
+use Rattle.laws.proofs.RowLaws.{Tested, tests-start, tests-next, tests-end}
 use Rattle.fragment.specs.Rows.{isColumn, hasColumn, cell, offsets}
 use Rattle.fragment.specs.Samples.{eachFrom}
 use Rattle.fragment.proofs.RowLaws.{offsets-column}
-use Rattle.rules.proofs.SampleLaws.{Tested, tests-start, tests-next, tests-end, column-none, column-some, bound-row, bound-none}
+use Rattle.rules.proofs.SampleLaws.{column-none, column-some, bound-row, bound-none}
 use Rattle.rules.proofs.samples.column_low.Statement.{statement}
 use Rattle.rules.proofs.samples.column_low.Tie as tie
 

@@ -4,12 +4,13 @@ use mathlib.Core.Path.{_≡_, refl, sym, _∙_, ap}
 use mathlib.Core.Bool.{true}
 use borrow.Author.Needs.{needs}
 use Rattle.laws.proofs.GateLaws.{failed, held}
+use Rattle.laws.proofs.RowLaws.{Tested, tests-start, tests-next, tests-end}
 use Rattle.media.specs.Flags.{only}
 use Rattle.fragment.specs.Rows.{isColumn, hasColumn, cell, sampleFlags}
 use Rattle.fragment.specs.Samples.{eachFrom}
 use Rattle.fragment.proofs.RowLaws.{flags-column}
 use Rattle.rules.specs.Rules.{allOnly}
-use Rattle.rules.proofs.SampleLaws.{Tested, tests-start, tests-next, tests-end, column-none, column-some, flags-row, flags-none}
+use Rattle.rules.proofs.SampleLaws.{column-none, column-some, flags-row, flags-none}
 use Rattle.rules.proofs.samples.column_plain.Statement.{statement}
 use Rattle.rules.proofs.samples.column_plain.Tie as tie
 

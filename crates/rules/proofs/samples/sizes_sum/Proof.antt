@@ -4,7 +4,8 @@ use native.Mathlib.Omega.{arith}
 use mathlib.Core.Path.{_≡_, refl, _∙_}
 use borrow.Author.Needs.{needs}
 use Rattle.fragment.specs.Rows.{sizeAt}
-use Rattle.rules.proofs.SampleLaws.{Summed, sum-start, sum-next, sum-end, sizes-summed}
+use Rattle.fragment.proofs.EachLaws.{Summed, sum-start, sum-next, sum-end}
+use Rattle.rules.proofs.SampleLaws.{sizes-summed}
 use Rattle.rules.proofs.samples.sizes_sum.Statement.{statement}
 use Rattle.rules.proofs.samples.sizes_sum.Tie as tie
 

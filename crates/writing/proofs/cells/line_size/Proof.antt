@@ -1,12 +1,11 @@
 -- `writing::cells::line_size` meets its contract. Assumes nothing.
 use borrow.Author.Needs.{needs}
-use native.Mathlib.Nat.{le-refl}
 use native.Mathlib.Omega.{arith}
 use mathlib.Core.Path.{sym, _∙_}
 use mathlib.Core.List.{[], _∷_}
 use types.Run.{miss}
 use Rattle.wire.specs.Form.{rows}
-use Rattle.writing.proofs.ItemLaws.{weighed-nothing, weighed-items}
+use Rattle.writing.proofs.ItemLaws.{weighed-nothing, weighed-as}
 use Rattle.writing.proofs.AbsentLaws.{mark-in, absent-at}
 use Rattle.writing.proofs.ChangeLaws.{sent-stands, line-sent, line-unsent}
 use Rattle.writing.proofs.cells.line_size.Statement.{statement}
@@ -35,10 +34,9 @@ returns c =
     let b₂ = b₁ .before .before in
     let b₃ = b₂ .before .before .before in
     let a = b₃ .args in
-    weighed-items (rows (a .form)) _ _
+    weighed-as
     (absent-at (rows (a .form)) (a .t) (a .b .delta) (a .r .now) (a .x .now) _ (b₃ .pre .1) _ (b₂ .place-at .ensures) (b₁ .if1 .taken))
-    (weighed-nothing {m = 2064} (c .whole .ensures))
-    (le-refl 2064)
+    (weighed-nothing (c .whole .ensures))
 
 line-at-requires : tie.Need-line-at-requires
 line-at-requires c κs = tt
@@ -73,12 +71,11 @@ returns-2 c =
     let b₃ = b₂ .before in
     let b₄ = b₃ .before .before .before .before .before .before in
     let a = b₄ .args in
-    weighed-items (rows (a .form)) _ _
+    weighed-as
     (line-unsent (rows (a .form)) (a .t) (a .b .delta) (a .r .now) (a .x .now) _ _ (b₃ .line-at .ensures)
     _ (b₂ .change-of .ensures)
     (λ e. miss (0 ∷ 1 ∷ []) 2 tt (rw e at (b₁ .match .keys1))))
-    (weighed-nothing {m = 2064} (c .whole2 .ensures))
-    (le-refl 2064)
+    (weighed-nothing (c .whole2 .ensures))
 
 returns-3 : tie.Need-returns-3
 returns-3 c =
@@ -87,11 +84,10 @@ returns-3 c =
     let b₃ = b₂ .before in
     let b₄ = b₃ .before .before .before .before .before .before in
     let a = b₄ .args in
-    weighed-items (rows (a .form)) _ _
+    weighed-as
     (line-sent (rows (a .form)) (a .t) (a .b .delta) (a .r .now) (a .x .now) _ _ (b₃ .line-at .ensures)
     _ (b₂ .change-of .ensures) (b₁ .enum-told .given .1))
     (c .sent-size .ensures)
-    (le-refl 2064)
 
 pub line-size-spec : {M : Type 1} → statement M
 line-size-spec =

@@ -5,12 +5,12 @@ use mathlib.Core.Path.{sym, _∙_}
 use mathlib.Core.List.{[], _∷_}
 use types.Run.{miss}
 use Rattle.wire.specs.Form.{rows}
-use Rattle.writing.proofs.ItemLaws.{some-as, room-as, wrote-items}
-use Rattle.writing.proofs.PutLaws.{put-nothing}
+use Rattle.writing.proofs.ItemLaws.{some-as, room-as}
 use Rattle.writing.proofs.AbsentLaws.{mark-in, absent-at}
 use Rattle.writing.proofs.ChangeLaws.{sent-stands, line-sent, line-unsent}
 use Rattle.writing.proofs.cells.put_line.Statement.{statement}
 use Rattle.writing.proofs.cells.put_line.Tie as tie
+use Rattle.writing.proofs.PutLaws.{put-as, put-nothing}
 
 place-at-requires : tie.Need-place-at-requires
 place-at-requires c κs = tt
@@ -32,7 +32,7 @@ returns c =
     let b₂ = b₁ .before .before .before .before in
     let a = b₂ .args in
     let F = rows (a .form) in
-    wrote-items F _ _
+    put-as F
     (absent-at F (a .t) (a .b .delta) (a .r .now) (a .x .now) _ (b₂ .pre .1 .0) _ (b₁ .place-at .ensures) (c .if1 .taken))
     (put-nothing F _ _ (omega (arith, b₂ .pre .1 .1 .1)))
 
@@ -73,7 +73,7 @@ returns-2 c =
     let b₃ = b₂ .before .before .before .before .before .before .before in
     let a = b₃ .args in
     let F = rows (a .form) in
-    wrote-items F _ _
+    put-as F
     (line-unsent F (a .t) (a .b .delta) (a .r .now) (a .x .now) _ _ (b₂ .line-at .ensures) _ (b₁ .change-of .ensures)
     (λ e. miss (0 ∷ 1 ∷ []) 2 tt (rw e at (c .match .keys1))))
     (put-nothing F _ _ (omega (arith, b₃ .pre .1 .1 .1)))
@@ -90,7 +90,7 @@ returns-3 c =
     let b₅ = b₄ .before .before .before .before .before .before .before in
     let a = b₅ .args in
     let F = rows (a .form) in
-    wrote-items F _ _
+    put-as F
     (line-sent F (a .t) (a .b .delta) (a .r .now) (a .x .now) _ _ (b₄ .line-at .ensures)
     _ (b₃ .change-of .ensures) (b₂ .enum-told .given .1))
     (b₁ .put-sent .ensures)

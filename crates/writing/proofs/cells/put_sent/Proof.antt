@@ -3,13 +3,14 @@ use borrow.Author.Needs.{needs}
 use native.Mathlib.Omega.{arith}
 use mathlib.Core.Path.{sym, _∙_}
 use Rattle.wire.specs.Form.{rows}
-use Rattle.writing.proofs.ItemLaws.{some-as, room-as, wrote-items}
+use Rattle.writing.proofs.ItemLaws.{some-as, room-as}
 use Rattle.writing.proofs.FieldLaws.{Field, field-of}
 use Rattle.laws.proofs.PartLaws.{parts-room, parts-then, parts-none}
 use Rattle.writing.proofs.WideLaws.{wide-room}
 use Rattle.writing.proofs.SentLaws.{new-room, new-few, ivs-parts, number-is, list-lent}
 use Rattle.writing.proofs.cells.put_sent.Statement.{statement}
 use Rattle.writing.proofs.cells.put_sent.Tie as tie
+use Rattle.writing.proofs.PutLaws.{put-as}
 
 -- the field that the call is about
 the-field : (s : tie.Start) → let a = s .args in Field (a .t) (a .b) (a .r .now) (a .x .now) (a .l)
@@ -152,7 +153,7 @@ returns-2 c =
     let b₉ = b₈ .before .before .before .before .before .before .before in
     let a = b₉ .args in
     let f = the-field b₉ in
-    wrote-items (rows (a .form)) _ _
+    put-as (rows (a .form))
     (number-is f (rows (a .form)) _ (b₆ .is-ivs .ensures) (b₅ .if1 .left)
     _ (b₈ .field-coding .ensures) _ (b₇ .absent-value .ensures)
     (b₄ .if2 .taken) _ (b₃ .old-value .ensures) _ (b₂ .code .ensures))
@@ -232,7 +233,7 @@ returns-3 c =
     let b₉ = b₈ .before .before .before .before .before .before in
     let a = b₉ .args in
     let f = the-field b₉ in
-    wrote-items (rows (a .form)) _ _
+    put-as (rows (a .form))
     (list-lent f (rows (a .form)) _ (b₅ .is-ivs .ensures) (b₄ .if1 .left)
     _ (b₇ .field-coding .ensures) _ (b₆ .absent-value .ensures)
     (b₃ .if2 .left) _ (b₈ .length-of .ensures) _ (b₂ .old-length .ensures))

@@ -4,7 +4,7 @@ use native.Mathlib.Omega.{arith}
 use mathlib.Core.Path.{sym, _∙_}
 use Rattle.wire.specs.Form.{rows}
 use Rattle.writing.proofs.FieldLaws.{Field, field-of}
-use Rattle.writing.proofs.ItemLaws.{made-is, weighed-items}
+use Rattle.writing.proofs.ItemLaws.{made-is, weighed-as, weighed-within}
 use Rattle.writing.proofs.SentLaws.{new-room, new-few, lent-length, weighed-ivs, number-is, list-lent}
 use Rattle.writing.proofs.cells.sent_size.Statement.{statement}
 use Rattle.writing.proofs.cells.sent_size.Tie as tie
@@ -91,12 +91,11 @@ returns-2 c =
     let b₈ = b₇ .before .before .before .before .before .before in
     let a = b₈ .args in
     let f = the-field b₈ in
-    weighed-items (rows (a .form)) _ _
+    weighed-as
     (number-is f (rows (a .form)) _ (b₅ .is-ivs .ensures) (b₄ .if1 .left)
     _ (b₇ .field-coding .ensures) _ (b₆ .absent-value .ensures)
     (b₃ .if2 .taken) _ (b₂ .old-value .ensures) _ (b₁ .code .ensures))
-    (c .number-size .ensures)
-    (omega arith)
+    (weighed-within (omega arith) (c .number-size .ensures))
 
 old-length-requires : tie.Need-old-length-requires
 old-length-requires c κs =
@@ -158,12 +157,11 @@ returns-3 c =
     let b₈ = b₇ .before .before .before .before .before in
     let a = b₈ .args in
     let f = the-field b₈ in
-    weighed-items (rows (a .form)) _ _
+    weighed-as
     (list-lent f (rows (a .form)) _ (b₄ .is-ivs .ensures) (b₃ .if1 .left)
     _ (b₆ .field-coding .ensures) _ (b₅ .absent-value .ensures)
     (b₂ .if2 .left) _ (b₇ .length-of .ensures) _ (b₁ .old-length .ensures))
-    (c .run-size .ensures)
-    (omega (arith, lent-length f _ (b₇ .length-of .ensures), new-few f _ (b₇ .length-of .ensures)))
+    (weighed-within (omega (arith, lent-length f _ (b₇ .length-of .ensures), new-few f _ (b₇ .length-of .ensures))) (c .run-size .ensures))
 
 pub sent-size-spec : {M : Type 1} → statement M
 sent-size-spec =

@@ -1,6 +1,6 @@
 -- `writing::tuples::body_size` meets its contract: a varint takes at most eight bytes. Assumes nothing.
 use native.Mathlib.Omega.{arith}
-use Rattle.writing.proofs.ItemLaws.{size-eight}
+use Rattle.wire.proofs.SizeLaws.{size-eight}
 use Rattle.writing.proofs.tuples.body_size.Statement.{statement}
 use Rattle.writing.proofs.tuples.body_size.Tie as tie
 

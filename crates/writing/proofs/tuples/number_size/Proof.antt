@@ -1,7 +1,7 @@
 -- `writing::tuples::number_size` meets its contract. Assumes nothing.
 use borrow.Author.Needs.{needs}
 use native.Mathlib.Omega.{arith}
-use Rattle.writing.proofs.ItemLaws.{size-eight}
+use Rattle.wire.proofs.SizeLaws.{size-eight}
 use Rattle.writing.proofs.TupleLaws.{weighed-out, weighed-no-number, weighed-number}
 use Rattle.writing.proofs.tuples.number_size.Statement.{statement}
 use Rattle.writing.proofs.tuples.number_size.Tie as tie

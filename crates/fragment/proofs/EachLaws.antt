@@ -1,13 +1,14 @@
--- What a function says of the numbers from one on: its length, its parts, and the loop that stores it. Assumes nothing.
-use Prim.Native.Nat.{ℕ, zero, suc, _+_, _-_, _≤_, _<_}
-use native.Mathlib.Nat.{add-zero, sub-zero, not-suc-le-zero, le-of-suc-le-suc}
+-- What a function says of the numbers from one on: its length, its parts, and the loops that store it and add it up. Assumes nothing.
+use Prim.Native.Nat.{ℕ, zero, suc, _+_, _-_, _*_, _^_, _≤_, _<_}
+use native.Mathlib.Nat.{zero-add, add-zero, sub-zero, not-suc-le-zero, le-of-suc-le-suc}
 use native.Mathlib.Numerals.{add-one}
 use native.Mathlib.Omega.{arith}
-use mathlib.Core.Path.{_≡_, refl, _∙_, ap}
+use mathlib.Core.Path.{_≡_, refl, sym, _∙_, ap, ap₂}
 use mathlib.Core.List.{List, [], _∷_, map}
 use lib.ListN.{length, getD, set, take, length-set}
 use lib.Seq.{sets}
+use Rattle.laws.specs.Tests.{sum}
 use Rattle.fragment.specs.Samples.{eachFrom}
 
 -- one for each number
 pub each-length : (f : ℕ → ℕ) (k i : ℕ) → length (eachFrom f k i) ≡ k
@@ -67,3 +68,27 @@ module _ (f : ℕ → ℕ) (x₀ : List ℕ) (from n : ℕ) where
           same = length-set x (from + i) v ∙ h .same;
           left = rw (p, e, add-one) (rw (each-here f n i lt, add-one) at (h .left));
         }
+
+-- the numbers before i are added up: their sum, and that of those left, is the whole; and it is small, as each of them has 32 bits
+pub record Summed (f : ℕ → ℕ) (n s i : ℕ) : Type 0 where
+  pub here : i ≤ n
+  pub small : s ≤ i * 2 ^ 32
+  pub whole : s + sum (eachFrom f (n - i) i) ≡ sum (eachFrom f n 0)
+
+module _ (f : ℕ → ℕ) where
+  -- none is added yet
+  pub sum-start : (n : ℕ) → Summed f n 0 0
+  sum-start n = record { here = omega arith; small = omega arith; whole = zero-add _ ∙ ap (λ (k : ℕ). sum (eachFrom f k 0)) (sub-zero n) }
+
+  -- one more is added
+  pub sum-next : {n s i : ℕ} → Summed f n s i → i < n → (v : ℕ) → v ≡ f i → v < 2 ^ 32 → Summed f n (s + v) (i + 1)
+  unfolding sum eachFrom
+  sum-next {n} {s} {i} t h v e l =
+      let m : sum (eachFrom f (n - i) i) ≡ v + sum (eachFrom f (n - (i + 1)) (i + 1)) =
+      ap sum (each-here f n i h) ∙ ap₂ (λ (x j : ℕ). x + sum (eachFrom f (n - (i + 1)) j)) (sym e) (sym (add-one i)) in
+      record { here = omega arith; small = omega arith; whole = omega arith }
+
+  -- all are added
+  pub sum-end : {n s i : ℕ} → Summed f n s i → n ≤ i → s ≡ sum (eachFrom f n 0)
+  unfolding sum eachFrom
+  sum-end {n} {s} {i} t h = sym (add-zero s) ∙ ap (λ (x : List ℕ). s + sum x) (sym (each-none f n i h)) ∙ t .whole
