@@ -3,12 +3,12 @@ use Prim.Native.Nat.{ℕ, zero, suc, _+_, _-_, _^_, _≤_, _<_, zero-le}
 use native.Mathlib.Nat.{not-suc-le-zero, le-of-suc-le-suc, zero-add}
 use native.Mathlib.Numerals.{add-one}
 use native.Mathlib.Omega.{arith}
-use mathlib.Core.Path.{_≡_, refl, sym, _∙_}
+use mathlib.Core.Path.{_≡_, refl, sym, _∙_, ap}
 use mathlib.Core.Bool.{Bool, true, false, false≢true, not, cond, _||_}
 use mathlib.Core.List.{List, [], _∷_, map}
 use borrow.Author.Tests.{eqb-true, eq-eqb, ne-eqb, leb-true}
 use lib.Dec.{eqb, leb}
-use lib.ListN.{length, getD, drop, drop-of-length-le, length-map, List·getD-map, List·getD-eq-default}
+use lib.ListN.{length, getD, drop, replicate, drop-of-length-le, length-map, length-replicate, List·getD-map, List·getD-eq-default}
 use lib.Seq.{drop-cons}
 use Rattle.laws.specs.Tests.{_and_}
 use Rattle.laws.proofs.ListLaws.{getD-in}
@@ -33,6 +33,10 @@ from-none (suc n) i h = let e : i ≡ n → ⊥ = h .1 in omega (arith, from-non
 pub line-count : length lines ≡ 14
 unfolding lines
 line-count = refl
+
+-- the words of a set that are all zeros are as many as a set's
+pub zeros-long : {x : List ℕ} → x ≡ replicate setLen 0 → length x ≡ setLen
+zeros-long e = ap length e ∙ length-replicate {A = ℕ} setLen 0
 
 -- a line under its number
 pub line-is : (k : ℕ) {i : ℕ} {r : Line} → i ≡ k → r ≡ getD lines k spare → r ≡ getD lines i spare

@@ -4,10 +4,10 @@ use mathlib.Core.Path.{_≡_, sym, _∙_, subst}
 use mathlib.Core.Bool.{Bool}
 use mathlib.Core.List.{List}
 use lib.ListN.{length, getD, set, replicate, length-set}
-use Rattle.laws.proofs.ListLaws.{replicate-long}
 use Rattle.track.specs.declared.Track.{Track}
 use Rattle.shape.specs.declared.inner.Inner.{Inner}
 use Rattle.fieldset.specs.Lines.{setLen}
+use Rattle.fieldset.proofs.LineLaws.{zeros-long}
 use Rattle.fragment.specs.declared.defaults.Defaults.{Defaults}
 use Rattle.fragment.specs.declared.rows.Run.{Run}
 use Rattle.fragment.specs.Rows.{RowsIn}
@@ -29,4 +29,4 @@ module _ (t : Track) (c : List ℕ) (f : Inner) where
 
 -- zeros with BMDT and the count
 pub begun-long : (x : List ℕ) (b n : ℕ) → x ≡ replicate setLen 0 → length (set (set x 0 b) 1 n) ≡ setLen
-begun-long x b n e = length-set (set x 0 b) 1 n ∙ length-set x 0 b ∙ replicate-long e
+begun-long x b n e = length-set (set x 0 b) 1 n ∙ length-set x 0 b ∙ zeros-long e

@@ -2,19 +2,15 @@
 use Prim.Native.Nat.{ℕ, zero, suc, _-_, _<_, _≤_}
 use native.Mathlib.Nat.{not-suc-le-zero, le-of-suc-le-suc, sub-zero}
 use native.Mathlib.Omega.{arith}
-use mathlib.Core.Path.{_≡_, refl, _∙_, ap}
+use mathlib.Core.Path.{_≡_, refl, ap}
 use mathlib.Core.List.{List, [], _∷_}
-use lib.ListN.{length, getD, take, drop, replicate, length-replicate}
+use lib.ListN.{length, getD, take, drop, replicate}
 
 -- inside a list the default doesn't matter
 pub getD-in : (l : List ℕ) (i d d′ : ℕ) → i < length l → getD l i d ≡ getD l i d′
 getD-in [] i d d′ h = absurd (not-suc-le-zero h)
 getD-in (x ∷ l) zero d d′ h = refl
 getD-in (x ∷ l) (suc i) d d′ h = getD-in l i d d′ (le-of-suc-le-suc h)
-
--- how long a list of one element is
-pub replicate-long : {l : List ℕ} {n a : ℕ} → l ≡ replicate n a → length l ≡ n
-replicate-long {l} {n} {a} e = ap length e ∙ length-replicate {A = ℕ} n a
 
 -- the rest of a list of one element
 pub drop-replicate : (k n a : ℕ) → drop k (replicate n a) ≡ replicate (n - k) a

@@ -8,7 +8,6 @@ use mathlib.Core.Option.{Option, none, some}
 use lib.ListN.{length, set, replicate}
 use Rattle.laws.proofs.GateLaws.{failed, held}
 use Rattle.laws.proofs.LadderLaws.{broken, passed}
-use Rattle.laws.proofs.ListLaws.{replicate-long}
 use Rattle.wire.specs.declared.form.Row.{Row}
 use Rattle.wire.specs.declared.zigzag.Coding.{Coding}
 use Rattle.wire.specs.declared.zigzag.Reached.{Reached}
@@ -24,6 +23,7 @@ use Rattle.reading.specs.Read.{againstOf, countFrom, countReached, newWo
 use Rattle.reading.proofs.TellingLaws.{scalar-says, all-marked}
 use Rattle.fields.proofs.SetLaws.{words-none}
 use Rattle.wire.proofs.ZigzagLaws.{reached-most}
+use Rattle.fieldset.proofs.LineLaws.{zeros-long}
 use Rattle.reading.proofs.ReadableLaws.{was-small}
 use Rattle.reading.proofs.RungLaws.{refused}
 
@@ -59,7 +59,7 @@ module _ (F : List Row) (o index : List ℕ) (t : Track) (delta : Bool) (r : Lis
     refuse-count e b gone m q x ex =
         refused _ _ 15 x (λ z. omega arith)
         (passed _ 14 _ (λ k. k) 0 (held (m .answered) q) (broken _ 15 _ (λ k. k) 0 (rw (count-found ∙ e))))
-        (replicate-long ex)
+        (zeros-long ex)
 
     module _ (n : ℕ) (en : g ≡ To n) where
       pub found-count : countReached t (a .held) r (saysIn F o index) ≡ To n
@@ -94,7 +94,7 @@ pub refuse-deletions : (t : Track) (delta : Bool) (r : List ℕ) (says : Says) (
     → (x : List ℕ) → x ≡ replicate setLen 0 → ReadAs (setRungs t delta r says) (newWords t delta r says 0) 14 x
 unfolding setRungs
 refuse-deletions t delta r says b gone m q x ex =
-    refused _ _ 14 x (λ z. omega arith) (broken _ 14 _ (λ k. k) 0 (failed (m .answered) q)) (replicate-long ex)
+    refused _ _ 14 x (λ z. omega arith) (broken _ 14 _ (λ k. k) 0 (failed (m .answered) q)) (zeros-long ex)
 
 -- the words that the fields are stored into
 pub words-start-at : (n : ℕ) (x : List ℕ) → x ≡ replicate setLen 0 → set x 1 n ≡ setWords 0 n noFields

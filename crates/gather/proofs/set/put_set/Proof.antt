@@ -6,7 +6,7 @@ use Rattle.media.specs.Flags.{fiveOf}
 use Rattle.gather.proofs.ReadyLaws.{rows-ready, equal-is, begun-long}
 use Rattle.gather.proofs.StoredLaws.{set-stored}
 use borrow.Author.Needs.{needs}
-use Rattle.laws.proofs.ListLaws.{replicate-long}
+use Rattle.fieldset.proofs.LineLaws.{zeros-long}
 use Rattle.gather.proofs.set.put_set.Statement.{statement}
 use Rattle.gather.proofs.set.put_set.Tie as tie
 
@@ -37,12 +37,12 @@ bmdt-of-requires c κs = search needs
 slice-write-x : tie.Need-slice-write-x
 slice-write-x c =
     let b = c .before .before .before .before .before .before .before .before .before .before .before in
-    omega (arith, replicate-long (b .pre .1))
+    omega (arith, zeros-long (b .pre .1))
 
 slice-write-x-2 : tie.Need-slice-write-x-2
 slice-write-x-2 c =
     let b = c .before .before .before .before .before .before .before .before .before .before .before in
-    simp length-set (omega (arith, replicate-long (b .pre .1)))
+    simp length-set (omega (arith, zeros-long (b .pre .1)))
 
 put-low-requires : tie.Need-put-low-requires
 put-low-requires c κs =
@@ -91,7 +91,7 @@ put-protection-requires c κs =
 same-length : tie.Need-same-length
 same-length c =
     let b = c .before .before .before .before .before .before .before .before .before .before .before .before .before .before .before .before .before .before .before .before .before .before .before .before .before .before .before .before in
-    c .before .before .put-protection .kept .1 .1 .1 .0 ∙ c .before .before .before .before .before .before .put-one .kept .0 ∙ c .before .before .before .before .before .before .before .before .before .before .before .put-high .kept .1 .1 .1 .1 .1 .1 .0 ∙ c .before .before .before .before .before .before .before .before .before .before .before .before .before .before .before .put-low .kept .1 .1 .1 .1 .1 .1 .0 ∙ begun-long _ _ _ (b .pre .1) ∙ sym (replicate-long (b .pre .1))
+    c .before .before .put-protection .kept .1 .1 .1 .0 ∙ c .before .before .before .before .before .before .put-one .kept .0 ∙ c .before .before .before .before .before .before .before .before .before .before .before .put-high .kept .1 .1 .1 .1 .1 .1 .0 ∙ c .before .before .before .before .before .before .before .before .before .before .before .before .before .before .before .put-low .kept .1 .1 .1 .1 .1 .1 .0 ∙ begun-long _ _ _ (b .pre .1) ∙ sym (zeros-long (b .pre .1))
 
 returns : tie.Need-returns
 returns c =

@@ -3,7 +3,7 @@ use native.Mathlib.Omega.{arith}
 use mathlib.Core.Path.{sym, _∙_}
 use Rattle.reading.proofs.OrderLaws.{refuse-deletions, refuse-count, found-few, found-count, readable, read-on, words-start-at}
 use borrow.Author.Needs.{needs}
-use Rattle.laws.proofs.ListLaws.{replicate-long}
+use Rattle.fieldset.proofs.LineLaws.{zeros-long}
 use Rattle.reading.proofs.read.read_set.Statement.{statement}
 use Rattle.reading.proofs.read.read_set.Tie as tie
 
@@ -44,7 +44,7 @@ returns-2 c =
 slice-write-x : tie.Need-slice-write-x
 slice-write-x c =
     let m = c .before .before .before .before .before .before .before in
-    omega (arith, replicate-long (m .before .before .before .before .before .before .pre .1 .3))
+    omega (arith, zeros-long (m .before .before .before .before .before .before .pre .1 .3))
 
 slice-aggregate-take-fields : tie.Need-slice-aggregate-take-fields
 slice-aggregate-take-fields c = search needs
@@ -70,7 +70,7 @@ same-length : tie.Need-same-length
 same-length c =
     let f = c .before .before in
     let m = f .before .before .before .before .before .before .before .before .before .before in
-    f .take-fields .ensures .long ∙ sym (replicate-long (m .before .before .before .before .before .before .pre .1 .3))
+    f .take-fields .ensures .long ∙ sym (zeros-long (m .before .before .before .before .before .before .pre .1 .3))
 
 returns-3 : tie.Need-returns-3
 returns-3 c =
