@@ -18,7 +18,7 @@ use Rattle.boxes.proofs.BoxLaws.{length-box, length-fullBox, box-head, fullBox-
 use Rattle.boxes.specs.Box as B
 use Rattle.chunk.specs.declared.outer.Prft.{Prft}
 use Rattle.chunk.specs.Front.{stypBox, mediaBytes, prftBox, Event, emsgBox, emsgBoxes}
-use Rattle.chunk.specs.Events.{part, eventAt, eventsFrom, Inside, EventFits}
+use Rattle.chunk.specs.Events.{part, eventAt, eventsFrom, EventFits}
 
 -- ---- styp
 
@@ -104,8 +104,8 @@ rest-is n bs = take-all (length bs - n) (drop n bs) (simp length-drop (omega ari
 pub part-is : (o : List ℕ) (place size : ℕ) → take (place + size - place) (drop place o) ≡ part o place size
 part-is o place size = let e : place + size - place ≡ size = omega arith in ap (λ (n : ℕ). take n (drop place o)) e
 
-pub part-length : (o : List ℕ) (place size : ℕ) → Inside o place size → length (part o place size) ≡ size
-part-length o place size h = simp (length-take, length-drop) (omega (arith, h .within))
+pub part-length : (o : List ℕ) (place size : ℕ) → place + size ≤ length o → length (part o place size) ≡ size
+part-length o place size h = simp (length-take, length-drop) (omega arith)
 
 abbrev fields : Event → List ℕ
 fields e = (be 4 (e .timescale) ++ (be 8 (e .time) ++ (be 4 (e .duration) ++ (be 4 (e .id) ++ (e .scheme ++ (0 ∷ (e .value ++ (0 ∷ e .message))))))))
@@ -122,7 +122,7 @@ pub event-length : (o ws : List ℕ) (i : ℕ) → EventFits o ws i
 unfolding eventAt
 event-length o ws i h =
     emsg-length (eventAt o ws i)
-    ∙ omega (arith, part-length o _ _ (h .scheme), part-length o _ _ (h .value), part-length o _ _ (h .message))
+    ∙ omega (arith, part-length o _ _ (h .scheme .within), part-length o _ _ (h .value .within), part-length o _ _ (h .message .within))
 
 abbrev pub emsgParts : Event → ℕ → List (List ℕ)
 emsgParts e size =

@@ -4,8 +4,7 @@ use native.Mathlib.Nat.{add-sub-cancel-left}
 use native.Mathlib.Omega.{arith}
 use mathlib.Core.Path.{_≡_}
 use mathlib.Core.List.{List, [], _∷_, append-assoc}
-use lib.ListN.{length, getD, take, drop, length-append, length-drop}
-use lib.Seq.{length-take-le}
+use lib.ListN.{length, getD, take, drop, length-append}
 use Rattle.laws.proofs.PartLaws.{joined}
 use Rattle.wire.specs.declared.form.Row.{Row}
 use Rattle.wire.specs.declared.form.Form.{Form}
@@ -16,6 +15,7 @@ use Rattle.wire.proofs.SizeLaws.{limit-62}
 use Rattle.track.specs.declared.Track.{Track}
 use Rattle.block.specs.Events.{Event, encText, encEvent, Sayable}
 use Rattle.chunk.specs.Events.{part, eventAt}
+use Rattle.chunk.proofs.OuterLaws.{part-length}
 use Rattle.emsgs.specs.Records.{scaleFor, timeFor, sent, encMarks, textBytes, recordBytes, wordsBytes, EventWords, EventIn}
 use Rattle.emsgs.proofs.NumberLaws.{scale-most}
 
@@ -26,13 +26,9 @@ abbrev pub textParts : List Row → List ℕ → ℕ → ℕ → List (List ℕ)
 textParts F c from n = encode F n ∷ take (from + n - from) (drop from c) ∷ []
 
 module _ (c : List ℕ) (from n : ℕ) (h : from + n ≤ length c) where
-  -- how many bytes a part of the chunk has
-  part-length : length (part c from n) ≡ n
-  part-length = length-take-le n (drop from c) (omega (arith, length-drop from c))
-
   pub text-parts : (F : List Row) → joined (textParts F c from n) ≡ encText F (part c from n)
   unfolding encText
-  text-parts F = rw (add-sub-cancel-left from n, part-length)
+  text-parts F = rw (add-sub-cancel-left from n, part-length c from n h)
 
 -- ---- the numbers, and the whole record
 

@@ -24,7 +24,7 @@ use Rattle.wire.proofs.SizeLaws.{encode-size, size-longest}
 use Rattle.runs.specs.declared.Measured.{Measured}
 use Rattle.runs.specs.declared.Measured.the-variants.{Bytes}
 use Rattle.runs.specs.declared.Measured.the-variants.{TooWide as TooMany}
-use Rattle.runs.specs.Run.{first, rest, onCoded, runOf, measured}
+use Rattle.runs.specs.Run.{first, runOf, measured}
 use Rattle.block.specs.Written.{Item, run, encItem, encBlock}
 use Rattle.block.specs.Events.{Event, encText, encEvent, encEvents}
 use Rattle.track.specs.declared.Track.{Track}
@@ -41,6 +41,7 @@ use Rattle.writing.specs.Changes.{onChange, news, olds, changeOf, sentItems, li
 use Rattle.writing.specs.Fields.{isDeleted, goneOf, linesItems, bmdtItems, countItems, fieldItems, deletionItems}
 use Rattle.writing.specs.Prft.{timesItems, unlessItems, versionItems, flagsItems}
 use Rattle.writing.proofs.WideLaws.{wide-length}
+use Rattle.writing.proofs.TupleLaws as W
 use Rattle.encoder.specs.Object.{brandItems, eventItems}
 
 -- ---- items
@@ -99,22 +100,12 @@ module _ (F : List Row) (eight : longest F ≤ 8) where
 
   -- ---- lists of numbers
 
-  run-length : (coding : Coding) (base : ℕ) (old new : List ℕ) → length (runOf F coding base old new) ≤ 8 * length new
-  unfolding runOf
-  run-length coding base old [] = zero-le
-  run-length coding base old (v ∷ vs) = go (codeOf F coding (first base old) v) (run-length coding base (rest old) vs)
-    where
-      go : (k : Coded) → length (runOf F coding base (rest old) vs) ≤ 8 * length vs
-          → length (onCoded k (λ z. encode F z ++ runOf F coding base (rest old) vs) []) ≤ 8 * suc (length vs)
-      go (Number z) h = omega (arith, length-append (encode F z) (runOf F coding base (rest old) vs), varint-most z)
-      go TooWide h = zero-le
-
   run-most : (coding : Coding) (n id base : ℕ) (old new : List ℕ) → length new ≤ n → Most F (16 + 8 * n) (runItem F coding id base old new)
   unfolding runItem encBlock
   run-most coding n id base old new h = go (measured F coding base old new)
     where
       go : (k : Measured) → Most F (16 + 8 * n) (onMeasured k (some (run id (runOf F coding base old new) ∷ [])))
-      go (Bytes j) = bytes-most (8 * n) id (runOf F coding base old new) (omega (arith, run-length coding base old new))
+      go (Bytes j) = bytes-most (8 * n) id (runOf F coding base old new) (omega (arith, W.run-most F eight coding base old new))
       go TooMany = zero-le
 
   -- ---- a field

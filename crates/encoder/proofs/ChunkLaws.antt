@@ -15,9 +15,7 @@ use Rattle.laws.proofs.TestLaws.{left, right, and-left, and-right}
 use Rattle.laws.proofs.BytesLaws.{bytes-are}
 use Rattle.wire.specs.declared.form.Row.{Row}
 use Rattle.track.specs.declared.Track.{Track}
-use Rattle.track.specs.Track.{ivOk}
 use Rattle.fieldset.specs.Lines.{setLen, bmdtAt}
-use Rattle.fieldset.specs.Lawful.{lawful}
 use Rattle.tree.specs.Numbers.{u32, u64}
 use Rattle.shape.specs.declared.parts.Part.{Part}
 use Rattle.shape.specs.Parts.{Inside, bodyOf, endOf}
@@ -45,7 +43,7 @@ use Rattle.gather.specs.Gatherable.{Gatherable}
 use Rattle.gather.proofs.FitLaws.{all-fit}
 use Rattle.exchange.proofs.AcceptedLaws.{Ranged}
 use Rattle.accepted.specs.Accepted.{top, inner, bmdt, prft, payload, brandsOf, brands, events, fields, bytesAt, boxesOk, maximaOk, lateRungs, acceptRungs}
-use Rattle.accepted.proofs.LawfulSet.{chunk-lawful, restFew, boxes-right, senc-right, rows-few, rest-few, few-samples, few-subsamples}
+use Rattle.accepted.proofs.LawfulSet.{restFew, boxes-right, senc-right, rows-few, rest-few, few-samples, few-subsamples}
 
 -- ---- the tests one by one
 
@@ -196,10 +194,6 @@ module _ (F : List Row) (t : Track) (c : List ℕ) (h : Hold (acceptRungs F t c)
   pub fields-long : t .«iv_size» ≤ 16 → length (fields t c) ≡ setLen
   unfolding fields chunkSet
   fields-long iv = words-length _ _ (fieldOf t c (inner c)) (all-fit t c (inner c) (gathered iv))
-
-  -- and is lawful
-  pub fields-lawful : allLe 255 c ≡ true → ivOk (t .protection) (t .«iv_size») ≡ true → bmdt c ≤ 2 ^ 62 - 1 → lawful t (fields t c) ≡ true
-  fields-lawful b i m = chunk-lawful F t c b i h m
 
 -- its first word is BMDT
 pub fields-bmdt : (t : Track) (c : List ℕ) → getD (fields t c) bmdtAt 0 ≡ bmdt c

@@ -26,10 +26,11 @@ use Rattle.exchange.proofs.OpenLaws.{opened-facts}
 use Rattle.accepted.specs.declared.read.Chunk.{Chunk}
 use Rattle.accepted.specs.Accepted.{bmdt, acceptRungs}
 use Rattle.accepted.specs.Chunks.{ReadAs, Accepted}
+use Rattle.accepted.proofs.LawfulSet.{chunk-lawful}
 use Rattle.encoder.specs.Object.{fitsOk}
 use Rattle.encoder.specs.Encode.{refusing, lastRungs, chunkRungs, encodeRungs, done, encoding}
 use Rattle.encoder.specs.Planned.{OnShare, Encodable}
-use Rattle.encoder.proofs.ChunkLaws.{accept-numbered, brands-sized, fields-long, fields-lawful, fields-bmdt}
+use Rattle.encoder.proofs.ChunkLaws.{accept-numbered, brands-sized, fields-long, fields-bmdt}
 
 -- ---- the track of a share
 
@@ -99,7 +100,7 @@ module _ (F : List Row) (wish : Bool) (c output s : List ℕ) where
               on-share = o;
               accepted = a;
               set-long = ap length (a .set-is) ∙ fields-long F t c holds iv-small;
-              lawful-set = ap (lawfulSet t) (a .set-is) ∙ fields-lawful F t c holds b iv-fits m;
+              lawful-set = ap (lawfulSet t) (a .set-is) ∙ chunk-lawful F t c b iv-fits holds m;
               brands-long = λ n. omega (arith, q, g .0 (λ e. n (q ∙ e)));
               brands-few = omega (arith, q, g .1);
             }

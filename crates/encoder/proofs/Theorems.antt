@@ -28,10 +28,11 @@ use Rattle.exchange.specs.Took.{Took, refused, PastStays}
 use Rattle.exchange.proofs.OpenLaws.{Opened, opened-facts, held-facts}
 use Rattle.exchange.proofs.AcceptedLaws.{accepted-long, accepted-lawful}
 use Rattle.accepted.specs.Accepted.{bmdt, prft, brands, events, fields, lateRungs, acceptRungs}
+use Rattle.accepted.proofs.LawfulSet.{chunk-lawful}
 use Rattle.encoder.specs.Object.{blockItems, mayDelta, givesDelta, fitsOk, front}
 use Rattle.encoder.specs.Encode.{refusing, lastRungs, chunkRungs, encodeRungs, kept, done, encoding}
 use Rattle.encoder.specs.Laws.{EncodeExactly, EncodeStaysLawful, Refused, EncodeRefuses, EncodePast, BlockFits, EncodeOnly, EncodeMakes}
-use Rattle.encoder.proofs.ChunkLaws.{brands-length, list-few, prft-ranged, fields-long, fields-lawful}
+use Rattle.encoder.proofs.ChunkLaws.{brands-length, list-few, prft-ranged, fields-long}
 use Rattle.encoder.proofs.EncodeLaws.{iv-right}
 use Rattle.encoder.proofs.BlockSizes.{Most, before-most, fields-most, deletions-most, times-most, version-most, flags-most, brands-most, events-most}
 
@@ -130,7 +131,7 @@ module _ (F : List Row) (wish : Bool) (c output s : List ℕ) (l : length s ≡ 
   done-lawful b =
       accepted-lawful s l (givesDelta F s c wish) (getD s acceptedAt 0) (prft c) (fields (trackOf s) c) Encoder (h .opened) opened (opened .accepted)
       (λ d. held-facts (trackOf s) s (opened .reference) (delta-held F s c wish d) .0) (λ d. prft-ranged F (trackOf s) c (h .accepted) b)
-      (fields-lawful F (trackOf s) c (h .accepted) b (iv-right s (opened .track)) (bmdt-small F s c wish (h .fits)))
+      (chunk-lawful F (trackOf s) c b (iv-right s (opened .track)) (h .accepted) (bmdt-small F s c wish (h .fits)))
 
 -- a share's length stays, whatever the chunk's bytes are
 pub encode-keeps : (F : List Row) (wish : Bool) (c output : List ℕ) → Keeps (encoding F wish c output)
@@ -211,7 +212,7 @@ block-most F wish c output s w b l h delta =
     let x = fields t c in
     before-most F w 7976 4388 _ _
     (fields-most F w t delta (drop setAt s) x
-    (fields-lawful F t c (h .accepted) b (iv-right s (o .track)) (bmdt-small F s c wish (h .fits))) (ranges (askedOf s) (o .track) .iv-size))
+    (chunk-lawful F t c b (iv-right s (o .track)) (h .accepted) (bmdt-small F s c wish (h .fits))) (ranges (askedOf s) (o .track) .iv-size))
     (before-most F w 32 4356 _ _ (times-most F w delta s (prft c))
     (before-most F w 16 4340 _ _ (version-most F w delta s (prft c))
     (before-most F w 84 4256 _ _ (brands-most F w 68 delta (brands c) (brands-length F t c (h .accepted)))

@@ -57,9 +57,6 @@ pub record Around (l : Line) (h : Held) (w : List ℕ) : Type 0 where
 -- ---- lengths
 
 -- rows of zeros
-zeros-length : (n : ℕ) → length {A = ℕ} (replicate n 0) ≡ n
-zeros-length n = length-replicate n 0
-
 zeros-join : (j k n : ℕ) → j + k ≡ n → replicate j 0 ++ replicate k 0 ≡ replicate {A = ℕ} n 0
 zeros-join j k n e = replicate-append-replicate j k 0 ∙ ap (λ (m : ℕ). replicate m 0) e
 
@@ -69,8 +66,8 @@ zeros-drop k n m e = drop-replicate k n 0 ∙ ap (λ (i : ℕ). replicate i 0) e
 -- a region has a word for the mark and its room
 region-length : (l : Line) (h : Held) → Fits l h → length (regionOf l h) ≡ 1 + l .room
 unfolding regionOf
-region-length l none h = zeros-length (1 + l .room)
-region-length l (some vs) h = omega (arith, length-append vs (replicate (l .room - length vs) 0), zeros-length (l .room - length vs), h)
+region-length l none h = length-replicate {A = ℕ} (1 + l .room) 0
+region-length l (some vs) h = omega (arith, length-append vs (replicate (l .room - length vs) 0), length-replicate {A = ℕ} (l .room - length vs) 0, h)
 
 -- regions that follow one another fill what they tile
 regions-length : (f : Line → Held) (at : ℕ) (ls : List Line) (end : ℕ) → tiles at ls end ≡ true → RunFits f ls → at + length (regionsOf f ls) ≡ end
@@ -139,7 +136,7 @@ store-zeros : (l : Line) (h : Held) → Fits l h → sets (replicate (1 + l .roo
 unfolding regionOf
 store-zeros l none h = refl
 store-zeros l (some vs) h =
-    let k : 0 + length (1 ∷ vs) ≤ length {A = ℕ} (replicate (1 + l .room) 0) = omega (arith, zeros-length (1 + l .room)) in
+    let k : 0 + length (1 ∷ vs) ≤ length {A = ℕ} (replicate (1 + l .room) 0) = omega (arith, length-replicate {A = ℕ} (1 + l .room) 0) in
     rw (sets-eq (1 ∷ vs) (replicate (1 + l .room) 0) 0 k, zeros-drop (0 + suc (length vs)) (1 + l .room) (l .room - length vs) (omega arith))
 
 -- its words and its values have room
@@ -157,7 +154,7 @@ store-here : (pre : List ℕ) (l : Line) (h : Held) (post : List ℕ) → length
 unfolding regionOf
 store-here pre l h post e fit =
     let n : length pre + 0 ≡ l .place = omega arith in
-    let k : 0 + length (wordsOf h) ≤ length {A = ℕ} (replicate (1 + l .room) 0) = omega (arith, zeros-length (1 + l .room), words-fit l h fit) in
+    let k : 0 + length (wordsOf h) ≤ length {A = ℕ} (replicate (1 + l .room) 0) = omega (arith, length-replicate {A = ℕ} (1 + l .room) 0, words-fit l h fit) in
     ap (λ (p : ℕ). sets (pre ++ (replicate (1 + l .room) 0 ++ post)) p (wordsOf h)) (sym n)
     ∙ sets-after (wordsOf h) pre (replicate (1 + l .room) 0 ++ post) 0
     ∙ ap (λ (z : List ℕ). pre ++ z) (sets-before (wordsOf h) (replicate (1 + l .room) 0) post 0 k ∙ ap (λ (z : List ℕ). z ++ post) (store-zeros l h fit))
@@ -324,7 +321,7 @@ module _ (l : Line) (h : Held) (w : List ℕ) (o : Around l h w) where
   around-rest fit =
       let pre : List ℕ = o .pre ++ (markOf h ∷ numbers h) in
       let e : length pre ≡ l .place + 1 + length (numbers h) = omega (arith, length-append (o .pre) (markOf h ∷ numbers h), o .at) in
-      let n : length pre + length zeros ≡ l .place + 1 + l .room = omega (arith, zeros-length (l .room - length (numbers h)), numbers-fit l h fit) in
+      let n : length pre + length zeros ≡ l .place + 1 + l .room = omega (arith, length-replicate {A = ℕ} (l .room - length (numbers h)) 0, numbers-fit l h fit) in
       rw (whole, ← e, ← n, ← append-assoc (o .pre) (markOf h ∷ numbers h) (zeros ++ o .post))
       (ap allZero (slice-between pre zeros (o .post)) ∙ allZero-zeros (l .room - length (numbers h)))
 

@@ -38,6 +38,7 @@ use Rattle.receiver.specs.Receive.{reference, bmdt, prft, events, newSet
 use Rattle.receiver.specs.Laws.{FullForgets, AnyOrder}
 use Rattle.receiver.proofs.SaidLaws.{head-inside, one-number}
 use Rattle.receiver.proofs.SameLaws.{early, late, two-parts, Same, same-late, same-took, words-full, rules-full}
+use Rattle.receiver.proofs.SplitLaws.{entries-is}
 
 -- ---- the ladder
 
@@ -215,20 +216,12 @@ module _ (F : List Row) (o o′ s : List ℕ) (es us : List Entry) (hr : headRun
   unfolding reads
   reads-turned = ap (λ x. onOption x (readable F) false) t ∙ readable-perm F p ∙ sym (ap (λ x. onOption x (readable F) false) t′)
 
-  entries-are : entries F o ≡ es
-  unfolding entries
-  entries-are = ap (λ x. onOption x (λ xs. xs) []) t
-
-  entries-are′ : entries F o′ ≡ us
-  unfolding entries
-  entries-are′ = ap (λ x. onOption x (λ xs. xs) []) t′
-
   lawful-turned : lawful (entries F o) ≡ lawful (entries F o′)
-  lawful-turned = ap lawful entries-are ∙ lawful-perm p ∙ sym (ap lawful entries-are′)
+  lawful-turned = ap lawful (entries-is F o s es t) ∙ lawful-perm p ∙ sym (ap lawful (entries-is F o′ s us t′))
 
   -- lawful entries say the same
   says-turned : lawful (entries F o) ≡ true → saying F o ≡ saying F o′
-  says-turned e = ap (says F) entries-are ∙ says-perm F p (sym (ap lawful entries-are) ∙ e) ∙ sym (ap (says F) entries-are′)
+  says-turned e = ap (says F) (entries-is F o s es t) ∙ says-perm F p (sym (ap lawful (entries-is F o s es t)) ∙ e) ∙ sym (ap (says F) (entries-is F o′ s us t′))
 
   held-turned : heldOk F o s ≡ heldOk F o′ s
   unfolding heldOk

@@ -48,7 +48,7 @@ module _ (F : List Row) (o s : List ℕ) where
     unfolding reads
     reads-is = rw q
 
-    entries-is : entries F o ≡ es
+    pub entries-is : entries F o ≡ es
     unfolding entries
     entries-is = rw q
 

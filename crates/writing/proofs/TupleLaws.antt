@@ -1,7 +1,7 @@
 -- One tuple: its weight and its bytes, by how the numbers in it came out. Assumes nothing.
-use Prim.Native.Nat.{ℕ, _+_, _*_, _≤_, _<_, zero-le}
+use Prim.Native.Nat.{ℕ, _+_, _*_, _≤_, _<_, zero-le, suc}
 use native.Mathlib.Omega.{arith}
-use mathlib.Core.Path.{_≡_, refl, sym, _∙_, ap}
+use mathlib.Core.Path.{_≡_, sym, _∙_, ap}
 use mathlib.Core.Bool.{Bool, true, false, false≢true, not}
 use mathlib.Core.List.{List, [], _∷_, _++_, append-assoc}
 use lib.ListN.{length, length-append}
@@ -13,15 +13,13 @@ use Rattle.wire.specs.declared.zigzag.Coding.{Coding}
 use Rattle.wire.specs.declared.zigzag.Coded.{Coded}
 use Rattle.wire.specs.declared.zigzag.Coded.the-variants.{Number}
 use Rattle.wire.specs.declared.zigzag.Coded.the-variants.{TooWide as Wide}
-use Rattle.wire.specs.Form.{rows, limit}
+use Rattle.wire.specs.Form.{rows, limit, longest}
 use Rattle.wire.specs.Varint.{encode, sizeOf}
 use Rattle.wire.specs.Zigzag.{codeOf}
-use Rattle.wire.proofs.VarintLaws.{length-encode}
-use Rattle.wire.proofs.ZigzagLaws.{coded-inv}
-use Rattle.wire.proofs.SizeLaws.{size-eight, limit-62}
+use Rattle.wire.proofs.SizeLaws.{size-eight, limit-62, encode-size, size-longest, longest-eight}
 use Rattle.runs.specs.declared.Measured.the-variants.{Bytes, TooWide}
-use Rattle.runs.specs.Run.{first, rest, runOf, measured}
-use Rattle.runs.proofs.RunLaws.{run-wide, run-number, measured-length}
+use Rattle.runs.specs.Run.{first, rest, runOf, measured, onCoded}
+use Rattle.runs.proofs.RunLaws.{measured-length}
 use Rattle.block.specs.Entries.{isSome}
 use Rattle.block.specs.Written.{num, run, encItem}
 use Rattle.writing.specs.declared.tuples.Weight.{Weight}
@@ -81,25 +79,22 @@ module _ (id : ℕ) (c : Coded) (z : ℕ) (is : c ≡ Number z) where
 
 -- ---- a list of numbers
 
-module _ (form : Form) (coding : Coding) (base : ℕ) where
-  -- a number takes at most eight bytes
-  run-most : (old new : List ℕ) → length (runOf (rows form) coding base old new) ≤ 8 * length new
+-- a number takes at most eight bytes
+module _ (F : List Row) (eight : longest F ≤ 8) (coding : Coding) (base : ℕ) where
+  pub run-most : (old new : List ℕ) → length (runOf F coding base old new) ≤ 8 * length new
   unfolding runOf
   run-most old [] = zero-le
-  run-most old (v ∷ vs) = go (codeOf (rows form) coding (first base old) v) refl (run-most (rest old) vs)
+  run-most old (v ∷ vs) = go (codeOf F coding (first base old) v) (run-most (rest old) vs)
     where
-      go : (k : Coded) → codeOf (rows form) coding (first base old) v ≡ k
-          → length (runOf (rows form) coding base (rest old) vs) ≤ 8 * length vs
-          → length (runOf (rows form) coding base old (v ∷ vs)) ≤ 8 * length (v ∷ vs)
-      go (Number z) e ih =
-          let n : length (encode (rows form) z) ≡ sizeOf (rows form) z =
-          length-encode (rows form) z (coded-inv (rows form) coding (first base old) v e .1) in
-          rw (run-number (rows form) coding base old vs v z e, length-append) (omega (arith, n, size-eight form z))
-      go Wide e ih = rw (run-wide (rows form) coding base old vs v e) zero-le
+      go : (k : Coded) → length (runOf F coding base (rest old) vs) ≤ 8 * length vs
+          → length (onCoded k (λ z. encode F z ++ runOf F coding base (rest old) vs) []) ≤ 8 * suc (length vs)
+      go (Number z) h = omega (arith, length-append (encode F z) (runOf F coding base (rest old) vs), encode-size F z, size-longest F z)
+      go Wide h = zero-le
 
+module _ (form : Form) (coding : Coding) (base : ℕ) where
   -- and so does what was measured
   pub measured-most : (old new : List ℕ) (n : ℕ) → measured (rows form) coding base old new ≡ Bytes n → n ≤ 8 * length new
-  measured-most old new n e = rw (measured-length (rows form) coding base old new n e) at (run-most old new)
+  measured-most old new n e = rw (measured-length (rows form) coding base old new n e) at (run-most (rows form) (longest-eight form) coding base old new)
 
 module _ (F : List Row) (coding : Coding) (id base : ℕ) (old new : List ℕ) where
   -- a number too wide
