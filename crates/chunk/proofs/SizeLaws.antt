@@ -33,7 +33,7 @@ module _ (w : List ℕ) (from to whole : ℕ) where
     off-fits lt le = omega (arith, sum-next w i to lt le, h .fits)
 
     pub off-next : i < to → to ≤ length w → Off w from to whole (left - getD w i 0) (i + 1)
-    off-sum-next w i to lt le = record { fits = omega (arith, sum-next w i to lt le, h .fits); same = omega (arith, sum-next w i to lt le, h .fits, h .same) }
+    off-next lt le = record { fits = omega (arith, sum-next w i to lt le, h .fits); same = omega (arith, sum-next w i to lt le, h .fits, h .same) }
 
     pub off-end : to ≤ i → left ≡ whole - sum (slice from to w)
     unfolding sum

@@ -41,7 +41,7 @@ use Rattle.writing.specs.Changes.{onChange, news, olds, changeOf, sentItems, li
 use Rattle.writing.specs.Fields.{isDeleted, goneOf, linesItems, bmdtItems, countItems, fieldItems, deletionItems}
 use Rattle.writing.specs.Prft.{timesItems, unlessItems, versionItems, flagsItems}
 use Rattle.writing.proofs.WideLaws.{wide-length}
-use Rattle.writing.proofs.TupleLaws as W
+use Rattle.writing.proofs.TupleLaws.{run-most as numbers-most}
 use Rattle.encoder.specs.Object.{brandItems, eventItems}
 
 -- ---- items
@@ -105,7 +105,7 @@ module _ (F : List Row) (eight : longest F ≤ 8) where
   run-most coding n id base old new h = go (measured F coding base old new)
     where
       go : (k : Measured) → Most F (16 + 8 * n) (onMeasured k (some (run id (runOf F coding base old new) ∷ [])))
-      go (Bytes j) = bytes-most (8 * n) id (runOf F coding base old new) (omega (arith, W.run-most F eight coding base old new))
+      go (Bytes j) = bytes-most (8 * n) id (runOf F coding base old new) (omega (arith, numbers-most F eight coding base old new))
       go TooMany = zero-le
 
   -- ---- a field

@@ -24,7 +24,7 @@ use Rattle.accepted.specs.declared.read.Chunk.{Chunk}
 use Rattle.accepted.specs.Accepted.{bytesAt, brandsOf, brands}
 use Rattle.writing.specs.declared.tuples.Weight.{Weight}
 use Rattle.writing.specs.Items.{nothing, itemsIf, bytesOf, WeighedAs}
-use Rattle.writing.proofs.ItemLaws.{run-parts, run-bytes}
+use Rattle.writing.proofs.ItemLaws.{run-parts, block-one, run-length}
 use Rattle.encoder.specs.Object.{brandItems}
 use Rattle.encoder.specs.Planned.{Encodable}
 use Rattle.encoder.proofs.GivenLaws.{brands-is, brands-inside}
@@ -111,7 +111,9 @@ module _ (form : Form) {t : Track} {s c : List ℕ} {k : Chunk} {ws x : List ℕ
         let p : 23 < limit (rows form) = omega (arith, limit-62 form) in
         let q : length (brands c) < limit (rows form) = omega (arith, limit-62 form, names-length, h .brands-few) in
         let b : length (bytesOf (rows form) (some (run 23 (brands c) ∷ []))) ≡ sizeOf (rows form) 23 + (sizeOf (rows form) (n - 4) + (n - 4)) =
-        run-bytes (rows form) 23 (brands c) p q ∙ ap (λ (i : ℕ). sizeOf (rows form) 23 + (sizeOf (rows form) i + i)) names-length in
+        ap length (block-one (rows form) (run 23 (brands c)))
+        ∙ run-length (rows form) 23 (brands c) p q
+        ∙ ap (λ (i : ℕ). sizeOf (rows form) 23 + (sizeOf (rows form) i + i)) names-length in
         rw brands-some (record { fits = g .0; bytes = λ z. g .1 ∙ f .0 ∙ sym b; small = omega (arith, g .1, f .1, h .brands-few) })
 
     -- their bytes as they are lent

@@ -23,7 +23,7 @@ use Rattle.accepted.specs.declared.read.Chunk.{Chunk}
 use Rattle.accepted.specs.Accepted.{events}
 use Rattle.writing.specs.declared.tuples.Weight.{Weight}
 use Rattle.writing.specs.Items.{Items, nothing, bytesOf, WeighedAs}
-use Rattle.writing.proofs.ItemLaws.{run-parts, run-bytes}
+use Rattle.writing.proofs.ItemLaws.{run-parts, block-one, run-length}
 use Rattle.encoder.specs.Object.{eventItems}
 use Rattle.encoder.specs.Planned.{Encodable}
 use Rattle.encoder.proofs.GivenLaws.{events-is, bmdt-is}
@@ -108,7 +108,8 @@ module _ (form : Form) {t : Track} {s c : List ℕ} {k : Chunk} {ws x : List ℕ
           let p : 25 < limit F = omega (arith, limit-62 form) in
           let q : length (encEvents F es) < limit F = omega (arith, limit-62 form, list-long, h .accepted .listed .short) in
           ap length bytes-are
-          ∙ run-bytes F 25 (encEvents F es) p q
+          ∙ ap length (block-one F (run 25 (encEvents F es)))
+          ∙ run-length F 25 (encEvents F es) p q
           ∙ ap (λ (i : ℕ). sizeOf F 25 + (sizeOf F i + i)) list-long
 
     -- their weight

@@ -86,14 +86,10 @@ module _ (F : List Row) where
   unfolding encItem
   run-length id bs h k = simp length-append (rw (length-encode F id h, length-encode F (length bs) k))
 
-  -- a tuple with a body as it is written, a head and then the body, and its length
+  -- a tuple with a body as it is written: a head and then the body
   pub run-parts : (id : ℕ) (bs : List ℕ) → (encode F id ++ encode F (length bs)) ++ bs ≡ bytesOf F (some (run id bs ∷ []))
   unfolding encItem
   run-parts id bs = append-assoc (encode F id) (encode F (length bs)) bs ∙ sym (block-one (run id bs))
-
-  pub run-bytes : (id : ℕ) (bs : List ℕ) → id < limit F → length bs < limit F
-      → length (bytesOf F (some (run id bs ∷ []))) ≡ sizeOf F id + (sizeOf F (length bs) + length bs)
-  run-bytes id bs p q = ap length (block-one (run id bs)) ∙ run-length id bs p q
 
   -- what was made for the wire is a number that the form holds
   pub code-made : (coding : Coding) (old new : ℕ) → Made F (codeOf F coding old new)
