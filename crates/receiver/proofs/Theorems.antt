@@ -184,7 +184,7 @@ receive-stays-lawful F o output s b l h =
     let end : Out Took = done F o output s in
     subst P (sym (ladder-append (openedRungs Receiver s) rest refuse end))
     (climbs P refuse (openedRungs Receiver s) (ladder rest refuse end)
-    (subst Fine (sym (refusal-keeps s 18 refl)) h, (subst Fine (sym (refusal-keeps s 2 refl)) h, tt))
+    (subst Fine (refusal-keeps 18 s refl) h, (subst Fine (refusal-keeps 2 s refl) h, tt))
     (λ q.
     climbs-all P refuse rest end (λ k. refusal-either s Fine k h (dropped-lawful s l Receiver h (q .1 .0)))
     (λ p. done-lawful F o output s b l (passed F o output s (q .0, (q .1 .0, p))))))
