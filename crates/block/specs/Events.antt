@@ -1,5 +1,5 @@
 -- What the records of an emsg list hold, apart from where they stand; and a list's bytes from what it is to hold.
-use Prim.Native.Nat.{ℕ, _+_, _<_}
+use Prim.Native.Nat.{ℕ, _<_}
 use mathlib.Core.List.{List, [], _∷_, _++_, map}
 use mathlib.Core.Option.{Option, Option·map}
 use lib.ListN.{length}

@@ -8,9 +8,9 @@ use mathlib.Core.List.{List, [], _∷_, _++_, append-assoc, append-nil}
 use borrow.Author.Tests.{eqb-true, not-true, not-false}
 use lib.Dec.{eqb}
 use lib.ListN.{length, getD, take, drop, replicate, length-append, length-drop, drop-of-length-le, take-append-drop}
-use lib.Seq.{slice, sets, sets-eq, take-at, length-sets, length-take-le, length-slice, take-all, take-take, take-add, take-append-add, drop-append-add, drop-drop, getD-drop, slice-empty, paste, paste-zero, take-paste, drop-paste, length-paste}
+use lib.Seq.{slice, sets, sets-eq, take-at, length-sets, length-take-le, length-slice, take-all, take-take, take-append-add, drop-append-add, drop-drop, getD-drop, slice-empty, paste, paste-zero, take-paste, drop-paste, length-paste}
 use Rattle.laws.specs.Tests.{allZero}
-use Rattle.laws.proofs.SliceLaws.{slice-lent, slice-join, slice-to-end}
+use Rattle.laws.proofs.SliceLaws.{slice-lent, slice-join, slice-to-end, slice-drop}
 use Rattle.laws.proofs.TestLaws.{zeros-are}
 use Rattle.chunk.specs.declared.outer.Prft.{Prft}
 use Rattle.fieldset.specs.Lines.{lines, setLen, placeOf}
@@ -56,15 +56,6 @@ module _ (d : List ℕ) (at : ℕ) (s : List ℕ) (n m : ℕ) (h : n ≤ m) (k :
       ap (λ (z : List ℕ). (take at d ++ take n s) ++ z) f
       ∙ sym (append-assoc (take at d ++ take n s) (slice n m s) (drop (at + m) d))
       ∙ joined d at s n m h k
-
--- a part of what is left of a list
-slice-drop : (at n m : ℕ) (l : List ℕ) → at ≤ length l → slice n m (drop at l) ≡ slice (at + n) (at + m) l
-slice-drop at n m l h =
-    let e : length (take at l) ≡ at = length-take-le at l h in
-    sym
-    (ap (drop (at + n)) (take-add at m l)
-    ∙ ap (λ (z : ℕ). drop (z + n) (take at l ++ take m (drop at l))) (sym e)
-    ∙ drop-append-add (take at l) (take m (drop at l)) n)
 
 -- what stands before the words that are stored
 front-kept : (s vs : List ℕ) (i : ℕ) → i + length vs ≤ length s → take i (sets s i vs) ≡ take i s

@@ -1,4 +1,3 @@
-pub mod CopyLoop
 pub mod PackLoop
 pub mod CellLaws
 pub mod SaidLaws

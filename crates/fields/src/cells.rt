@@ -15,6 +15,7 @@ use fieldset::lines::Absent;
 use fieldset::lines::Line;
 use fieldset::lines::Measure;
 use fieldset::lines::Want;
+use fieldset::words;
 use runs::Outcome;
 use track::Track;
 use wire::form::Form;
@@ -108,18 +109,6 @@ fn coding_of(coding: Coding, absent: Absent) -> Coding
     }
 }
 
-// The n words from a place on, into the same place.
-fn copy(r: &[u64], x: &mut [u64], from: usize, n: usize)
-    requires { ⌜ (from + n ≤ length (now r)) × (from + n ≤ length (now x)) ⌝ }
-    ensures { λ u. ⌜ now (x .exit) ≡ sets (now (x .entry)) from (slice from (from + n) (now (r .entry))) ⌝ }
-{
-    let mut i = 0;
-    while i < n {
-        x[from + i] = r[from + i];
-        i += 1;
-    }
-}
-
 fn wide(b: u8) -> u64
     ensures { λ r. ⌜ r ≡ b ⌝ }
 {
@@ -175,7 +164,8 @@ fn carry(r: &[u64], l: Line, j: usize, k: usize, x: &mut [u64]) -> Cell
         return misfit(want);
     }
     x[place] = 1;
-    copy(r, x, place + 1, k);
+    let from = place + 1;
+    words::copy(r, from, k, x, from);
     well()
 }
 

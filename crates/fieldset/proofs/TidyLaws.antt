@@ -9,7 +9,7 @@ use mathlib.Core.List.{List, [], _∷_}
 use borrow.Author.Tests.{eq-eqb}
 use lib.ListN.{length, getD}
 use lib.Seq.{slice, slice-cons}
-use Rattle.laws.specs.Tests.{_and_, allZero}
+use Rattle.laws.specs.Tests.{allZero}
 use Rattle.laws.proofs.SliceLaws.{slice-none}
 use Rattle.laws.proofs.TestLaws.{left, right, both}
 use Rattle.track.specs.declared.Track.{Track}

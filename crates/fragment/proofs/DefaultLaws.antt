@@ -6,7 +6,6 @@ use mathlib.Core.Bool.{true, false, _&&_, _||_}
 use mathlib.Core.List.{List}
 use borrow.Author.Tests.{eqb-true, eq-eqb, ne-eqb}
 use lib.Dec.{eqb}
-use Rattle.laws.specs.Tests.{_and_}
 use Rattle.laws.proofs.TestLaws.{right, and-is, either}
 use Rattle.shape.specs.declared.parts.Part.{Part}
 use Rattle.fragment.specs.Words.{wordOf, bitOf}

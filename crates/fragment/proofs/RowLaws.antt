@@ -8,7 +8,6 @@ use mathlib.Core.List.{List}
 use borrow.Author.Tests.{eqb-true, eq-eqb, ne-eqb}
 use lib.Dec.{eqb, leb}
 use lib.ListN.{length}
-use Rattle.laws.specs.Tests.{_and_}
 use Rattle.laws.proofs.TestLaws.{right, and-is, either}
 use Rattle.shape.specs.declared.parts.Part.{Part}
 use Rattle.shape.specs.Parts.{Inside}

@@ -4,7 +4,7 @@ use native.Mathlib.Omega.{arith}
 use mathlib.Core.Path.{_≡_, refl, sym, _∙_, ap}
 use mathlib.Core.List.{List, [], _++_}
 use lib.ListN.{length, take, drop, length-take, drop-of-length-le, take-append-drop}
-use lib.Seq.{slice, take-add, take-take, take-all, drop-at, drop-drop, take-append-add, take-append-seam, drop-append-seam, drop-append-le}
+use lib.Seq.{slice, length-take-le, take-add, take-take, take-all, drop-at, drop-drop, take-append-add, take-append-seam, drop-append-seam, drop-append-le}
 
 -- nothing stands between a place and one not after it
 pub slice-none : (f t : ℕ) (l : List ℕ) → t ≤ f → slice f t l ≡ []
@@ -45,3 +45,10 @@ slice-join f m t l a b c =
     ap (drop f) (sym (take-append-drop m (take t l)))
     ∙ drop-append-le f (take m (take t l)) (drop m (take t l)) n
     ∙ ap (λ (z : List ℕ). drop f z ++ drop m (take t l)) (take-take m t l b)
+
+-- a part of what is left of a list from a place on, as a part of the list
+pub slice-drop : (at i j : ℕ) (l : List ℕ) → at ≤ length l → slice i j (drop at l) ≡ slice (at + i) (at + j) l
+slice-drop at i j l h =
+    sym
+    (sym (drop-drop i at (take (at + j) l))
+    ∙ ap (drop i) (ap (drop at) (take-add at j l) ∙ drop-at (take at l) (take j (drop at l)) at (length-take-le at l h)))

@@ -6,10 +6,10 @@ use native.Mathlib.Omega.{arith}
 use mathlib.Core.Path.{_≡_, refl, sym, _∙_, ap, ap₂}
 use mathlib.Core.Bool.{Bool, true, false, false≢true, _&&_, _||_}
 use mathlib.Core.List.{List, [], _∷_, _++_}
-use borrow.Author.Tests.{eqb-true, eq-eqb, ne-eqb, eqb-false, leb-true, leb-false, le-leb, lt-leb}
+use borrow.Author.Tests.{eqb-true, eq-eqb, leb-true, le-leb}
 use lib.Dec.{eqb, leb}
 use lib.Arith.{bin-ind, digits-mod}
-use lib.Bits.{bitOr, bitAnd, or-add-and, and-le-l, and-le-r, or-lt, or-step, or-shr}
+use lib.Bits.{bitOr, or-add-and, and-le-l, and-le-r, or-lt, or-step, or-shr}
 use lib.ListN.{length, getD, replicate}
 use lib.Seq.{slice, slice-cons}
 use Rattle.laws.specs.Tests.{_and_, allZero, allLe, allBits, sum}

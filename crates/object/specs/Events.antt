@@ -1,6 +1,6 @@
 -- The values of the events of an object, and their clocks. An event is read as ten words (`recordWords` of crate `block`): the places and
 -- lengths of its scheme and its value, its timescale, time, duration and id, and its message's place and length.
-use Prim.Native.Nat.{ℕ, zero, suc, _+_}
+use Prim.Native.Nat.{ℕ, zero, suc}
 use mathlib.Core.Path.{_≡_}
 use mathlib.Core.Bool.{Bool, true, false, cond}
 use mathlib.Core.List.{List, [], _∷_, _++_}

@@ -6,7 +6,6 @@ use mathlib.Core.Bool.{Bool, true, false, _&&_, _||_}
 use mathlib.Core.List.{List}
 use borrow.Author.Tests.{eqb-true, eqb-false, eq-eqb, ne-eqb}
 use lib.Dec.{eqb}
-use lib.ListN.{length}
 use Rattle.laws.specs.Bytes.{Bytes}
 use Rattle.laws.proofs.TestLaws.{and-left, and-right, either}
 use Rattle.shape.specs.declared.parts.Part.{Part}

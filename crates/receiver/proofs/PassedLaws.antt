@@ -6,7 +6,6 @@ use mathlib.Core.List.{List, _∷_, _++_}
 use borrow.Author.Tests.{leb-true}
 use lib.Dec.{leb}
 use lib.ListN.{length}
-use Rattle.laws.specs.Tests.{_and_}
 use Rattle.laws.specs.Ladder.{Rung, _else_}
 use Rattle.laws.proofs.LadderLaws.{Hold, hold-front, hold-back}
 use Rattle.laws.proofs.TestLaws.{left, and-left, and-right}

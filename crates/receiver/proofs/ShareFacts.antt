@@ -8,7 +8,7 @@ use borrow.Author.Tests.{leb-true, not-true}
 use lib.Dec.{eqb, leb}
 use lib.ListN.{length, getD, take, drop, replicate, length-drop}
 use lib.Seq.{slice, getD-drop, getD-take, drop-drop}
-use Rattle.laws.specs.Tests.{_and_, allZero}
+use Rattle.laws.specs.Tests.{allZero}
 use Rattle.laws.proofs.ListLaws.{drop-replicate}
 use Rattle.laws.proofs.TestLaws.{and-left, and-right, zeros-are}
 use Rattle.wire.specs.declared.form.Row.{Row}

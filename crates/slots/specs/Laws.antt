@@ -3,11 +3,11 @@ use Prim.Native.Nat.{ℕ, _<_}
 use mathlib.Core.Path.{_≡_}
 use mathlib.Core.Bool.{true}
 use mathlib.Core.List.{List, _++_}
-use lib.ListN.{length, take, drop, getD, replicate}
-use Rattle.laws.specs.Ladder.{Rung, Given}
+use lib.ListN.{length, replicate}
+use Rattle.laws.specs.Ladder.{Given}
 use Rattle.track.specs.declared.Asked.{Asked}
 use Rattle.slots.specs.declared.share.Side.{Side}
-use Rattle.slots.specs.Share.{shareLen, heldAt, lawful, fresh, opened, dropped}
+use Rattle.slots.specs.Share.{shareLen, lawful, fresh, opened, dropped}
 use Rattle.slots.specs.Table.{Out, itself, tableLen, shareAt, tableRungs, onTable}
 use Rattle.slots.specs.Calls.{openRungs, openedRungs, opening, closing, grouping}
 

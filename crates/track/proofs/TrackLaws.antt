@@ -1,11 +1,10 @@
 -- What lawful parameters are, one by one. Assumes nothing.
 use Prim.Native.Nat.{ℕ, _≤_}
 use native.Mathlib.Omega.{arith}
-use mathlib.Core.Path.{_≡_, refl, sym, _∙_, ap}
+use mathlib.Core.Path.{_≡_, refl}
 use mathlib.Core.Bool.{Bool, true, false, false≢true, _&&_, _||_}
 use borrow.Author.Tests.{leb-true, eqb-true}
-use lib.Dec.{eqb, leb}
-use Rattle.laws.specs.Tests.{_and_}
+use lib.Dec.{eqb}
 use Rattle.laws.proofs.TestLaws.{left, right}
 use Rattle.track.specs.declared.Asked.{Asked}
 use Rattle.track.specs.Track.{lawful, ivOk, u32}

@@ -4,22 +4,16 @@ use native.Mathlib.Omega.{arith}
 use mathlib.Core.Path.{_≡_, refl, sym, _∙_, ap, ap₂}
 use mathlib.Core.Bool.{Bool, true, false}
 use mathlib.Core.List.{List}
-use lib.ListN.{length, take, drop, length-drop}
-use lib.Seq.{slice, take-add, drop-at, drop-drop, length-take-le}
+use lib.ListN.{length, drop, length-drop}
+use lib.Seq.{slice}
 use Rattle.laws.specs.Bytes.{de}
 use Rattle.laws.specs.Gate.{gate}
 use Rattle.laws.proofs.GateLaws.{stop, pass}
+use Rattle.laws.proofs.SliceLaws.{slice-drop}
 use Rattle.tree.specs.declared.heads.Head.the-variants.{Stands, Broken}
 use Rattle.tree.specs.Whole.{sizeOf, kindOf, sized}
 use Rattle.tree.specs.Heads.{headOf}
 use Rattle.tree.proofs.WholeLaws.{Sized, sized-says, sized-is}
-
--- a part of the list from a place on, as a part of the list
-pub slice-drop : (at i j : ℕ) (s : List ℕ) → at ≤ length s → slice i j (drop at s) ≡ slice (at + i) (at + j) s
-slice-drop at i j s h =
-    sym
-    (sym (drop-drop i at (take (at + j) s))
-    ∙ ap (drop i) (ap (drop at) (take-add at j s) ∙ drop-at (take at s) (take j (drop at s)) at (length-take-le at s h)))
 
 -- no box stands at the front of the list
 sized-not : (l : List ℕ) → (Sized l → ⊥) → sized l ≡ false

@@ -2,7 +2,7 @@
 -- value of such a varint is the first byte's place in the run and then its tail, as one number to base 256. So a row holds the values
 -- below `width * 256 ^ tail`.
 use Prim.Native.Nat.{ℕ, _+_, _*_, _^_, max, suc}
-use mathlib.Core.Bool.{Bool, cond}
+use mathlib.Core.Bool.{cond}
 use mathlib.Core.List.{List, [], _∷_}
 use lib.Dec.{ltb}
 use Rattle.wire.specs.declared.form.Row.{Row}

@@ -1,5 +1,5 @@
 -- How many bytes a varint and a run of them take at most, so that an array of that many has room. Assumes nothing.
-use Prim.Native.Nat.{ℕ, suc, _+_, _*_, _≤_, max, zero-le}
+use Prim.Native.Nat.{ℕ, suc, _*_, _≤_, max, zero-le}
 use native.Mathlib.Nat.{le-trans, le-max-left, le-max-right}
 use native.Mathlib.Omega.{arith}
 use mathlib.Core.Path.{_≡_, refl}

@@ -1,6 +1,6 @@
 -- `track::is_lawful` meets its contract: the tests are the definition's, in its order. Assumes nothing.
 use borrow.Author.Needs.{needs}
-use mathlib.Core.Path.{refl, ap, _∙_}
+use mathlib.Core.Path.{refl}
 use Rattle.laws.specs.Tests.{_and_}
 use Rattle.track.specs.Track.{lawful}
 use Rattle.track.proofs.is_lawful.Statement.{statement}

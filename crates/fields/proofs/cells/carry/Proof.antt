@@ -29,8 +29,8 @@ mul-x c = search needs
 slice-write-x : tie.Need-slice-write-x
 slice-write-x c = search needs
 
-add-copy : tie.Need-add-copy
-add-copy c = search needs
+add-from : tie.Need-add-from
+add-from c = search needs
 
 copy-requires : tie.Need-copy-requires
 copy-requires c κs = search needs
@@ -55,7 +55,7 @@ carry-spec =
     returns-2
     mul-x
     slice-write-x
-    add-copy
+    add-from
     copy-requires
     well-requires
     same-length

@@ -1,6 +1,4 @@
 -- `slots::calls::close_share` meets its contract: each return is a rung of the ladder, or its top. Assumes nothing.
-use mathlib.Core.Path.{_≡_}
-use denote.Ref.{now}
 use Rattle.laws.proofs.GateLaws.{failed, held}
 use Rattle.slots.proofs.CallLaws.{close-unlawful, close-closed, close-done}
 use borrow.Author.Needs.{needs}

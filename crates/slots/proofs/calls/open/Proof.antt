@@ -1,5 +1,4 @@
 -- `slots::calls::open` meets its contract, by the laws of a call on a share seen from the table. Assumes nothing.
-use mathlib.Core.Path.{_≡_}
 use denote.Ref.{now}
 use Rattle.slots.specs.Share.{asked}
 use Rattle.slots.specs.Table.{itself}

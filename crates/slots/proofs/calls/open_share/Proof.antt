@@ -1,8 +1,5 @@
 -- `slots::calls::open_share` meets its contract: each return is a rung of the ladder, or its top. Assumes nothing.
-use mathlib.Core.Path.{_≡_}
-use denote.Ref.{now}
 use Rattle.laws.proofs.GateLaws.{failed, held}
-use Rattle.track.specs.Track.{lawful}
 use Rattle.slots.proofs.CallLaws.{open-unlawful, open-open, open-bad, open-done}
 use borrow.Author.Needs.{needs}
 use Rattle.slots.proofs.calls.open_share.Statement.{statement}

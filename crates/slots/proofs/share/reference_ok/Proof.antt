@@ -1,6 +1,6 @@
 -- `slots::share::reference_ok` meets its contract, by what its tests come to. Assumes nothing.
 use native.Mathlib.Omega.{arith}
-use lib.ListN.{length, length-drop, length-take}
+use lib.ListN.{length-drop, length-take}
 use denote.Ref.{now}
 use Rattle.slots.proofs.ShareLaws.{none-held, one-held}
 use borrow.Author.Needs.{needs}
