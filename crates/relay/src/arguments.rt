@@ -1,0 +1,143 @@
+// The words that the program is started with. They are read twice: first all options, and then one folder after another.
+use crate::numbers;
+use crate::tally;
+use libc::STDERR_FILENO;
+
+// What is asked for, and while the words are read, whether the number of `--every` comes next.
+pub struct Options {
+    pub every: u64,
+    pub sync: bool,
+    pub folders: u64,
+    pub help: bool,
+    pub bad: bool,
+    pub waits: bool,
+}
+
+// What a word is.
+pub enum Word {
+    Every,
+    Sync,
+    Help,
+    Count,
+    Folder,
+    Unknown,
+}
+
+const EVERY: u64 = 8;
+
+fn option(word: &[u8]) -> Word {
+    if check::same(word, b"--every") {
+        return Word::Every;
+    }
+    if check::same(word, b"--sync") {
+        return Word::Sync;
+    }
+    if check::same(word, b"--help") {
+        return Word::Help;
+    }
+    Word::Unknown
+}
+
+// What a word is, where the number of `--every` is waited for or not.
+pub fn kind(waits: bool, word: &[u8]) -> Word {
+    if waits {
+        return Word::Count;
+    }
+    if word.len() == 0 {
+        return Word::Unknown;
+    }
+    if word[0] == b'-' {
+        return option(word);
+    }
+    Word::Folder
+}
+
+fn complain(text: &[u8], word: &[u8]) {
+    io::write_all(STDERR_FILENO, b"relay: ");
+    io::write_all(STDERR_FILENO, text);
+    io::write_all(STDERR_FILENO, word);
+    io::write_all(STDERR_FILENO, b"\n");
+}
+
+fn bad(o: Options) -> Options {
+    Options {
+        every: o.every,
+        sync: o.sync,
+        folders: o.folders,
+        help: o.help,
+        bad: true,
+        waits: false,
+    }
+}
+
+fn count(o: Options, word: &[u8]) -> Options {
+    let n = numbers::number_at(word, 0);
+    if !n.stands | (n.next != word.len()) | (n.value == 0) {
+        complain(
+            b"--every takes a number from 1 on, and this is none: ",
+            word,
+        );
+        return bad(o);
+    }
+    let mut r = o;
+    r.every = n.value;
+    r.waits = false;
+    r
+}
+
+fn folder(o: Options) -> Options {
+    let mut r = o;
+    r.folders = tally::more(o.folders, 1);
+    r
+}
+
+// The options after a further word.
+fn take(o: Options, word: &[u8]) -> Options {
+    let mut r = o;
+    let k = kind(o.waits, word);
+    match k {
+        Word::Every => r.waits = true,
+        Word::Sync => r.sync = true,
+        Word::Help => r.help = true,
+        Word::Count => return count(o, word),
+        Word::Folder => return folder(o),
+        Word::Unknown => {
+            complain(b"no option and no folder: ", word);
+            return bad(o);
+        }
+    }
+    r
+}
+
+fn take_at(o: Options, i: usize) -> Options {
+    let mut word = io::buffer();
+    let n = os::arg(i, &mut word);
+    if os::errno() != 0 {
+        complain(b"an argument is too long", b"");
+        return bad(o);
+    }
+    take(o, &word[..n])
+}
+
+// All words of the program, its own name left out.
+pub fn options() -> Options {
+    let mut o = Options {
+        every: EVERY,
+        sync: false,
+        folders: 0,
+        help: false,
+        bad: false,
+        waits: false,
+    };
+    let n = os::arg_count();
+    let mut i = 1;
+    while i < n {
+        o = take_at(o, i);
+        i += 1;
+    }
+    if o.waits {
+        complain(b"--every takes a number from 1 on", b"");
+        return bad(o);
+    }
+    o
+}

@@ -1,0 +1,150 @@
+// The lines that people read.
+use crate::tally;
+use crate::tally::Passed;
+use crate::tally::Tally;
+use crate::words;
+use crate::words::number;
+use crate::words::say;
+use libc::STDOUT_FILENO;
+
+// A number at the right of a column.
+fn column(v: u64, width: usize) {
+    let mut text = [0u8; 20];
+    let k = io::decimal(v, &mut text);
+    blanks(k, width);
+    io::write_all(STDOUT_FILENO, &text[..k]);
+}
+
+// Blanks from one place to another.
+fn blanks(from: usize, to: usize) {
+    let mut i = from;
+    while i < to {
+        say(b" ");
+        i += 1;
+    }
+}
+
+fn named(name: &[u8], v: u64) {
+    say(name);
+    number(STDOUT_FILENO, v);
+}
+
+fn protection(protection: u64, iv_size: u64) {
+    match protection {
+        0 => say(b", not protected\n"),
+        1 => {
+            named(b", cenc with IVs of ", iv_size);
+            say(b" bytes\n");
+        }
+        _ => say(b", cbcs\n"),
+    }
+}
+
+// A track's name and parameters, and the heads of the columns.
+pub fn head(folder: &[u8], params: &[u64; 8]) {
+    say(b"track ");
+    say(folder);
+    named(b": track_ID ", params[0]);
+    named(b", timescale ", params[1]);
+    named(b", defaults: description ", params[2]);
+    named(b", duration ", params[3]);
+    named(b", size ", params[4]);
+    named(b", flags ", params[5]);
+    protection(params[6], params[7]);
+    say(b"   chunk  kind     CMAF head  LOCMAF head   payload  number\n");
+}
+
+// A chunk's line.
+pub fn chunk(i: u64, p: Passed) {
+    column(i, 8);
+    if p.number != 0 {
+        say(b"  refused          -            -         -");
+        column(p.number, 8);
+        say(b"  ");
+        words::meaning(STDOUT_FILENO, p.number);
+        return say(b"\n");
+    }
+    if p.delta {
+        say(b"  delta  ");
+    } else {
+        say(b"  full   ");
+    }
+    column(p.cmaf, 11);
+    column(p.locmaf, 13);
+    column(p.payload, 10);
+    column(p.number, 8);
+    if !p.same {
+        say(b"  the rebuilt chunk gave another object");
+    }
+    say(b"\n")
+}
+
+// What is saved of so many bytes where so many are left, in percent with one decimal.
+fn saved(before: u64, after: u64) {
+    say(b", saved ");
+    let mut gone = 0;
+    if before < after {
+        say(b"-");
+        gone = after - before;
+    } else {
+        gone = before - after;
+    }
+    let t = tally::tenths(gone, before);
+    number(STDOUT_FILENO, t / 10);
+    named(b".", t % 10);
+    say(b" %\n");
+}
+
+fn heads(t: Tally) {
+    named(b"  heads: CMAF ", t.cmaf);
+    named(b" bytes, LOCMAF ", t.locmaf);
+    say(b" bytes");
+    saved(t.cmaf, t.locmaf);
+    named(b"  payload: ", t.payload);
+    say(b" bytes; of all bytes");
+    saved(
+        tally::more(t.cmaf, t.payload),
+        tally::more(t.locmaf, t.payload),
+    );
+}
+
+// The totals of a track, or of all.
+pub fn totals(t: Tally) {
+    named(b"  chunks ", t.chunks);
+    named(b": full ", t.full);
+    named(b", delta ", t.delta);
+    named(b", refused ", t.refused);
+    say(b"\n");
+    if t.chunks == t.refused {
+        return say(b"  no chunk was accepted, so nothing is compared\n");
+    }
+    heads(t);
+    say(b"  each rebuilt chunk gave the same object again: ");
+    if t.differs == 0 {
+        return say(b"yes\n");
+    }
+    named(b"no, first not chunk ", t.differs);
+    say(b"\n")
+}
+
+// Whether all is well, in words that the script `relay` looks for.
+fn verdict(t: Tally) {
+    if (t.bad == 0) & (t.differs == 0) {
+        return say(b"all is well\n");
+    }
+    say(b"not all is well\n")
+}
+
+// After the last track: the totals of all where there are several, and the verdict.
+pub fn all(t: Tally) {
+    if 1 < t.tracks {
+        named(b"all ", t.tracks);
+        say(b" tracks\n");
+        totals(t);
+    }
+    if t.bad != 0 {
+        named(b"tracks left out for a bad file: ", t.bad);
+        say(b"\n");
+    }
+    verdict(t)
+}

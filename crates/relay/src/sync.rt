@@ -1,0 +1,48 @@
+// Whether a chunk begins with a sync sample.
+use accepted::read;
+use fieldset::lines;
+use track::Asked;
+use wire::form::Form;
+
+// The flags of the first sample, in five-bit form, by the words of the chunk's set: the first sample's own, those of each sample, the fragment's, or the track's.
+fn first_flags(x: &[u64; 981], usual: u64) -> u64 {
+    if x[lines::FIRST_FLAGS] != 0 {
+        return x[lines::FIRST_FLAGS + 1];
+    }
+    if x[lines::FLAGS] != 0 {
+        return x[lines::FLAGS + 1];
+    }
+    if x[lines::DEFAULT_FLAGS] != 0 {
+        return x[lines::DEFAULT_FLAGS + 1];
+    }
+    usual
+}
+
+fn asked(params: &[u64; 8]) -> Asked {
+    Asked {
+        track: params[0],
+        timescale: params[1],
+        description: params[2],
+        duration: params[3],
+        size: params[4],
+        flags: params[5],
+        protection: params[6],
+        iv_size: params[7],
+    }
+}
+
+// Whether the chunk is accepted on a track and its first sample's non_sync is 0.
+pub fn begins_sync(params: &[u64; 8], chunk: &[u8]) -> bool {
+    let a = asked(params);
+    if !track::is_lawful(a) {
+        return false;
+    }
+    let t = track::narrowed(a);
+    let mut events = [0u64; 160];
+    let mut x = [0u64; 981];
+    let c = read::read_chunk(Form::Rfc9000, t, chunk, &mut events, &mut x);
+    if (c.number != 0) | (x[lines::COUNT] == 0) {
+        return false;
+    }
+    first_flags(&x, a.flags) % 2 == 0
+}
