@@ -119,22 +119,28 @@ fn take_at(o: Options, i: usize) -> Options {
     take(o, &word[..n])
 }
 
-// All words of the program, its own name left out.
-pub fn options() -> Options {
-    let mut o = Options {
-        every: EVERY,
-        sync: false,
-        folders: 0,
-        help: false,
-        bad: false,
-        waits: false,
-    };
+// The options after all words of the program, its own name left out.
+fn take_all(before: Options) -> Options {
+    let mut o = before;
     let n = os::arg_count();
     let mut i = 1;
     while i < n {
         o = take_at(o, i);
         i += 1;
     }
+    o
+}
+
+// What the program was started with.
+pub fn read_all() -> Options {
+    let o = take_all(Options {
+        every: EVERY,
+        sync: false,
+        folders: 0,
+        help: false,
+        bad: false,
+        waits: false,
+    });
     if o.waits {
         complain(b"--every takes a number from 1 on", b"");
         return bad(o);

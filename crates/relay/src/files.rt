@@ -1,6 +1,4 @@
 // A track's files, and what is wrong with them, on standard error.
-ghost use Prim.Native.Nat.{_≤_};
-ghost use lib.ListN.{length};
 ghost use Rattle.io.specs.Counts.{Counts};
 use crate::words;
 use libc::STDERR_FILENO;
@@ -13,7 +11,7 @@ pub struct Joined {
 
 // Puts bytes behind the first so many of a buffer.
 pub fn append(out: &mut [u8], at: usize, text: &[u8]) -> Joined
-    ensures { λ r. ⌜ r .end ≤ length (now (out .exit)) ⌝ }
+    ensures { λ r. ⌜ Counts (r .end) (now (out .exit)) ⌝ }
 {
     if out.len() < at {
         return Joined {
@@ -36,7 +34,7 @@ pub fn append(out: &mut [u8], at: usize, text: &[u8]) -> Joined
 
 // The path of a file in a folder; its length, or 0 where the path is too long for one.
 pub fn path_of(folder: &[u8], name: &[u8], path: &mut [u8]) -> usize
-    ensures { λ r. ⌜ r ≤ length (now (path .exit)) ⌝ }
+    ensures { λ r. ⌜ Counts r (now (path .exit)) ⌝ }
 {
     let a = append(path, 0, folder);
     let b = append(path, a.end, b"/");

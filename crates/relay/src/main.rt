@@ -25,7 +25,7 @@ fn all_tracks(o: Options) -> Tally {
 }
 
 fn main() {
-    let o = arguments::options();
+    let o = arguments::read_all();
     if o.bad {
         words::usage(STDERR_FILENO);
         io::write_all(STDOUT_FILENO, b"bad arguments\n");

@@ -16,7 +16,9 @@ fn is_digit(b: u8) -> bool {
     (b'0' <= b) & (b <= b'9')
 }
 
-fn digit(b: u8) -> u64 {
+fn digit(b: u8) -> u64
+    ensures { λ r. ⌜ r < 10 ⌝ }
+{
     (b % 16) as u64 % 10
 }
 
@@ -71,7 +73,10 @@ pub fn number_at(b: &[u8], p: usize) -> Number
     let mut value = 0;
     let mut i = p;
     while i < b.len() {
-        if !is_digit(b[i]) | (WIDE <= value) {
+        if WIDE <= value {
+            break;
+        }
+        if !is_digit(b[i]) {
             break;
         }
         value = value * 10 + digit(b[i]);

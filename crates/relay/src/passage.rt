@@ -1,6 +1,5 @@
 // One chunk from end to end: as an object, as a chunk again, and once more as an object.
-ghost use Prim.Native.Nat.{_≤_};
-ghost use lib.ListN.{length};
+ghost use Rattle.io.specs.Counts.{Counts};
 use crate::files;
 use crate::tally::Passed;
 
@@ -15,8 +14,8 @@ struct Whole {
 const DELTA: u8 = 25;
 
 // The payload behind the front in the output.
-fn whole(number: u64, front: u64, payload: &[u8], output: &mut [u8]) -> Whole
-    ensures { λ r. ⌜ r .end ≤ length (now (output .exit)) ⌝ }
+fn put_together(number: u64, front: u64, payload: &[u8], output: &mut [u8]) -> Whole
+    ensures { λ r. ⌜ Counts (r .end) (now (output .exit)) ⌝ }
 {
     let end = output.len();
     if (number != 0) | ((end as u64) < front) {
@@ -42,7 +41,7 @@ fn whole(number: u64, front: u64, payload: &[u8], output: &mut [u8]) -> Whole
 }
 
 fn encoded(table: &mut [u64], wish: u64, chunk: &[u8], object: &mut [u8]) -> Whole
-    ensures { λ r. ⌜ r .end ≤ length (now (object .exit)) ⌝ }
+    ensures { λ r. ⌜ Counts (r .end) (now (object .exit)) ⌝ }
 {
     let mut number = 0;
     let mut front = 0;
@@ -55,11 +54,11 @@ fn encoded(table: &mut [u64], wish: u64, chunk: &[u8], object: &mut [u8]) -> Who
         &mut number,
         &mut front,
     );
-    whole(number, front, payload, object)
+    put_together(number, front, payload, object)
 }
 
 fn received(table: &mut [u64], object: &[u8], chunk: &mut [u8]) -> Whole
-    ensures { λ r. ⌜ r .end ≤ length (now (chunk .exit)) ⌝ }
+    ensures { λ r. ⌜ Counts (r .end) (now (chunk .exit)) ⌝ }
 {
     let mut number = 0;
     let mut front = 0;
@@ -71,7 +70,7 @@ fn received(table: &mut [u64], object: &[u8], chunk: &mut [u8]) -> Whole
         &mut number,
         &mut front,
     );
-    whole(number, front, payload, chunk)
+    put_together(number, front, payload, chunk)
 }
 
 // Whether the object comes back from a receiver as a chunk that gives the same object again.

@@ -15,11 +15,15 @@ fn column(v: u64, width: usize) {
     io::write_all(STDOUT_FILENO, &text[..k]);
 }
 
+fn blank() {
+    say(b" ")
+}
+
 // Blanks from one place to another.
 fn blanks(from: usize, to: usize) {
     let mut i = from;
     while i < to {
-        say(b" ");
+        blank();
         i += 1;
     }
 }

@@ -46,7 +46,8 @@ fn wish(o: Options, before: u64, params: &[u64; 8], chunk: &[u8]) -> u64 {
     (before % o.every != 0) as u64
 }
 
-// The chunk of a line of chunks.txt, and the sums with it; a bad line or a file that ends too early is counted in `bad`.
+// The chunk of a line of chunks.txt, and the sums with it; a bad line or a file that ends too early is counted in `bad`, and what follows
+// it is left alone.
 fn step(
     folder: &[u8],
     params: &[u64; 8],
@@ -62,11 +63,18 @@ fn step(
     rebuilt: &mut [u8],
     second: &mut [u8],
 ) -> Tally {
+    if t.bad != 0 {
+        return t;
+    }
     let line = tally::more(t.chunks, 1);
-    if !length_ok(folder, line, n) | ((chunk.len() as u64) < n.value) {
+    if !length_ok(folder, line, n) {
         return tally::spoiled();
     }
-    let c = &mut chunk[..n.value as usize];
+    let length = n.value;
+    if (chunk.len() as u64) < length {
+        return tally::spoiled();
+    }
+    let c = &mut chunk[..length as usize];
     if io::read_full(fd, &mut *c) != c.len() {
         files::wrong_line(folder, line, b"chunks.bin ends before this chunk does");
         return tally::spoiled();
@@ -111,9 +119,6 @@ fn steps(
             rebuilt,
             second,
         );
-        if t.bad != 0 {
-            return t;
-        }
         p = numbers::next_line(text, p);
     }
     t

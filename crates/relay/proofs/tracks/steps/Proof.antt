@@ -1,0 +1,86 @@
+-- `relay::tracks::steps` is safe and ends: each line ends behind its start and within the text. Assumes nothing.
+use Prim.Native.Nat.{_≤_, _-_}
+use native.Mathlib.Omega.{arith}
+use mathlib.Core.Path.{_≡_}
+use lib.ListN.{length}
+use borrow.Author.Needs.{needs}
+use Rattle.relay.proofs.tracks.steps.Statement.{statement}
+use Rattle.relay.proofs.tracks.steps.Tie as tie
+
+abbrev Inv-loop : tie.InvT-loop
+Inv-loop folder params o text fd encoder₀ receiver₀ again₀ chunk₀ object₀ rebuilt₀ second₀ t₀ p₀ encoder receiver again chunk object rebuilt second t p =
+    (p ≤ length text) × (length encoder ≡ length encoder₀) × (length receiver ≡ length receiver₀) × (length again ≡ length again₀)
+    × (length chunk ≡ length chunk₀) × (length object ≡ length object₀) × (length rebuilt ≡ length rebuilt₀) × (length second ≡ length second₀)
+
+abbrev μ-loop : tie.MeasureT-loop
+μ-loop folder params o text fd encoder₀ receiver₀ again₀ chunk₀ object₀ rebuilt₀ second₀ t₀ p₀ encoder receiver again chunk object rebuilt second t p =
+    length text - p
+
+nothing-requires : tie.Need-nothing-requires Inv-loop μ-loop
+nothing-requires c κs = search needs
+
+loop-holds : tie.Need-loop-holds Inv-loop μ-loop
+loop-holds c = search needs
+
+number-at-requires : tie.Need-number-at-requires Inv-loop μ-loop
+number-at-requires c κs = search needs
+
+step-requires : tie.Need-step-requires Inv-loop μ-loop
+step-requires c κs = search needs
+
+next-line-requires : tie.Need-next-line-requires Inv-loop μ-loop
+next-line-requires c κs = search needs
+
+loop-less : tie.Need-loop-less Inv-loop μ-loop
+loop-less c = search needs
+
+loop-again : tie.Need-loop-again Inv-loop μ-loop
+loop-again c =
+    let i = c .before .before .before .before .before .before .before .before .before .before .before .before .before .before .before .before .before .before .before .before .before .before .before .before .before .loop .inv in
+    (search needs, omega (arith, i .1), omega (arith, i .2), omega (arith, i .3), omega (arith, i .4), omega (arith, i .5), omega (arith, i .6), omega (arith, i .7))
+
+same-length : tie.Need-same-length Inv-loop μ-loop
+same-length c = search needs
+
+same-length-2 : tie.Need-same-length-2 Inv-loop μ-loop
+same-length-2 c = search needs
+
+same-length-3 : tie.Need-same-length-3 Inv-loop μ-loop
+same-length-3 c = search needs
+
+same-length-4 : tie.Need-same-length-4 Inv-loop μ-loop
+same-length-4 c = search needs
+
+same-length-5 : tie.Need-same-length-5 Inv-loop μ-loop
+same-length-5 c = search needs
+
+same-length-6 : tie.Need-same-length-6 Inv-loop μ-loop
+same-length-6 c = search needs
+
+same-length-7 : tie.Need-same-length-7 Inv-loop μ-loop
+same-length-7 c = search needs
+
+returns : tie.Need-returns Inv-loop μ-loop
+returns c = search needs
+
+pub steps-spec : {M : Type 1} → statement M
+steps-spec =
+    tie.close
+    (tie.spec
+    Inv-loop
+    μ-loop
+    nothing-requires
+    loop-holds
+    number-at-requires
+    step-requires
+    next-line-requires
+    loop-less
+    loop-again
+    same-length
+    same-length-2
+    same-length-3
+    same-length-4
+    same-length-5
+    same-length-6
+    same-length-7
+    returns)
