@@ -3,13 +3,15 @@
 //
 // A proved program can't hand back an exit status, so its last line on standard output is its verdict, and the script `relay` makes the status of it.
 mod arguments; // arguments.rt: the words that the program is started with
+mod chunks; // chunks.rt: the chunks of a track one after another
 mod files; // files.rt: a track's files, and what is wrong with them
+mod folder; // folder.rt: a track's folder
 mod numbers; // numbers.rt: numbers that stand in text
 mod passage; // passage.rt: one chunk from end to end
 mod report; // report.rt: the lines that people read
 mod sync; // sync.rt: whether a chunk begins with a sync sample
 mod tally; // tally.rt: what is counted
-mod tracks; // tracks.rt: the chunks of a track one after another
+mod tracks; // tracks.rt: one track after another
 mod words; // words.rt: the words of each number, and the usage
 
 use arguments::Options;

@@ -1,11 +1,11 @@
--- `relay::tracks::steps` is safe and ends: each line ends behind its start and within the text. Assumes nothing.
+-- `relay::chunks::steps` is safe and ends: each line ends behind its start and within the text. Assumes nothing.
 use Prim.Native.Nat.{_≤_, _-_}
 use native.Mathlib.Omega.{arith}
 use mathlib.Core.Path.{_≡_}
 use lib.ListN.{length}
 use borrow.Author.Needs.{needs}
-use Rattle.relay.proofs.tracks.steps.Statement.{statement}
-use Rattle.relay.proofs.tracks.steps.Tie as tie
+use Rattle.relay.proofs.chunks.steps.Statement.{statement}
+use Rattle.relay.proofs.chunks.steps.Tie as tie
 
 abbrev Inv-loop : tie.InvT-loop
 Inv-loop folder params o text fd encoder₀ receiver₀ again₀ chunk₀ object₀ rebuilt₀ second₀ t₀ p₀ encoder receiver again chunk object rebuilt second t p =

@@ -1,10 +1,10 @@
--- `relay::tracks::step` is safe and ends: the part of the buffer is as long as is tested. Assumes nothing.
+-- `relay::chunks::step` is safe and ends: the part of the buffer is as long as is tested. Assumes nothing.
 use native.Mathlib.Omega.{arith}
 use mathlib.Core.Path.{sym}
 use lib.Seq.{length-take-le}
 use borrow.Author.Needs.{needs}
-use Rattle.relay.proofs.tracks.step.Statement.{statement}
-use Rattle.relay.proofs.tracks.step.Tie as tie
+use Rattle.relay.proofs.chunks.step.Statement.{statement}
+use Rattle.relay.proofs.chunks.step.Tie as tie
 
 returns : tie.Need-returns
 returns c = search needs

@@ -1,0 +1,119 @@
+// The chunks of a track one after another.
+use crate::arguments::Options;
+use crate::files;
+use crate::numbers;
+use crate::numbers::Number;
+use crate::passage;
+use crate::report;
+use crate::sync;
+use crate::tally;
+use crate::tally::Tally;
+
+// The bytes that a chunk may have; the room for an object or a rebuilt chunk has 16,384 more, since no front is that long.
+const CHUNK: u64 = 262144;
+
+// Whether the length of a chunk is one; what is wrong has been explained.
+fn length_ok(folder: &[u8], line: u64, n: Number) -> bool {
+    if !n.stands {
+        files::wrong_line(folder, line, b"it doesn't begin with a length in bytes");
+        return false;
+    }
+    if n.value == 0 {
+        files::wrong_line(folder, line, b"a chunk can't have 0 bytes");
+        return false;
+    }
+    if CHUNK < n.value {
+        files::wrong_line(folder, line, b"the chunk has more than 262,144 bytes");
+        return false;
+    }
+    true
+}
+
+// The wish for the next chunk, 0 for a full object, 1 for a delta.
+fn wish(o: Options, before: u64, params: &[u64; 8], chunk: &[u8]) -> u64 {
+    if o.sync {
+        return !sync::begins_sync(params, chunk) as u64;
+    }
+    if o.every == 0 {
+        return 0;
+    }
+    (before % o.every != 0) as u64
+}
+
+// The chunk of a line of chunks.txt, and the sums with it; a bad line or a file that ends too early is counted in `bad`, and what follows
+// it is left alone.
+fn step(
+    folder: &[u8],
+    params: &[u64; 8],
+    o: Options,
+    t: Tally,
+    n: Number,
+    fd: i32,
+    encoder: &mut [u64],
+    receiver: &mut [u64],
+    again: &mut [u64],
+    chunk: &mut [u8],
+    object: &mut [u8],
+    rebuilt: &mut [u8],
+    second: &mut [u8],
+) -> Tally {
+    if t.bad != 0 {
+        return t;
+    }
+    let line = tally::more(t.chunks, 1);
+    if !length_ok(folder, line, n) {
+        return tally::spoiled();
+    }
+    let length = n.value;
+    if (chunk.len() as u64) < length {
+        return tally::spoiled();
+    }
+    let c = &mut chunk[..length as usize];
+    if io::read_full(fd, &mut *c) != c.len() {
+        files::wrong_line(folder, line, b"chunks.bin ends before this chunk does");
+        return tally::spoiled();
+    }
+    let w = wish(o, t.chunks, params, c);
+    let p = passage::pass(encoder, receiver, again, w, c, object, rebuilt, second);
+    report::chunk(line, p);
+    tally::with_chunk(t, p)
+}
+
+// All lines of chunks.txt.
+pub fn steps(
+    folder: &[u8],
+    params: &[u64; 8],
+    o: Options,
+    text: &[u8],
+    fd: i32,
+    encoder: &mut [u64],
+    receiver: &mut [u64],
+    again: &mut [u64],
+    chunk: &mut [u8],
+    object: &mut [u8],
+    rebuilt: &mut [u8],
+    second: &mut [u8],
+) -> Tally {
+    let mut t = tally::nothing();
+    let mut p = 0;
+    while p < text.len() {
+        let n = numbers::number_at(text, p);
+        t = step(
+            folder,
+            params,
+            o,
+            t,
+            n,
+            fd,
+            encoder,
+            receiver,
+            again,
+            chunk,
+            object,
+            rebuilt,
+            second,
+        );
+        p = numbers::next_line(text, p);
+    }
+    t
+}
