@@ -12,7 +12,7 @@ import sys
 from conversation import Conversation
 
 ROOM = 1 << 20
-WORDS = {int(n): text for n, text in re.findall(r"LOCMAF_\w+ = (\d+),? +/\* (.*?) \*/", open("include/locmaf.h").read())}
+WORDS = {int(n): " ".join(text.split()) for n, text in re.findall(r"LOCMAF_\w+ = (\d+),? +/\* (.*?) \*/", open("include/locmaf.h").read(), re.S)}
 
 
 class Relay:

@@ -16,9 +16,12 @@ fn of_receiver(fd: i32, n: u64) {
         12 => io::write_all(fd, b"object unreadable"),
         13 => io::write_all(
             fd,
-            b"id unknown, twice or forbidden here, or one missing that has to stand",
+            b"id unknown, twice or forbidden here; a full without 10 or 14; only one of 18 and 20; 22 or 24 without them; a delta with `prft` ids where the current full has none",
         ),
-        14 => io::write_all(fd, b"deletion, list length or resulting set unlawful"),
+        14 => io::write_all(
+            fd,
+            b"deletion, list length (ids 9 and 23 too) or resulting set unlawful, any other absence included",
+        ),
         15 => io::write_all(fd, b"value outside its range or maximum"),
         16 => io::write_all(fd, b"sizes or protected sums disagree"),
         17 => io::write_all(fd, b"output shorter than the front"),
@@ -40,11 +43,11 @@ pub fn meaning(fd: i32, n: u64) {
         4 => io::write_all(fd, b"bad parameters"),
         5 => io::write_all(fd, b"chunk: the tree of boxes is broken"),
         6 => io::write_all(fd, b"chunk: wrong box, order, version, flags or box length"),
-        7 => io::write_all(fd, b"chunk: any other rule of a chunk broken"),
+        7 => io::write_all(fd, b"chunk: any other rule of the chunk accepted broken"),
         8 => io::write_all(fd, b"chunk: a count or length past its maximum"),
         9 => io::write_all(
             fd,
-            b"chunk: BMDT past its maximum, or a number too wide for an object",
+            b"chunk: BMDT past its maximum, whatever the wish; or, where no delta is given, a number too wide in the full object",
         ),
         _ => return of_receiver(fd, n),
     }
