@@ -9,7 +9,7 @@ use lib.Seq.{slice, drop-drop}
 use borrow.Rule.Slice.PartAt.{part-to-end}
 use Rattle.laws.specs.Bytes.{de}
 use Rattle.laws.specs.Tests.{_and_}
-use Rattle.laws.proofs.SliceLaws.{slice-lent, take-slice, drop-slice}
+use Rattle.laws.proofs.SliceLaws.{slice-drop, slice-lent, take-slice, drop-slice}
 use Rattle.laws.proofs.TestLaws.{and-true}
 use Rattle.tree.specs.declared.heads.Head.the-variants.{Broken}
 use Rattle.tree.specs.Whole.{sizeOf, kindOf, insideOf, afterOf, sized, container, whole, wholeBox}
@@ -17,7 +17,7 @@ use Rattle.tree.specs.Heads.{headOf}
 use Rattle.tree.specs.Fills.{fills}
 use Rattle.tree.proofs.WholeLaws.{past-head, firstBy, whole-empty, whole-broken, whole-sized}
 use Rattle.tree.proofs.FillLaws.{fills-empty, fills-broken, fills-sized, unfilled, whole-split}
-use Rattle.tree.proofs.HeadLaws.{slice-drop, HeadAt, head-broken}
+use Rattle.tree.proofs.HeadLaws.{HeadAt, head-broken}
 
 -- ---- any test of a list of boxes
 
