@@ -33,8 +33,12 @@ def panel(out, got, letter, title, x0):
     for v in range(0, high + 1, step):
         y = at(xs[0], v)[1]
         out.append('<line x1="%d" y1="%.1f" x2="%d" y2="%.1f" class="grid"/><text x="%d" y="%.1f" class="y">%d</text>' % (x0, y, x0 + WIDTH, y, x0 - 6, y + 4, v))
+    told = -99
     for n in xs:
-        out.append('<text x="%.1f" y="%d" class="x">%d</text>' % (at(n, 0)[0], TOP + HEIGHT + 18, n))
+        x = at(n, 0)[0]
+        if x - told >= 20:
+            out.append('<text x="%.1f" y="%d" class="x">%d</text>' % (x, TOP + HEIGHT + 18, n))
+            told = x
     for _, _, colour, dash, points in lines:
         path = " ".join("%.1f,%.1f" % at(*p) for p in points)
         out.append('<polyline points="%s" fill="none" stroke="%s" stroke-width="2" stroke-dasharray="%s"/>' % (path, colour, dash))
