@@ -1,12 +1,12 @@
 // Runs the commands of its input on an encoder's table and prints what each answers, a line for each: the number, and of a chunk the length of the
 // front, that of the payload, and the front's bytes, or a number made of them. Input and stored output are made by tests/encoder_vectors.py, which asks
 // another implementation of the rules.
-mod commands; // commands.rt: a command, and all of them
+mod answers; // answers.rt: what a command answers, and all commands
 
 fn main() {
     let mut input = [0u8; 1048576];
     let mut output = [0u8; 65536];
     let mut table = [0u64; 7968];
     let n = io::read_full(libc::STDIN_FILENO, &mut input);
-    commands::run_all(&mut table, &input[..n], &mut output);
+    answers::run_all(&mut table, &input[..n], &mut output);
 }

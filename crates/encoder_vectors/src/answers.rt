@@ -1,70 +1,30 @@
-// A command: a letter, the slot, a number and a length of eight bytes each, and as many bytes as the length says.
-ghost use Prim.Native.Nat.{_+_, _≤_, _<_};
+// What an encoder answers to a command, by the command's letter; and all commands of an input.
+ghost use Prim.Native.Nat.{_≤_, _<_};
 ghost use lib.ListN.{length};
+use commands::command;
+use commands::poke;
+use commands::print;
 use libc::STDOUT_FILENO;
 use slots::share::Side;
-
-const HEAD: usize = 25;
-
-// A number of eight bytes, the highest first.
-fn number(b: &[u8], at: usize) -> u64
-    requires { ⌜ at + 8 ≤ length (now b) ⌝ }
-{
-    let mut v = 0;
-    let mut i = 0;
-    while i < 8 {
-        v = v % 0x100_0000_0000_0000 * 256 + b[at + i] as u64;
-        i += 1;
-    }
-    v
-}
-
-fn line(number: u64) {
-    io::print_decimal(STDOUT_FILENO, number);
-    io::write_all(STDOUT_FILENO, &[b'\n']);
-}
+use tree::numbers;
 
 fn open(table: &mut [u64], slot: u64, b: &[u8]) {
     if b.len() != 64 {
-        return line(99);
+        return print::line(99);
     }
-    line(slots::calls::open(
+    print::line(slots::calls::open(
         Side::Encoder,
         table,
         slot,
-        number(b, 0),
-        number(b, 8),
-        number(b, 16),
-        number(b, 24),
-        number(b, 32),
-        number(b, 40),
-        number(b, 48),
-        number(b, 56),
+        numbers::u64_at(b, 0),
+        numbers::u64_at(b, 8),
+        numbers::u64_at(b, 16),
+        numbers::u64_at(b, 24),
+        numbers::u64_at(b, 32),
+        numbers::u64_at(b, 40),
+        numbers::u64_at(b, 48),
+        numbers::u64_at(b, 56),
     ))
-}
-
-// Puts a number into a word of the table, as a host that damages it would.
-fn poke(table: &mut [u64], word: u64, v: u64) {
-    if word < table.len() as u64 {
-        table[word as usize] = v;
-    }
-    line(0)
-}
-
-fn item(v: u64) {
-    io::print_decimal(STDOUT_FILENO, v);
-    io::write_all(STDOUT_FILENO, &[b' ']);
-}
-
-fn print_front(output: &[u8], front: u64) {
-    if (output.len() as u64) < front {
-        return;
-    }
-    let mut i = 0;
-    while i < front as usize {
-        io::print_hex(STDOUT_FILENO, output[i] as u64, 2);
-        i += 1;
-    }
 }
 
 // A number that changes with every byte of the front and its place: each step multiplies by 65,599 and adds a byte, below 2^40.
@@ -85,7 +45,7 @@ fn show(output: &[u8], front: u64, summed: bool) {
     if summed {
         return print_sum(output, front);
     }
-    print_front(output, front)
+    print::front(output, front)
 }
 
 // A chunk with a wish, in so much room; its front's bytes, or their sum.
@@ -99,17 +59,17 @@ fn encode(
     summed: bool,
 ) {
     if (output.len() as u64) < room {
-        return line(99);
+        return print::line(99);
     }
     let out = &mut output[..room as usize];
     let mut number = 99;
     let mut front = 99;
     let payload = encoder::encode::encode(table, slot, wish, chunk, out, &mut number, &mut front);
-    item(number);
-    item(front);
-    item(payload.len() as u64);
+    print::item(number);
+    print::item(front);
+    print::item(payload.len() as u64);
     show(out, front, summed);
-    io::write_all(STDOUT_FILENO, &[b'\n']);
+    print::end_line();
 }
 
 // A chunk of a track: always as a full object on the first slot, and with the wish for a delta on the second.
@@ -122,7 +82,7 @@ fn both(table: &mut [u64], room: u64, chunk: &[u8], output: &mut [u8]) {
 fn encode_short(table: &mut [u64], slot: u64, room: u64, chunk: &[u8], output: &mut [u8]) {
     let n = table.len();
     if n == 0 {
-        return line(99);
+        return print::line(99);
     }
     encode(&mut table[..n - 1], slot, 0, room, chunk, output, false)
 }
@@ -130,9 +90,9 @@ fn encode_short(table: &mut [u64], slot: u64, room: u64, chunk: &[u8], output: &
 fn answer(table: &mut [u64], call: u8, slot: u64, v: u64, b: &[u8], output: &mut [u8]) {
     match call {
         b'o' => open(table, slot, b),
-        b'c' => line(slots::calls::close(Side::Encoder, table, slot)),
-        b'g' => line(slots::calls::start_group(Side::Encoder, table, slot)),
-        b'w' => poke(table, slot, v),
+        b'c' => print::line(slots::calls::close(Side::Encoder, table, slot)),
+        b'g' => print::line(slots::calls::start_group(Side::Encoder, table, slot)),
+        b'w' => poke::poke(table, slot, v),
         b's' => encode_short(table, slot, v, b, output),
         b'b' => both(table, v, b, output),
         b'f' => encode(table, slot, 0, v, b, output, false),
@@ -140,29 +100,18 @@ fn answer(table: &mut [u64], call: u8, slot: u64, v: u64, b: &[u8], output: &mut
     }
 }
 
-// The command at the place p, and the place behind it; the input's end where it is cut.
+// The command at the place p, and the place behind it. One that is cut isn't answered, and none comes behind it.
 fn run(table: &mut [u64], input: &[u8], p: usize, output: &mut [u8]) -> usize
     requires { ⌜ p < length (now input) ⌝ }
     ensures { λ r. ⌜ (p < r) × (r ≤ length (now (input .entry))) ⌝ }
 {
-    let end = input.len();
-    if end - p < HEAD {
-        return end;
+    let c = command::command_at(input, p);
+    let at = c.at;
+    let next = c.next;
+    if !c.whole {
+        return next;
     }
-    let at = p + HEAD;
-    let n = number(input, p + 17);
-    if ((end - at) as u64) < n {
-        return end;
-    }
-    let next = at + n as usize;
-    answer(
-        table,
-        input[p],
-        number(input, p + 1),
-        number(input, p + 9),
-        &input[at..next],
-        output,
-    );
+    answer(table, c.call, c.slot, c.value, &input[at..next], output);
     next
 }
 

@@ -1,10 +1,10 @@
--- `receiver_vectors::commands::receive_short` is safe and ends: the table has a word where its last is left out. Assumes nothing.
+-- `receiver_vectors::answers::receive_short` is safe and ends: the table has a word where its last is left out. Assumes nothing.
 use native.Mathlib.Omega.{arith}
 use mathlib.Core.Path.{sym}
 use lib.Seq.{length-take-le}
 use borrow.Author.Needs.{needs}
-use Rattle.receiver_vectors.proofs.commands.receive_short.Statement.{statement}
-use Rattle.receiver_vectors.proofs.commands.receive_short.Tie as tie
+use Rattle.receiver_vectors.proofs.answers.receive_short.Statement.{statement}
+use Rattle.receiver_vectors.proofs.answers.receive_short.Tie as tie
 
 line-requires : tie.Need-line-requires
 line-requires c κs = search needs

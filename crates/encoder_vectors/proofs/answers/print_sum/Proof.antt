@@ -1,9 +1,9 @@
--- `encoder_vectors::commands::print_sum` is safe and ends: the sum stays below 2^40, and the index within the front. Assumes nothing.
+-- `encoder_vectors::answers::print_sum` is safe and ends: the sum stays below 2^40, and the index within the front. Assumes nothing.
 use Prim.Native.Nat.{_≤_, _<_, _-_}
 use native.Mathlib.Omega.{arith}
 use borrow.Author.Needs.{needs}
-use Rattle.encoder_vectors.proofs.commands.print_sum.Statement.{statement}
-use Rattle.encoder_vectors.proofs.commands.print_sum.Tie as tie
+use Rattle.encoder_vectors.proofs.answers.print_sum.Statement.{statement}
+use Rattle.encoder_vectors.proofs.answers.print_sum.Tie as tie
 
 abbrev Inv-loop : tie.InvT-loop
 Inv-loop output front h₀ i₀ h i = (i ≤ front) × (h < 0x100_0000_0000)

@@ -1,10 +1,10 @@
--- `encoder_vectors::commands::encode` is safe and ends: the part of the output is as long as is tested. Assumes nothing.
+-- `receiver_vectors::answers::receive` is safe and ends: the part of the output is as long as is tested. Assumes nothing.
 use native.Mathlib.Omega.{arith}
 use mathlib.Core.Path.{sym}
 use lib.Seq.{length-take-le}
 use borrow.Author.Needs.{needs}
-use Rattle.encoder_vectors.proofs.commands.encode.Statement.{statement}
-use Rattle.encoder_vectors.proofs.commands.encode.Tie as tie
+use Rattle.receiver_vectors.proofs.answers.receive.Statement.{statement}
+use Rattle.receiver_vectors.proofs.answers.receive.Tie as tie
 
 line-requires : tie.Need-line-requires
 line-requires c κs = search needs
@@ -18,8 +18,8 @@ slice-relend-prefix-out c = search needs
 slice-aggregate-out : tie.Need-slice-aggregate-out
 slice-aggregate-out c = sym (length-take-le _ _ (omega arith))
 
-encode-requires : tie.Need-encode-requires
-encode-requires c κs = search needs
+receive-requires : tie.Need-receive-requires
+receive-requires c κs = search needs
 
 item-requires : tie.Need-item-requires
 item-requires c κs = search needs
@@ -30,14 +30,11 @@ item-requires-2 c κs = search needs
 item-requires-3 : tie.Need-item-requires-3
 item-requires-3 c κs = search needs
 
-show-requires : tie.Need-show-requires
-show-requires c κs = search needs
+front-requires : tie.Need-front-requires
+front-requires c κs = search needs
 
-slice-aggregate-write-all : tie.Need-slice-aggregate-write-all
-slice-aggregate-write-all c = search needs
-
-write-all-requires : tie.Need-write-all-requires
-write-all-requires c κs = search needs
+end-line-requires : tie.Need-end-line-requires
+end-line-requires c κs = search needs
 
 same-length : tie.Need-same-length
 same-length c = search needs
@@ -48,21 +45,20 @@ same-length-2 c = search needs
 returns-2 : tie.Need-returns-2
 returns-2 c = search needs
 
-pub encode-spec : {M : Type 1} → statement M
-encode-spec =
+pub receive-spec : {M : Type 1} → statement M
+receive-spec =
     tie.close
     (tie.spec
     line-requires
     returns
     slice-relend-prefix-out
     slice-aggregate-out
-    encode-requires
+    receive-requires
     item-requires
     item-requires-2
     item-requires-3
-    show-requires
-    slice-aggregate-write-all
-    write-all-requires
+    front-requires
+    end-line-requires
     same-length
     same-length-2
     returns-2)

@@ -1,10 +1,10 @@
--- `encoder_vectors::commands::run_all` is safe and ends: each command ends behind its start and within the input. Assumes nothing.
+-- `encoder_vectors::answers::run_all` is safe and ends: each command ends behind its start and within the input. Assumes nothing.
 use Prim.Native.Nat.{_≤_, _-_}
 use mathlib.Core.Path.{_≡_}
 use lib.ListN.{length}
 use borrow.Author.Needs.{needs}
-use Rattle.encoder_vectors.proofs.commands.run_all.Statement.{statement}
-use Rattle.encoder_vectors.proofs.commands.run_all.Tie as tie
+use Rattle.encoder_vectors.proofs.answers.run_all.Statement.{statement}
+use Rattle.encoder_vectors.proofs.answers.run_all.Tie as tie
 
 abbrev Inv-loop : tie.InvT-loop
 Inv-loop table₀ input output₀ p₀ table output p = (p ≤ length input) × (length table ≡ length table₀) × (length output ≡ length output₀)

@@ -1,10 +1,10 @@
--- `encoder_vectors::commands::encode_short` is safe and ends: the table has a word where its last is left out. Assumes nothing.
+-- `encoder_vectors::answers::encode_short` is safe and ends: the table has a word where its last is left out. Assumes nothing.
 use native.Mathlib.Omega.{arith}
 use mathlib.Core.Path.{sym}
 use lib.Seq.{length-take-le}
 use borrow.Author.Needs.{needs}
-use Rattle.encoder_vectors.proofs.commands.encode_short.Statement.{statement}
-use Rattle.encoder_vectors.proofs.commands.encode_short.Tie as tie
+use Rattle.encoder_vectors.proofs.answers.encode_short.Statement.{statement}
+use Rattle.encoder_vectors.proofs.answers.encode_short.Tie as tie
 
 line-requires : tie.Need-line-requires
 line-requires c κs = search needs
