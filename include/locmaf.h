@@ -14,8 +14,8 @@
  * Threads. Nothing is kept outside of tables, so two tables can be used at once, also from two threads; one table must not be used by two threads at
  * the same time.
  *
- * Stack. locmaf_encode uses about 11 KiB for any chunk. locmaf_receive may use up to 400 KiB (a hostile list of events); for objects without events
- * it is about 11 KiB. */
+ * Stack. A call uses less than 16 KiB, whatever it is given: locmaf_encode about 11 KiB, locmaf_receive about 11, and up to 14 where an object has
+ * events. */
 #ifndef LOCMAF_H
 #define LOCMAF_H
 

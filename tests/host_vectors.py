@@ -244,7 +244,7 @@ def of_objects(s):
 
 
 def deep(s):
-    """Long and deep chunks, and objects without events."""
+    """Long and deep chunks and objects, and hostile lists of events."""
     example = compact(chunk(1, 96000, [4], payload=b"abcd"))
     whole = chunk(1, 0, [2**24], payload=b"")
     sized = whole[:-8] + struct.pack(">I", 8 + 2**24) + b"mdat"

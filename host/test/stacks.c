@@ -1,7 +1,9 @@
-/* Small stacks. A chunk of any kind and an object without events need no more than 64 KiB, long and deep ones too; a hostile list of events no more
- * than 512. A call that needed more would end the program. */
+/* Small stacks. A chunk and an object of any kind need no more than 64 KiB: long ones, deep ones, and hostile lists of events. A call that needed more
+ * would end the program. */
 #include "test.h"
 #include <stdio.h>
+
+#define KIB 64
 
 static void deepest(struct talk *t, struct answer a) {
     size_t *most = t->more, touched = (t->step.encoder ? &t->encoder : &t->receiver)->touched;
@@ -10,20 +12,17 @@ static void deepest(struct talk *t, struct answer a) {
         *most = touched;
 }
 
-static void on_kib(struct talk *t, const char *name, size_t kib) {
+static void small(struct talk *t, const char *name) {
     size_t most = 0;
-    t->encoder.stack = t->receiver.stack = kib;
+    t->encoder.stack = t->receiver.stack = KIB;
     t->after = deepest;
     t->more = &most;
     converse(t, name);
-    printf("  on %zu KiB of stack: '%s' touched %zu bytes\n", kib, name, most);
+    printf("  on %d KiB of stack: '%s' touched %zu bytes\n", KIB, name, most);
 }
-
-static void small(struct talk *t, const char *name) { on_kib(t, name, 64); }
-static void larger(struct talk *t, const char *name) { on_kib(t, name, 512); }
 
 void test_stacks(void) {
     for_each_conversation("deep", small);
     for_each_conversation("captured", small);
-    for_each_conversation("hostile events", larger);
+    for_each_conversation("hostile events", small);
 }

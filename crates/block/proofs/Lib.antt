@@ -7,6 +7,7 @@ pub mod CountLoop
 pub mod RecordLaws
 pub mod RecordSpans
 pub mod KeptLaws
+pub mod ListLoop
 pub mod RecordRuns
 pub mod MovedLaws
 pub mod WeighLaws
@@ -17,6 +18,10 @@ pub mod AnswerLaws
 pub mod CellLaws
 pub mod SaysLaws
 pub mod Order
+pub mod OwnBytes
+pub mod WholeTuples
+pub mod SplitTuples
 pub mod WrittenLaws
 pub mod EventLaws
 pub mod EventsWritten
+pub mod WiresLaws

@@ -127,7 +127,7 @@ wordsOf (r ∷ rs) = recordWords r ++ wordsOf rs
 unfoldable pub kept : List ℕ → ℕ → Record → List ℕ
 kept out n r = cond (ltb n 16) (sets out (10 * n) (recordWords r)) out
 
--- what a call of `read_list` is lent. A block has at most 16,384 bytes, which bounds how often the reader calls itself.
+-- what a call of `read_list` is lent. A block has at most 16,384 bytes, which bounds the count.
 pub record Listable (s : List ℕ) (base n : ℕ) (out : List ℕ) : Type 0 where
   pub block : n + length s ≤ 16384
   pub places : base + length s < 2 ^ 63

@@ -2,5 +2,6 @@
 // everything after goes by.
 pub mod tuples; // tuples.rt: one tuple off the front
 pub mod numbers; // numbers.rt: how many varints fill a part
+mod walk; // walk.rt: the records of a list without a call for a record
 pub mod records; // records.rt: the records of the emsg list
 pub mod index; // index.rt: where each id's tuple stands

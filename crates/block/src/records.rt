@@ -1,4 +1,5 @@
-// The records of an emsg list, and the reader of the list, which takes one record off the front and calls itself on the rest.
+// The records of an emsg list, and the reader of the list, which takes one record off the front and calls itself on the rest. That it ends says
+// nothing of the stack: a list may have 2,340 records, so the calls are counted, and past the budget a walk goes on.
 ghost use mathlib.Core.Path.{_≡_};
 ghost use mathlib.Core.List.{[], _∷_};
 ghost use Prim.Native.Nat.{_+_, _^_, _≤_, _<_};
@@ -8,6 +9,7 @@ ghost use Rattle.wire.specs.Form.{rows};
 ghost use Rattle.block.specs.Records.{textAt, marksAt, recordF, kept, Listable, ListedAs, recordsRun};
 use crate::numbers::Counted;
 use crate::tuples::Part;
+use crate::walk;
 use wire::form::Form;
 use wire::varint::Got;
 
@@ -148,7 +150,7 @@ fn put_five(out: &mut [u64], at: usize, a: u64, b: u64, c: u64, d: u64, e: u64)
 }
 
 // Keeps a record as the n-th of its list, where n is below 16.
-fn keep(out: &mut [u64], n: usize, r: Record)
+pub(crate) fn keep(out: &mut [u64], n: usize, r: Record)
     requires { ⌜ length (now out) ≡ 160 ⌝ }
     ensures { λ _. ⌜ now (out .exit) ≡ kept (now (out .entry)) n r ⌝ }
 {
@@ -179,11 +181,25 @@ fn keep(out: &mut [u64], n: usize, r: Record)
     );
 }
 
+// The most records that are read by calls. The walk keeps records as the calls do, so the number is a matter of the stack alone.
+const BUDGET: usize = 8;
+
 // How many records the list s is, with n before it. The first 16 are kept, ten words each.
 pub fn read_list(form: Form, s: &[u8], base: usize, n: usize, out: &mut [u64]) -> Counted
     requires { ⌜ Listable (now s) base n (now out) ⌝ }
     ensures { λ r. ⌜ ListedAs (recordsRun (rows form) base (now (s .entry))) n (now (out .entry)) r (now (out .exit)) ⌝ }
 {
+    read_rest(form, s, base, n, BUDGET, &mut *out)
+}
+
+// The same by so many calls, and by a walk if there are more records.
+fn read_rest(form: Form, s: &[u8], base: usize, n: usize, budget: usize, out: &mut [u64]) -> Counted
+    requires { ⌜ Listable (now s) base n (now out) ⌝ }
+    ensures { λ r. ⌜ ListedAs (recordsRun (rows form) base (now (s .entry))) n (now (out .entry)) r (now (out .exit)) ⌝ }
+{
+    if budget == 0 {
+        return walk::walk_list(form, s, base, n, &mut *out);
+    }
     if s.len() == 0 {
         return Counted::Whole(n);
     }
@@ -192,5 +208,5 @@ pub fn read_list(form: Form, s: &[u8], base: usize, n: usize, out: &mut [u64]) -
         return Counted::Cut;
     };
     keep(&mut *out, n, r);
-    read_list(form, &s[k..], base + k, n + 1, &mut *out)
+    read_rest(form, &s[k..], base + k, n + 1, budget - 1, &mut *out)
 }
