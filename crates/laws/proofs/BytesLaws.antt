@@ -1,15 +1,17 @@
 -- Laws of numbers as bytes, once over the width. Assumes nothing.
 use Prim.Native.Nat.{ℕ, zero, suc, _+_, _*_, _/_, _%_, _^_, _≤_, _<_}
 use native.Mathlib.Nat.{zero-add, suc-add, zero-mul, add-mul, mul-assoc, add-assoc, mul-comm, div-div-eq-div-mul, mod-one, div-one, mod-eq-of-lt, pow-succ', one-le-pow}
+use native.Mathlib.Nat.{mul-add-div-right, mul-add-mod-self-right}
 use native.Mathlib.Omega.{arith}
-use mathlib.Core.Path.{_≡_, refl, sym, _∙_, ap}
+use mathlib.Core.Path.{_≡_, refl, sym, _∙_, ap, ap₂}
 use mathlib.Core.Bool.{true}
 use mathlib.Core.List.{List, [], _∷_, _++_}
 use borrow.Author.Tests.{leb-true}
 use lib.ListN.{length, length-append, getD, take, drop}
-use lib.Arith.{mod-mul, digits-lt}
+use lib.Arith.{mod-mul, digits-lt, digits-div}
 use lib.Pow.{pow-add}
 use lib.Dec.{lit<}
+use lib.Seq.{slice, length-slice}
 use Rattle.laws.specs.Bytes.{be, de, Bytes}
 use Rattle.laws.specs.Tests.{allLe}
 use Rattle.laws.proofs.TestLaws.{left, right}
@@ -90,3 +92,40 @@ pub de-lt : (s : List ℕ) → Bytes s → de s < 256 ^ length s
 unfolding de
 de-lt [] h = lit< tt
 de-lt (b ∷ s) h = rw (pow-succ' 256 (length s)) (digits-lt (h .0) (de-lt s (h .1)))
+
+-- bytes of a number don't tell what stands above them
+be-high : (k m a v : ℕ) → be k (a * 256 ^ (k + m) + v) ≡ be k v
+unfolding be
+be-high zero m a v = refl
+be-high (suc k) m a v =
+    let p : ℕ = 256 ^ k in
+    let e : a * 256 ^ (suc k + m) ≡ a * 256 ^ m * 256 * p =
+    let s : suc k + m ≡ m + suc k = omega arith in
+    ap (λ (n : ℕ). a * 256 ^ n) s
+    ∙ ap (λ (n : ℕ). a * n) (pow-add 256 m (suc k) ∙ ap (λ (n : ℕ). 256 ^ m * n) (pow-succ' 256 k))
+    ∙ sym (mul-assoc a (256 ^ m) (256 * p))
+    ∙ sym (mul-assoc (a * 256 ^ m) 256 p) in
+    let d : (a * 256 ^ (suc k + m) + v) / p % 256 ≡ v / p % 256 =
+    ap (λ (n : ℕ). (n + v) / p % 256) e
+    ∙ ap (λ (n : ℕ). n % 256) (mul-add-div-right (pow-pos k) (a * 256 ^ m * 256) v)
+    ∙ mul-add-mod-self-right (a * 256 ^ m) 256 (v / p) in
+    let n : suc k + m ≡ k + suc m = omega arith in
+    ap₂ (λ (x : ℕ) (l : List ℕ). x ∷ l) d (ap (λ (i : ℕ). be k (a * 256 ^ i + v)) n ∙ be-high k (suc m) a v)
+
+-- bytes are those of the number that they spell
+pub be-de : (s : List ℕ) → Bytes s → be (length s) (de s) ≡ s
+unfolding be de
+be-de [] h = refl
+be-de (b ∷ s) h =
+    let p : ℕ = 256 ^ length s in
+    let d : (b * p + de s) / p % 256 ≡ b = ap (λ (n : ℕ). n % 256) (digits-div b (de-lt s (h .1))) ∙ mod-eq-of-lt (h .0) in
+    let n : length s + 0 ≡ length s = omega arith in
+    ap₂ (λ (x : ℕ) (l : List ℕ). x ∷ l) d
+    (ap (λ (i : ℕ). be (length s) (b * 256 ^ i + de s)) (sym n) ∙ be-high (length s) 0 b (de s) ∙ be-de s (h .1))
+
+-- and so are those of a part of a chunk
+pub be-slice : (c : List ℕ) → allLe 255 c ≡ true → (k at : ℕ) → at + k ≤ length c → be k (de (slice at (at + k) c)) ≡ slice at (at + k) c
+be-slice c low k at h =
+    let n : length (slice at (at + k) c) ≡ k = omega (arith, length-slice at (at + k) c h) in
+    ap (λ (i : ℕ). be i (de (slice at (at + k) c))) (sym n)
+    ∙ be-de (slice at (at + k) c) (bytes-drop at (take (at + k) c) (bytes-take (at + k) c (bytes-are c low)))

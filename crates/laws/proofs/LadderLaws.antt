@@ -3,11 +3,11 @@ use Prim.Native.Nat.{ℕ}
 use mathlib.Core.Path.{_≡_, refl, sym, _∙_, ap}
 use mathlib.Core.Logic.{_⊎_, inl, inr}
 use mathlib.Core.Bool.{Bool, true, false, false≢true, not}
-use mathlib.Core.List.{List, [], _∷_, _++_}
+use mathlib.Core.List.{List, [], _∷_, _++_, map, List·Memᴰ, List·Memᴰ·head, List·Memᴰ·tail}
 use borrow.Author.Tests.{eqb-false, not-true}
 use lib.Dec.{eqb}
 use Rattle.laws.specs.Gate.{gate}
-use Rattle.laws.specs.Ladder.{Rung, _else_, ladder, Given}
+use Rattle.laws.specs.Ladder.{Rung, _else_, ladder, Given, Hold}
 use Rattle.laws.specs.Tests.{_and_}
 use Rattle.laws.proofs.TestLaws.{left, right}
 
@@ -48,10 +48,15 @@ given-one (r ∷ rs) j k (inl p) (inr q) = absurd (false≢true (sym (p .0) ∙ 
 given-one (r ∷ rs) j k (inr p) (inl q) = absurd (false≢true (sym (q .0) ∙ p .0))
 given-one (r ∷ rs) j k (inr p) (inr q) = given-one rs j k (p .1) (q .1)
 
--- every test of the ladder holds
-abbrev pub Hold : List Rung → Type 0
-Hold [] = Unit {0}
-Hold (r ∷ rs) = (r .test ≡ true) × Hold rs
+-- nor one that is neither 0 nor a rung's
+pub given-known : (rs : List Rung) (k : ℕ) → Given k rs → List·Memᴰ k (0 ∷ map (λ (r : Rung). r .number) rs)
+given-known [] k g = List·Memᴰ·head g
+given-known (r ∷ rs) k (inl g) = List·Memᴰ·tail (List·Memᴰ·head (g .1))
+given-known (r ∷ rs) k (inr g) = beside (given-known rs k (g .1))
+  where
+    beside : {ns : List ℕ} → List·Memᴰ k (0 ∷ ns) → List·Memᴰ k (0 ∷ r .number ∷ ns)
+    beside (List·Memᴰ·head e) = List·Memᴰ·head e
+    beside (List·Memᴰ·tail m) = List·Memᴰ·tail (List·Memᴰ·tail m)
 
 module _ {A : Type 0} (P : A → Type 0) (refuse : ℕ → A) where
   -- P holds of each refusal that the ladder can give
@@ -132,6 +137,11 @@ hold-front (r ∷ rs) qs h = (h .0, hold-front rs qs (h .1))
 pub hold-back : (rs qs : List Rung) → Hold (rs ++ qs) → Hold qs
 hold-back [] qs h = h
 hold-back (r ∷ rs) qs h = hold-back rs qs (h .1)
+
+-- and together they hold where each does
+pub hold-append : (rs qs : List Rung) → Hold rs → Hold qs → Hold (rs ++ qs)
+hold-append [] qs h k = k
+hold-append (r ∷ rs) qs h k = (h .0, hold-append rs qs (h .1) k)
 
 module _ {A : Type 0} (refuse : ℕ → A) (done : A) where
   -- where every test holds, what is done

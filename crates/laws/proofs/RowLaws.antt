@@ -1,12 +1,12 @@
 -- Numbers from i up to n, one after another, and the loop over a row of tests of them. Assumes nothing.
-use Prim.Native.Nat.{ℕ, suc, _+_, _-_, _≤_, _<_}
-use native.Mathlib.Nat.{sub-zero}
+use Prim.Native.Nat.{ℕ, zero, suc, _+_, _-_, _≤_, _<_}
+use native.Mathlib.Nat.{add-zero, sub-zero}
 use native.Mathlib.Numerals.{add-one}
 use native.Mathlib.Omega.{arith}
 use mathlib.Core.Path.{_≡_, sym, _∙_, ap, ap₂}
 use mathlib.Core.Bool.{Bool, true, _&&_}
 use Rattle.laws.specs.Tests.{_and_}
-use Rattle.laws.proofs.TestLaws.{and-next, and-end}
+use Rattle.laws.proofs.TestLaws.{left, right, and-next, and-end}
 
 module _ {A : Type 0} (rest : ℕ → ℕ → A) where
   -- none is left at the end
@@ -28,6 +28,14 @@ pub record Tested (rest : ℕ → ℕ → Bool) (n : ℕ) (ok : Bool) (i : ℕ) 
   pub whole : (ok and rest (n - i) i) ≡ rest n 0
 
 module _ {test : ℕ → Bool} {rest : ℕ → ℕ → Bool} (row : Row test rest) where
+  -- where all hold, each does
+  pub row-each : (k i j : ℕ) → rest k i ≡ true → j < k → test (i + j) ≡ true
+  row-each zero i j h lt = absurd (omega arith)
+  row-each (suc k) i zero h lt = ap test (add-zero i) ∙ left _ _ (sym (row .more k i) ∙ h)
+  row-each (suc k) i (suc j) h lt =
+      let e : i + suc j ≡ suc i + j = omega arith in
+      ap test e ∙ row-each k (suc i) j (right _ _ (sym (row .more k i) ∙ h)) (omega arith)
+
   -- none is tested yet
   pub tests-start : (n : ℕ) → Tested rest n true 0
   unfolding _and_

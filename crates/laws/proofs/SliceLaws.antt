@@ -1,10 +1,12 @@
 -- Parts of a list by their places: what `lib.Seq` lacks. Assumes nothing.
-use Prim.Native.Nat.{ℕ, _+_, _-_, _≤_}
+use Prim.Native.Nat.{ℕ, zero, suc, _+_, _-_, _≤_}
+use native.Mathlib.Nat.{zero-add, suc-add}
 use native.Mathlib.Omega.{arith}
+use native.Mathlib.Decide.{decLt}
 use mathlib.Core.Path.{_≡_, refl, sym, _∙_, ap}
-use mathlib.Core.List.{List, [], _++_}
-use lib.ListN.{length, take, drop, length-take, drop-of-length-le, take-append-drop}
-use lib.Seq.{slice, length-take-le, take-add, take-take, take-all, drop-at, drop-drop, take-append-add, take-append-seam, drop-append-seam, drop-append-le}
+use mathlib.Core.List.{List, [], _∷_, _++_}
+use lib.ListN.{length, take, drop, length-take, drop-of-length-le, take-append-drop, length-drop}
+use lib.Seq.{slice, take-nil, length-take-le, take-add, take-take, take-all, drop-at, drop-drop, take-append-add, take-append-seam, drop-append-seam, drop-append-le, take-append-le, drop-append-add, drop-length}
 
 -- nothing stands between a place and one not after it
 pub slice-none : (f t : ℕ) (l : List ℕ) → t ≤ f → slice f t l ≡ []
@@ -26,6 +28,19 @@ drop-slice f t n l = drop-drop n f (take t l)
 pub slice-to-end : (f n : ℕ) (l : List ℕ) → length l ≡ n → slice f n l ≡ drop f l
 slice-to-end f n l e = ap (drop f) (take-all n l (omega arith))
 
+-- what is left of a list from a place on is the last so many of it
+pub drop-last : (n : ℕ) (l p : List ℕ) → p ≡ drop n l → p ≡ drop (length l - length p) l
+drop-last n l p e =
+    let k : length p ≡ length l - n = ap length e ∙ length-drop n l in
+    elim (decLt (length l) n) [
+      | yes h ↦
+          let z : length l - length p ≡ length l = omega arith in
+          e ∙ drop-of-length-le l {i = n} (omega arith) ∙ sym (ap (λ (m : ℕ). drop m l) z ∙ drop-length l)
+      | no h ↦
+          let z : length l - length p ≡ n = omega arith in
+          e ∙ ap (λ (m : ℕ). drop m l) (sym z)
+    ]
+
 -- a part of the middle as it is lent
 pub slice-lent : (a e : ℕ) (s : List ℕ) → a ≤ e → e ≤ length s → take (e - a) (drop a s) ≡ slice a e s
 slice-lent a e s h k =
@@ -37,6 +52,11 @@ slice-lent a e s h k =
 -- the part that stands between two others
 pub slice-between : (pre mid post : List ℕ) → slice (length pre) (length pre + length mid) (pre ++ (mid ++ post)) ≡ mid
 slice-between pre mid post = rw (take-append-add pre (mid ++ post) (length mid), take-append-seam, drop-append-seam)
+
+-- a part of what stands between two others
+pub slice-within : (pre mid post : List ℕ) (a b : ℕ) → b ≤ length mid → slice (length pre + a) (length pre + b) (pre ++ (mid ++ post)) ≡ slice a b mid
+slice-within pre mid post a b h =
+    rw (take-append-add pre (mid ++ post) b, take-append-le b mid post h, drop-append-add pre (take b mid) a)
 
 -- a part is its front and its rest
 pub slice-join : (f m t : ℕ) (l : List ℕ) → f ≤ m → m ≤ t → t ≤ length l → slice f t l ≡ slice f m l ++ slice m t l
@@ -52,3 +72,9 @@ slice-drop at i j l h =
     sym
     (sym (drop-drop i at (take (at + j) l))
     ∙ ap (drop i) (ap (drop at) (take-add at j l) ∙ drop-at (take at l) (take j (drop at l)) at (length-take-le at l h)))
+
+-- so many numbers from a place on, wherever the list ends
+pub slice-front : (f n : ℕ) (l : List ℕ) → slice f (f + n) l ≡ take n (drop f l)
+slice-front zero n l = rw zero-add
+slice-front (suc f) n [] = ap (drop (suc f)) (take-nil (suc f + n)) ∙ sym (take-nil n)
+slice-front (suc f) n (x ∷ l) = rw suc-add (slice-front f n l)

@@ -4,13 +4,13 @@ use native.Mathlib.Nat.{zero-add, add-assoc, suc-mul}
 use native.Mathlib.Numerals.{add-one}
 use native.Mathlib.Omega.{arith}
 use mathlib.Core.Path.{_≡_, refl, sym, _∙_, ap, ap₂}
-use mathlib.Core.Bool.{Bool, true, false, false≢true, _&&_, _||_}
+use mathlib.Core.Bool.{Bool, true, false, false≢true, _&&_, _||_, Bool·beq}
 use mathlib.Core.List.{List, [], _∷_, _++_}
 use borrow.Author.Tests.{eqb-true, eq-eqb, leb-true, le-leb}
 use lib.Dec.{eqb, leb}
 use lib.Arith.{bin-ind, digits-mod}
 use lib.Bits.{bitOr, or-add-and, and-le-l, and-le-r, or-lt, or-step, or-shr}
-use lib.ListN.{length, getD, replicate}
+use lib.ListN.{length, getD, take, drop, replicate}
 use lib.Seq.{slice, slice-cons}
 use Rattle.laws.specs.Tests.{_and_, allZero, allLe, allBits, sum}
 
@@ -45,6 +45,11 @@ both-of a b e = (and-left a b e, and-right a b e)
 pub either : (P : Type 0) (a b : Bool) → (a ≡ true → P) → (b ≡ true → P) → (a || b) ≡ true → P
 either P true b f g e = f refl
 either P false b f g e = g e
+
+-- neither holds where not one of two does
+pub neither : (a b : Bool) → (a || b) ≡ false → (a ≡ false) × (b ≡ false)
+neither true b e = absurd (false≢true (sym e))
+neither false b e = (refl, e)
 
 -- a test that holds leaves the one behind it, and one that fails decides
 pub and-true : {a : Bool} (b : Bool) → a ≡ true → (a and b) ≡ b
@@ -84,6 +89,18 @@ same-test true b p q = sym (p refl)
 same-test false true p q = q refl
 same-test false false p q = refl
 
+-- a test that can't fail
+pub unless : (b : Bool) → (b ≡ false → ⊥) → b ≡ true
+unless true h = refl
+unless false h = absurd (h refl)
+
+-- tests that were found the same
+pub alike : (a b : Bool) → Bool·beq a b ≡ true → a ≡ b
+alike true true e = refl
+alike true false e = absurd (false≢true e)
+alike false true e = absurd (false≢true e)
+alike false false e = refl
+
 pub allZero-append : (xs ys : List ℕ) → allZero (xs ++ ys) ≡ (allZero xs and allZero ys)
 unfolding allZero _and_
 allZero-append [] ys = refl
@@ -111,6 +128,30 @@ one-le b v h = both _ _ (le-leb v b h) refl
 
 pub all-bytes : (s : List ℕ) → ((i : ℕ) → getD s i 0 < 256) → allLe 255 s ≡ true
 all-bytes s h = each-le 255 s (λ i. let k = h i in omega arith)
+
+-- one of numbers within a bound, and parts of them
+pub le-at : (b : ℕ) (xs : List ℕ) (i : ℕ) → allLe b xs ≡ true → getD xs i 0 ≤ b
+unfolding allLe
+le-at b [] i e = omega arith
+le-at b (x ∷ xs) zero e = leb-true _ _ (left _ _ e)
+le-at b (x ∷ xs) (suc i) e = le-at b xs i (right _ _ e)
+
+pub low-take : (b n : ℕ) (l : List ℕ) → allLe b l ≡ true → allLe b (take n l) ≡ true
+unfolding allLe
+low-take b zero [] h = refl
+low-take b zero (x ∷ l) h = refl
+low-take b (suc n) [] h = refl
+low-take b (suc n) (x ∷ l) h = both _ _ (left _ _ h) (low-take b n l (right _ _ h))
+
+pub low-drop : (b n : ℕ) (l : List ℕ) → allLe b l ≡ true → allLe b (drop n l) ≡ true
+unfolding allLe
+low-drop b zero [] h = h
+low-drop b zero (x ∷ l) h = h
+low-drop b (suc n) [] h = h
+low-drop b (suc n) (x ∷ l) h = low-drop b n l (right _ _ h)
+
+pub low-slice : (b f t : ℕ) (l : List ℕ) → allLe b l ≡ true → allLe b (slice f t l) ≡ true
+low-slice b f t l h = low-drop b f (take t l) (low-take b t l h)
 
 -- zeros keep every bound
 pub zeros-le : (b : ℕ) (s : List ℕ) → allZero s ≡ true → allLe b s ≡ true

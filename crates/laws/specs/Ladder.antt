@@ -24,3 +24,8 @@ module _ {A : Type 0} where
 abbrev pub Given : ℕ → List Rung → Type 0
 Given k [] = k ≡ 0
 Given k (r ∷ rs) = ((r .test ≡ false) × (k ≡ r .number)) ⊎ ((r .test ≡ true) × Given k rs)
+
+-- every test of the ladder holds
+abbrev pub Hold : List Rung → Type 0
+Hold [] = Unit {0}
+Hold (r ∷ rs) = (r .test ≡ true) × Hold rs

@@ -5,3 +5,4 @@ pub mod Ladder
 pub mod Tests
 pub mod Walk
 pub mod ByLength
+pub mod Each

@@ -103,7 +103,8 @@ module _ (F : List Row) (coding : Coding) (base : ℕ) where
     pub others : measured F coding base (rest old) vs ≡ Bytes after
     pub sum : n ≡ sizeOf F number + after
 
-  counted : (old : List ℕ) (v : ℕ) (vs : List ℕ) (n : ℕ) → measured F coding base old (v ∷ vs) ≡ Bytes n → Counted old v vs n
+  -- as it was measured
+  pub counted : (old : List ℕ) (v : ℕ) (vs : List ℕ) (n : ℕ) → measured F coding base old (v ∷ vs) ≡ Bytes n → Counted old v vs n
   unfolding measured
   counted old v vs n e = go (codeOf F coding (first base old) v) (measured F coding base (rest old) vs) refl refl e
     where

@@ -2,15 +2,16 @@
 use Prim.Native.Nat.{ℕ, suc, _+_, _-_, _*_, _^_, _≤_, _<_, zero-le}
 use native.Mathlib.Nat.{div-add-mod', add-sub-cancel-left}
 use native.Mathlib.Omega.{arith}
-use mathlib.Core.Path.{_≡_, refl}
+use mathlib.Core.Path.{_≡_, refl, sym, _∙_, ap}
 use mathlib.Core.Bool.{Bool, true, false, cond}
-use mathlib.Core.List.{List, [], _∷_, _++_}
+use mathlib.Core.List.{List, [], _∷_, _++_, append-nil}
 use borrow.Author.Tests.{le-leb, leb-true}
 use lib.Arith.{digits-lt}
 use lib.Dec.{leb}
-use lib.ListN.{length, take, drop, length-append}
-use lib.Seq.{length-take-le, take-at, drop-at, take-append-add, drop-append-seam}
+use lib.ListN.{length, take, drop, length-append, take-append-drop}
+use lib.Seq.{length-take-le, take-at, drop-at, take-append-le, take-append-add, drop-append-seam}
 use Rattle.laws.specs.Bytes.{be, de, Bytes}
+use Rattle.laws.proofs.ListLaws.{fronts-same}
 use Rattle.laws.proofs.BytesLaws.{length-be, de-be, de-lt, bytes-take}
 use Rattle.wire.specs.declared.form.Row.{Row}
 use Rattle.wire.specs.declared.form.Found.{Found}
@@ -74,6 +75,37 @@ none F v k e = let z : _≡_ {A = ℕ} 0 1 = cc in omega arith
 pub read-size : (F : List Row) (s : List ℕ) (v k : ℕ) → readF F s ≡ Value v k → (0 < k) × (k ≤ length s)
 read-size F [] v k e = absurd (none F v k e)
 read-size F (b ∷ s) v k e = let t = taken F b s v k e in (omega (arith, t .size), omega (arith, t .size, t .room))
+
+-- a varint goes by its own bytes, whatever stands behind them
+pub read-own : (F : List Row) (s r r′ : List ℕ) (v k : ℕ) → k ≤ length s → readF F (s ++ r) ≡ Value v k → readF F (s ++ r′) ≡ Value v k
+unfolding readF
+read-own F [] r r′ v k h e = absurd (omega (arith, read-size F r v k e .0))
+read-own F (b ∷ s) r r′ v k h e =
+    let t = taken F b (s ++ r) v k e in
+    let n : ℕ = t .row .tail in
+    let l : n ≤ length s = omega (arith, t .size) in
+    let m : n ≤ length (s ++ r′) = omega (arith, length-append s r′) in
+    rw (t .first, le-leb _ _ m, take-append-le n s r′ l, ← take-append-le n s r l) (λ j. Value (sym (t .value) j) (sym (t .size) j))
+
+-- so it stands in its own bytes
+pub read-prefix : (F : List Row) (s : List ℕ) (v k : ℕ) → readF F s ≡ Value v k → readF F (take k s) ≡ Value v k
+read-prefix F s v k e =
+    let l : length (take k s) ≡ k = length-take-le k s (read-size F s v k e .1) in
+    ap (readF F) (sym (append-nil (take k s)))
+    ∙ read-own F (take k s) (drop k s) [] v k (omega arith) (ap (readF F) (take-append-drop k s) ∙ e)
+
+-- and more may stand behind it
+pub read-more : (F : List Row) (s r : List ℕ) (v k : ℕ) → readF F s ≡ Value v k → readF F (s ++ r) ≡ Value v k
+read-more F s r v k e = read-own F s [] r v k (read-size F s v k e .1) (ap (readF F) (append-nil s) ∙ e)
+
+-- two varints at the front of one list are the same
+pub read-once : (F : List Row) (a b x y : List ℕ) (v w : ℕ) → readF F a ≡ Value v (length a) → readF F b ≡ Value w (length b) → a ++ x ≡ b ++ y
+    → (v ≡ w) × (a ≡ b) × (x ≡ y)
+read-once F a b x y v w h k e =
+    let q : Value v (length a) ≡ Value w (length b) =
+    sym (read-more F a x v (length a) h) ∙ ap (readF F) e ∙ read-more F b y w (length b) k in
+    let same = fronts-same a b x y e cc in
+    (cc, same .0, same .1)
 
 module _ (F : List Row) (w : Lawful 0 F) where
   -- its value is one that its row holds
