@@ -1,3 +1,5 @@
 pub mod OpenLaws
 pub mod KeepLaws
 pub mod AcceptedLaws
+pub mod KeptLaws
+pub mod TookLaws

@@ -5,3 +5,5 @@ pub mod TallyLaws
 pub mod LawfulLaws
 pub mod CopyLoop
 pub mod TidyLaws
+pub mod RuleLaws
+pub mod MarkLaws

@@ -12,7 +12,7 @@ use lib.ListN.{length, getD, drop, replicate, drop-of-length-le, length-map, len
 use lib.Seq.{drop-cons}
 use Rattle.laws.specs.Tests.{_and_}
 use Rattle.laws.proofs.ListLaws.{getD-in}
-use Rattle.laws.proofs.TestLaws.{left, right}
+use Rattle.laws.proofs.TestLaws.{left, right, both}
 use Rattle.fieldset.specs.declared.lines.Want.{Want}
 use Rattle.fieldset.specs.declared.lines.Want.the-variants.{One, LessOne, Count, Ivs, Sum}
 use Rattle.fieldset.specs.declared.lines.Line.{Line}
@@ -90,6 +90,28 @@ unfolding every
 every-at p [] i d e h = absurd (not-suc-le-zero h)
 every-at p (l ∷ ls) zero d e h = left _ _ e
 every-at p (l ∷ ls) (suc i) d e h = every-at p ls i d (right _ _ e) (le-of-suc-le-suc h)
+
+-- and every line passes what each of them does
+pub every-holds : (p : Line → Bool) (ls : List Line) → ((i : ℕ) → i < length ls → p (getD ls i spare) ≡ true) → every p ls ≡ true
+unfolding every
+every-holds p [] h = refl
+every-holds p (l ∷ ls) h = both _ _ (h 0 (omega arith)) (every-holds p ls (λ i lt. h (suc i) (omega arith)))
+
+-- the ids of a run of lines ascend from lo on
+unfoldable pub ascends : ℕ → List Line → Bool
+ascends lo [] = true
+ascends lo (l ∷ ls) = leb lo (l .id) and ascends (suc (l .id)) ls
+
+pub lines-ascend : ascends 0 lines ≡ true
+unfolding ascends lines _and_
+lines-ascend = refl
+
+pub ascends-at : (lo : ℕ) (ls : List Line) → ascends lo ls ≡ true → (i : ℕ) → i < length ls → lo ≤ getD ls i spare .id
+unfolding ascends
+ascends-at lo [] a i lt = absurd (not-suc-le-zero lt)
+ascends-at lo (l ∷ ls) a zero lt = leb-true _ _ (left _ _ a)
+ascends-at lo (l ∷ ls) a (suc i) lt =
+    let low : lo ≤ l .id = leb-true _ _ (left _ _ a) in omega (arith, ascends-at (suc (l .id)) ls (right _ _ a) i (omega arith))
 
 -- a line whose region lies in a run of words of that length, whose bound is a row of ones, and which has one value where it has room for one
 pub record Shaped (l : Line) (length : ℕ) : Type 0 where

@@ -3,13 +3,15 @@ use Prim.Native.Nat.{ℕ, _+_, _-_, _*_, _<_, _≤_}
 use native.Mathlib.Omega.{arith}
 use native.Mathlib.Decide.{ℕ-discrete, decLt}
 use mathlib.Core.Path.{_≡_, refl, sym, _∙_, ap, subst}
+use mathlib.Core.Bool.{true}
 use mathlib.Core.List.{List, _++_, append-assoc}
 use lib.ListN.{length, take, drop, length-append, length-drop, take-append-drop}
 use lib.Seq.{take-at, drop-at, length-take-le}
-use Rattle.slots.specs.Share.{shareLen}
+use Rattle.slots.specs.declared.share.Side.{Side}
+use Rattle.slots.specs.Share.{shareLen, lawful}
 use Rattle.slots.specs.Table.{Out, out, tableLen, shareAt, putShare, onTable}
 use Rattle.slots.specs.Laws.{after, Keeps, Apart, CallsCommute, OthersStay}
-use Rattle.slots.proofs.TableLaws.{wrong-length, wrong-slot, right-slot}
+use Rattle.slots.proofs.TableLaws.{wrong-length, wrong-slot, right-slot, by-cases, share-long, share-put}
 
 -- the part of n words behind p, and what stands in its place: over any n, so that no list of 996 is unfolded
 part-is : (n a : ℕ) (p x r : List ℕ) → length p ≡ a → length x ≡ n → take n (drop a (p ++ (x ++ r))) ≡ x
@@ -170,33 +172,21 @@ module _ {X : Type 0} (refuse : ℕ → X) (f : List ℕ → Out X) where
   no-slot : (i : ℕ) (t : List ℕ) → length t ≡ tableLen → 7 < i → onTable refuse f t i ≡ out (refuse 1) t
   no-slot i t l h = sym (wrong-slot refuse f t i l h)
 
-  words : {o o′ : Out X} → o ≡ o′ → length (o .words) ≡ length (o′ .words)
-  words e = ap (λ (o : Out X). length (o .words)) e
-
-  long : Keeps f → (i : ℕ) (t : List ℕ) → length (after refuse f i t) ≡ length t
-  long kf i t =
-      elim (ℕ-discrete (length t) tableLen) [
-        | no d ↦ words (no-length i t d)
-        | yes l ↦
-            elim (decLt i 8) [
-              | no d ↦ words (no-slot i t l (omega arith))
-              | yes h ↦
-                  words (sym (right-slot refuse f t i l (omega arith)))
-                  ∙ long-put shareLen (i * shareLen) t (f (shareAt t i) .words) (omega arith)
-                  (kf .keeps (shareAt t i) (length-take-le shareLen (drop (i * shareLen) t) (simp length-drop (omega arith))))
-            ]
-      ]
+  pub table-long : Keeps f → (i : ℕ) (t : List ℕ) → length (after refuse f i t) ≡ length t
+  table-long kf i t =
+      by-cases refuse f t i (λ (o : Out X). length (o .words) ≡ length t) refl refl
+      (λ l h. long-put shareLen (i * shareLen) t (f (shareAt t i) .words) (omega arith) (kf .keeps (shareAt t i) (share-long t i l h)))
 
 pub apart : CallsCommute
 apart X Y refuse f refuse′ g kf kg i j d t =
     elim (ℕ-discrete (length t) tableLen) [
-      | no n ↦ idle refuse f refuse′ g i j 18 t (λ t′ e. no-length refuse f i t′ (λ z. n (sym e ∙ z))) (long refuse′ g kg j t)
+      | no n ↦ idle refuse f refuse′ g i j 18 t (λ t′ e. no-length refuse f i t′ (λ z. n (sym e ∙ z))) (table-long refuse′ g kg j t)
       | yes l ↦
           elim (decLt i 8) [
-            | no n ↦ idle refuse f refuse′ g i j 1 t (λ t′ e. no-slot refuse f i t′ (e ∙ l) (omega arith)) (long refuse′ g kg j t)
+            | no n ↦ idle refuse f refuse′ g i j 1 t (λ t′ e. no-slot refuse f i t′ (e ∙ l) (omega arith)) (table-long refuse′ g kg j t)
             | yes hi ↦
                 elim (decLt j 8) [
-                  | no n ↦ other (idle refuse′ g refuse f j i 1 t (λ t′ e. no-slot refuse′ g j t′ (e ∙ l) (omega arith)) (long refuse f kf i t))
+                  | no n ↦ other (idle refuse′ g refuse f j i 1 t (λ t′ e. no-slot refuse′ g j t′ (e ∙ l) (omega arith)) (table-long refuse f kf i t))
                   | yes hj ↦
                       elim (decLt i j) [
                         | yes h ↦ below refuse f refuse′ g kf kg i j h hj t l
@@ -208,15 +198,27 @@ apart X Y refuse f refuse′ g kf kg i j d t =
 
 pub others-stay : OthersStay
 others-stay X refuse f kf i j d hj t =
-    elim (ℕ-discrete (length t) tableLen) [
-      | no n ↦ ap (λ (o : Out X). shareAt (o .words) j) (no-length refuse f i t n)
-      | yes l ↦
-          elim (decLt i 8) [
-            | no n ↦ ap (λ (o : Out X). shareAt (o .words) j) (no-slot refuse f i t l (omega arith))
-            | yes hi ↦
-                elim (decLt i j) [
-                  | yes h ↦ upper-stays refuse f refuse f kf kf i j h hj t l
-                  | no n ↦ lower-stays refuse f refuse f kf kf j i (omega arith) hi t l
-                ]
-          ]
+    by-cases refuse f t i (λ (o : Out X). shareAt (o .words) j ≡ shareAt t j) refl refl
+    (λ l hi.
+    let is = right-slot refuse f t i l (omega arith) in
+    ap (λ (o : Out X). shareAt (o .words) j) is
+    ∙ elim (decLt i j) [
+      | yes h ↦ upper-stays refuse f refuse f kf kf i j h hj t l
+      | no n ↦ lower-stays refuse f refuse f kf kf j i (omega arith) hi t l
+    ])
+
+-- and a call that leaves a lawful share lawful leaves every share of a table lawful that was
+pub shares-lawful : {X : Type 0} (refuse : ℕ → X) (f : List ℕ → Out X) → Keeps f → (side : Side)
+    → ((s : List ℕ) → length s ≡ shareLen → lawful side s ≡ true → lawful side (f s .words) ≡ true)
+    → (i j : ℕ) → j < 8 → (t : List ℕ) → lawful side (shareAt t j) ≡ true → lawful side (shareAt (after refuse f i t) j) ≡ true
+shares-lawful {X} refuse f kf side m i j hj t w =
+    elim (ℕ-discrete i j) [
+      | no d ↦ ap (lawful side) (others-stay X refuse f kf i j d hj t) ∙ w
+      | yes e ↦
+          by-cases refuse f t i (λ (o : Out X). lawful side (shareAt (o .words) j) ≡ true) w w
+          (λ l h.
+          let n : length (shareAt t i) ≡ shareLen = share-long t i l h in
+          ap (λ (k : ℕ). lawful side (shareAt (putShare t i (f (shareAt t i) .words)) k)) (sym e)
+          ∙ ap (lawful side) (share-put t i l h (f (shareAt t i) .words) (kf .keeps (shareAt t i) n))
+          ∙ m (shareAt t i) n (ap (λ (k : ℕ). lawful side (shareAt t k)) e ∙ w))
     ]

@@ -1,5 +1,5 @@
 -- The calls keep the share's length and its lawfulness, each gives its numbers exactly when its rule says, and does what 01 says. Assumes nothing.
-use Prim.Native.Nat.{ℕ, _+_, _-_, _*_, _<_}
+use Prim.Native.Nat.{ℕ, _+_, _-_, _<_}
 use native.Mathlib.Omega.{arith}
 use mathlib.Core.Path.{_≡_, refl, sym, _∙_, ap, subst}
 use mathlib.Core.Bool.{true, false}
@@ -12,7 +12,7 @@ use lib.Seq.{length-take-le, getD-take, getD-append-add, drop-append-add}
 use Rattle.laws.specs.Ladder.{Rung, ladder, Given}
 use Rattle.laws.specs.Tests.{_and_, allZero}
 use Rattle.laws.proofs.LadderLaws.{given, numberOf, climbs, ladder-append, ladder-seen}
-use Rattle.laws.proofs.ListLaws.{drop-replicate, take-replicate}
+use Rattle.laws.proofs.ListLaws.{drop-replicate}
 use Rattle.laws.proofs.TestLaws.{left, right, both, allZero-zeros}
 use Rattle.track.specs.declared.Asked.{Asked}
 use Rattle.track.specs.declared.Track.{Track}
@@ -21,13 +21,14 @@ use Rattle.track.proofs.TrackLaws.{id-from-one}
 use Rattle.slots.specs.declared.share.Side.{Side}
 use Rattle.slots.specs.declared.share.Side.the-variants.{Encoder, Receiver}
 use Rattle.slots.specs.Share.{shareLen, trackAt, acceptedAt, heldAt, askedOf, trackOf, isOpen, acceptedOk, referenceOk, openOk, lawful, fresh, opened, dropped, paramWords, asked}
-use Rattle.slots.specs.Table.{Out, out, itself, tableLen, shareAt, tableRungs, onShare, onTable}
+use Rattle.slots.specs.Table.{Out, out, itself, shareAt, tableRungs, onShare, onTable}
+use Rattle.slots.proofs.TableLaws.{zero-share}
 use Rattle.slots.specs.Calls.{openRungs, openedRungs, opening, closing, grouping}
 use Rattle.slots.specs.Laws.{Keeps, StaysLawful, FreshLawful, OpenExactly, CloseExactly, GroupExactly, OpenStores, CloseZeroes, GroupDrops, RefusalKeeps}
 
 -- ---- lengths
 
-opened-long : (a : Asked) → length (opened a) ≡ shareLen
+pub opened-long : (a : Asked) → length (opened a) ≡ shareLen
 unfolding opened
 opened-long a = omega (arith, length-append (paramWords a) (replicate 988 0), length-replicate {A = ℕ} 988 0)
 
@@ -162,10 +163,7 @@ group-stays-lawful side =
     }
 
 pub all-fresh : FreshLawful
-all-fresh side slot h =
-    ap (lawful side)
-    (ap (take shareLen) (drop-replicate (slot * shareLen) tableLen 0) ∙ take-replicate shareLen (tableLen - slot * shareLen) 0 (omega arith))
-    ∙ fresh-lawful side
+all-fresh side slot h = ap (lawful side) (zero-share slot h) ∙ fresh-lawful side
 
 -- ---- numbers
 

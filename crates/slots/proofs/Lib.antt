@@ -3,3 +3,4 @@ pub mod CallLaws
 pub mod TableLaws
 pub mod Apart
 pub mod Lawful
+pub mod ShareParts

@@ -66,3 +66,8 @@ ranges a e =
 pub id-from-one : (a : Asked) → lawful a ≡ true → 1 ≤ a .track
 unfolding lawful
 id-from-one a e = leb-true _ _ (left _ _ (left _ _ e))
+
+-- the IV size is one that the protection has
+pub lawful-iv : (a : Asked) → lawful a ≡ true → ivOk (a .protection) (a .«iv_size») ≡ true
+unfolding lawful
+lawful-iv a e = right _ _ (right _ _ (right _ _ (right _ _ (right _ _ (right _ _ e)))))
