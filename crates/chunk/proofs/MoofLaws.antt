@@ -19,6 +19,7 @@ use Rattle.fieldset.specs.Lawful.{has}
 use Rattle.boxes.specs.Box.{words, box, fullBox}
 use Rattle.boxes.proofs.BoxLaws.{words-long, box-words, length-box, length-fullBox, box-head, fullBox-head}
 use Rattle.boxes.specs.Box as B
+use Rattle.protected.proofs.ProtectionLaws.{protection-same}
 use Rattle.chunk.specs.Front.{valueAt, countIn, when, flagWhen, sizeOf, mfhdBox, tfhdFlags, tfhdBox, tfdtBox, offsetField, trunRow, trunRows, trunFlags, trunBox, plain, protection, moofBox, moofWhole}
 use Rattle.chunk.specs.Lengths.{tfhdLength, rowLength, trunLength, plainLength}
 use Rattle.chunk.specs.Sizes.{lastSize, sizeBy}
@@ -230,3 +231,9 @@ module _ (t : Track) (sequence : ℕ) (w : List ℕ) (payload q : ℕ) (long : (
   moof-parts size e =
       let offset : size + 8 ≡ length (moofBox t sequence w payload 0) + 8 = omega (arith, moof-length 0) in
       moof-words (size + 8) size e ∙ ap (λ (n : ℕ). moofBox t sequence w payload n) offset
+
+-- the length of a `moof` goes by the set alone, and not by its data offset
+pub moof-same : (t : Track) (sequence : ℕ) (w : List ℕ) (payload x y : ℕ) → length (moofBox t sequence w payload x) ≡ length (moofBox t sequence w payload y)
+moof-same t sequence w payload x y =
+    let q : ℕ = length (protection t w 0) in
+    sym (moof-length t sequence w payload q (protection-same t w 0) x) ∙ moof-length t sequence w payload q (protection-same t w 0) y

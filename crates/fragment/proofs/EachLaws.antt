@@ -4,11 +4,15 @@ use native.Mathlib.Nat.{zero-add, add-zero, sub-zero, not-suc-le-zero, le-of-suc
 use native.Mathlib.Numerals.{add-one}
 use native.Mathlib.Omega.{arith}
 use mathlib.Core.Path.{_≡_, refl, sym, _∙_, ap, ap₂}
-use mathlib.Core.List.{List, [], _∷_, map}
+use mathlib.Core.Bool.{true}
+use mathlib.Core.List.{List, [], _∷_, _++_, map}
 use lib.ListN.{length, getD, set, take, length-set}
 use lib.Seq.{sets}
 use Rattle.laws.specs.Tests.{sum}
-use Rattle.fragment.specs.Samples.{eachFrom}
+use Rattle.laws.proofs.TestLaws.{sum-append}
+use Rattle.fragment.specs.declared.rows.Run.{Run}
+use Rattle.fragment.specs.Rows.{hasColumn, cell}
+use Rattle.fragment.specs.Samples.{eachFrom, columnOf}
 
 -- one for each number
 pub each-length : (f : ℕ → ℕ) (k i : ℕ) → length (eachFrom f k i) ≡ k
@@ -45,6 +49,33 @@ each-take f zero zero i h = refl
 each-take f zero (suc k) i h = refl
 each-take f (suc j) zero i h = absurd (not-suc-le-zero h)
 each-take f (suc j) (suc k) i h = ap (λ (l : List ℕ). f i ∷ l) (each-take f j k (suc i) (le-of-suc-le-suc h))
+
+-- one of them
+pub each-at : (f : ℕ → ℕ) (k i j : ℕ) → j < k → getD (eachFrom f k i) j 0 ≡ f (i + j)
+unfolding eachFrom
+each-at f zero i j h = absurd (not-suc-le-zero h)
+each-at f (suc k) i zero h = ap f (sym (add-zero i))
+each-at f (suc k) i (suc j) h = let e : suc i + j ≡ i + suc j = omega arith in each-at f k (suc i) j (le-of-suc-le-suc h) ∙ ap f e
+
+pub column-at : (c : List ℕ) (r : Run) (column i : ℕ) → i < r .count → hasColumn r column ≡ true → getD (columnOf c r column) i 0 ≡ cell c r column i
+unfolding columnOf
+column-at c r column i lt h = rw h (each-at (cell c r column) (r .count) 0 i lt ∙ ap (cell c r column) (zero-add i))
+
+-- the last
+each-last : (f : ℕ → ℕ) (k i : ℕ) → eachFrom f (suc k) i ≡ eachFrom f k i ++ (f (i + k) ∷ [])
+unfolding eachFrom
+each-last f zero i = rw add-zero
+each-last f (suc k) i = let e : suc i + k ≡ i + suc k = omega arith in ap (λ (l : List ℕ). f i ∷ l) (rw e at (each-last f k (suc i)))
+
+pub sum-last : (f : ℕ → ℕ) (k i : ℕ) → sum (eachFrom f (suc k) i) ≡ sum (eachFrom f k i) + f (i + k)
+unfolding sum
+sum-last f k i = ap sum (each-last f k i) ∙ sum-append (eachFrom f k i) (f (i + k) ∷ []) ∙ rw add-zero
+
+-- two functions that say the same of them
+pub each-same : (f g : ℕ → ℕ) (k i : ℕ) → ((j : ℕ) → j < i + k → f j ≡ g j) → eachFrom f k i ≡ eachFrom g k i
+unfolding eachFrom
+each-same f g zero i h = refl
+each-same f g (suc k) i h = ap₂ (λ (v : ℕ) (l : List ℕ). v ∷ l) (h i (omega arith)) (each-same f g k (suc i) (λ j lt. h j (omega arith)))
 
 -- i of n values are stored from a place on; the rest of them gives the whole
 pub record Storing (f : ℕ → ℕ) (x₀ : List ℕ) (from n : ℕ) (x : List ℕ) (i : ℕ) : Type 0 where

@@ -1,8 +1,8 @@
 -- The `prft` by its length and version. Assumes nothing.
-use Prim.Native.Nat.{ℕ, _+_, _/_, _%_, _^_, _≤_, _<_}
+use Prim.Native.Nat.{ℕ, _+_, _-_, _/_, _%_, _^_, _≤_, _<_}
 use native.Mathlib.Omega.{arith}
 use mathlib.Core.Path.{_≡_, refl, sym, _∙_, ap, subst}
-use mathlib.Core.Bool.{Bool, true, false, _&&_, _||_}
+use mathlib.Core.Bool.{Bool, true, false, false≢true, cond, _&&_, _||_}
 use mathlib.Core.List.{List}
 use borrow.Author.Tests.{eqb-true, eqb-false, eq-eqb, ne-eqb}
 use lib.Dec.{eqb}
@@ -104,13 +104,28 @@ module _ (c : List ℕ) (b : Part) where
           subst Headed (prft-some n (u32 c (b .at + 8)) (u64 c (b .at + 16)) (mediaTime c b) refl refl refl)
           (record { version = omega (arith, f .version); flags = omega arith })
 
-  -- its media time has 32 bits in version 0
-  pub prft-media : Bytes c → Inside c b → prftOk c b ≡ true → prftOf c b .version ≡ 0 → prftOf c b .media < 2 ^ 32
-  unfolding prftOf mediaTime
-  prft-media h n e = by (eqb (b .len) 0) refl
+  -- where no box stands, nothing is said
+  pub prft-lacks : prftOf c b .stands ≡ false → record { stands = false; ntp = 0; media = 0; version = 0; flags = 0 } ≡ prftOf c b
+  unfolding prftOf
+  prft-lacks = by (eqb (b .len) 0) refl
     where
-      by : (t : Bool) → eqb (b .len) 0 ≡ t → prftOf c b .version ≡ 0 → prftOf c b .media < 2 ^ 32
-      by true q = rw q (λ z. omega arith)
+      by : (t : Bool) → eqb (b .len) 0 ≡ t → prftOf c b .stands ≡ false → record { stands = false; ntp = 0; media = 0; version = 0; flags = 0 } ≡ prftOf c b
+      by true q z = prft-none (eqb-true (b .len) 0 q)
+      by false q z = absurd (false≢true (sym (rw q at z)))
+
+  -- its version is 0 or 1, and its times have as many bits as their fields: the media time 32 in version 0
+  pub prft-ranges : Bytes c → Inside c b → prftOk c b ≡ true → (prftOf c b .version ≤ 1) × (prftOf c b .ntp ≤ 2 ^ 64 - 1)
+      × (prftOf c b .media ≤ cond (eqb (prftOf c b .version) 0) (2 ^ 32 - 1) (2 ^ 64 - 1))
+  unfolding prftOf mediaTime
+  prft-ranges h n e = by (eqb (b .len) 0) refl
+    where
+      media : PrftFits → (x : Bool) → eqb (versionAt c b) 0 ≡ x → cond x (u32 c (b .at + 24)) (u64 c (b .at + 24)) ≤ cond x (2 ^ 32 - 1) (2 ^ 64 - 1)
+      media f true q = omega (arith, number-lt c 4 (b .at + 24) h (omega (arith, f .long, n .within)))
+      media f false q = omega (arith, number-lt c 8 (b .at + 24) h (omega (arith, f .wide (eqb-false _ _ q), n .within)))
+
+      by : (t : Bool) → eqb (b .len) 0 ≡ t → (prftOf c b .version ≤ 1) × (prftOf c b .ntp ≤ 2 ^ 64 - 1)
+          × (prftOf c b .media ≤ cond (eqb (prftOf c b .version) 0) (2 ^ 32 - 1) (2 ^ 64 - 1))
+      by true q = rw q (omega arith, omega arith, omega arith)
       by false q =
           let f = prft-fits e (omega (arith, eqb-false (b .len) 0 q)) in
-          rw q (λ z. rw (eq-eqb (versionAt c b) 0 z) (number-lt c 4 (b .at + 24) h (omega (arith, f .long, n .within))))
+          rw q (f .version, omega (arith, number-lt c 8 (b .at + 16) h (omega (arith, f .long, n .within))), media f (eqb (versionAt c b) 0) refl)

@@ -2,7 +2,7 @@
 use Prim.Native.Nat.{ℕ, _+_}
 use native.Mathlib.Omega.{arith}
 use mathlib.Core.Path.{_≡_, refl, sym, _∙_, ap}
-use mathlib.Core.Bool.{true, false, _||_}
+use mathlib.Core.Bool.{Bool, true, false, _||_}
 use mathlib.Core.List.{List, [], _∷_, _++_, append-nil}
 use lib.ListN.{length, length-append}
 use Rattle.laws.specs.Bytes.{be}
@@ -35,3 +35,11 @@ module _ (t : Track) (w : List ℕ) (place : ℕ) where
 
     pub protection-length : length (protection t w place) ≡ length (sencBox t w) + length (saizBox t w) + 20
     protection-length = rw protection-all (simp length-append (omega (arith, saio-length (place + 16))))
+
+-- its length goes by the set alone
+pub protection-same : (t : Track) (w : List ℕ) (x y : ℕ) → length (protection t w x) ≡ length (protection t w y)
+protection-same t w x y = by (has 9 w || has 11 w) refl
+  where
+    by : (b : Bool) → (has 9 w || has 11 w) ≡ b → length (protection t w x) ≡ length (protection t w y)
+    by true e = protection-length t w x e ∙ sym (protection-length t w y e)
+    by false e = ap length (protection-none t w x e) ∙ sym (ap length (protection-none t w y e))

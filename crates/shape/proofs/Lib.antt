@@ -2,3 +2,5 @@ pub mod PartLaws
 pub mod RunLaws
 pub mod TopLaws
 pub mod InnerLaws
+pub mod LeftLaws
+pub mod OneBoxLaws

@@ -1,3 +1,4 @@
 pub mod Parts
 pub mod Top
 pub mod Inner
+pub mod Left
