@@ -24,7 +24,7 @@ use Rattle.block.specs.Numbers.{onCounted}
 use Rattle.block.specs.Index.{known, bytesOf, weighed, heard, fresh, noted, index, told, indexed, indexAt}
 use Rattle.block.specs.Entries.{Entry, content, contents, entriesAt, isSome, body, readable, member, lawful, answerOf}
 use Rattle.block.proofs.NoteLaws.{noted-cell, noted-other}
-use Rattle.block.proofs.FrontLaws.{AllOf}
+use Rattle.laws.specs.Each.{AllOf}
 use Rattle.block.proofs.TupleRuns.{Proper, all-proper}
 use Rattle.block.proofs.BodyLaws.{weighs, kind-readable}
 use Rattle.block.proofs.IndexLoop.{noted-length}

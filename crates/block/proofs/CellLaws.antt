@@ -21,7 +21,7 @@ use Rattle.block.specs.Tuples.{kindOf, partOf}
 use Rattle.block.specs.Index.{bytesOf, weighed, heard, fresh, noted, indexed}
 use Rattle.block.specs.Entries.{content, contents, readable, member, entry}
 use Rattle.block.proofs.NoteLaws.{Cell, noted-cell, noted-other}
-use Rattle.block.proofs.FrontLaws.{AllOf}
+use Rattle.laws.specs.Each.{AllOf}
 use Rattle.block.proofs.TupleRuns.{Proper}
 use Rattle.block.proofs.BodyLaws.{weighs}
 use Rattle.block.proofs.IndexLoop.{noted-length}

@@ -10,7 +10,7 @@ use Rattle.wire.specs.declared.form.Row.{Row}
 use Rattle.block.specs.declared.records.Record.{Record}
 use Rattle.block.specs.Records.{recordsF, moved}
 use Rattle.block.specs.Events.{eventOf, eventsF}
-use Rattle.block.proofs.FrontLaws.{AllOf}
+use Rattle.laws.specs.Each.{AllOf}
 use Rattle.block.proofs.MovedLaws.{records-moved, part-moved}
 use Rattle.block.proofs.RecordRuns.{Lies, records-lie}
 

@@ -23,6 +23,7 @@ use Rattle.block.specs.Front.{series, before, wholly}
 use Rattle.block.specs.Tuples.{part}
 use Rattle.block.specs.Records.{number, textAt, marksAt, recordOf, recordF, recordsRun, recordsF}
 use Rattle.block.specs.Index.{bytesOf}
+use Rattle.block.specs.Entries.{body}
 use Rattle.block.specs.Events.{Event, eventOf, eventsF, encText, encEvent, encEvents, Sayable, AllSayable}
 use Rattle.block.proofs.KeptLaws.{records-none, records-one}
 
@@ -239,3 +240,8 @@ pub events-written : (F : List Row) → Lawful 0 F → (es : List Event) → All
 unfolding eventsF recordsF wholly
 events-written F w es h =
     rw (run-written F w 0 es h) (ap some (rw append-nil at (held-written F [] [] es h)))
+
+-- and it says its bytes
+pub body-events : (F : List Row) → Lawful 0 F → (es : List Event) → AllSayable F es → body F 25 (encEvents F es) ≡ some (encEvents F es)
+unfolding body recordsF wholly
+body-events F w es h = rw (run-written F w 0 es h)

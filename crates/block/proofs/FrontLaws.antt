@@ -4,14 +4,17 @@ use native.Mathlib.Nat.{add-zero, add-suc, suc-add, not-suc-le-zero}
 use native.Mathlib.Omega.{arith}
 use mathlib.Core.Path.{_≡_, refl, _∙_, ap}
 use mathlib.Core.Bool.{true, false}
-use mathlib.Core.List.{List, [], _∷_}
+use mathlib.Core.List.{List, [], _∷_, List·Permᴰ, List·Permᴰ·nil, List·Permᴰ·cons, List·Permᴰ·swap, List·Permᴰ·trans}
 use lib.ListN.{length, drop}
+use Rattle.laws.specs.Each.{AllOf}
 use Rattle.block.specs.Front.{Front, off, cut, series, before, taken}
 
--- something holds of each of the things
-abbrev pub AllOf : {A : Type 0} → (A → Type 0) → List A → Type 0
-AllOf P [] = Unit {0}
-AllOf P (x ∷ xs) = P x × AllOf P xs
+-- and so in any order
+pub all-turned : {A : Type 0} (P : A → Type 0) {xs ys : List A} → List·Permᴰ xs ys → AllOf P xs → AllOf P ys
+all-turned P List·Permᴰ·nil h = tt
+all-turned P (List·Permᴰ·cons e d) h = (rw e at (h .0), all-turned P d (h .1))
+all-turned P (List·Permᴰ·swap e f) h = (rw f at (h .1 .0), (rw e at (h .0), h .1 .1))
+all-turned P (List·Permᴰ·trans d d′) h = all-turned P d′ (all-turned P d h)
 
 module _ {A : Type 0} (front : ℕ → List ℕ → Front A) where
   -- passing over k elements is starting k elements later

@@ -14,7 +14,7 @@ use Rattle.block.specs.declared.records.Record.{Record}
 use Rattle.block.specs.declared.records.Recorded.{Recorded}
 use Rattle.block.specs.declared.records.Recorded.the-variants.{One, Cut}
 use Rattle.block.specs.Records.{recordF, recordsRun, recordsF, recordWords, wordsOf}
-use Rattle.block.proofs.FrontLaws.{AllOf}
+use Rattle.laws.specs.Each.{AllOf}
 use Rattle.block.proofs.NumberLaws.{wholly-inv}
 use Rattle.block.proofs.RecordSpans.{Inside, record-spans}
 use Rattle.block.proofs.KeptLaws.{records-none, records-cut, records-one}

@@ -21,7 +21,7 @@ use Rattle.block.specs.Records.{recordsRun, recordsF, wordsOf}
 use Rattle.block.specs.Index.{bytesOf, weighed, heard, Index, indexed, indexAt}
 use Rattle.block.specs.Entries.{Entry, contents, entriesAt, onOption, isSome, body, readable, lawful, entry, says, HeldAs, Tells}
 use Rattle.block.proofs.NoteLaws.{Cell}
-use Rattle.block.proofs.FrontLaws.{AllOf}
+use Rattle.laws.specs.Each.{AllOf}
 use Rattle.block.proofs.TupleRuns.{Proper, all-proper}
 use Rattle.block.proofs.BodyLaws.{weighs, kind-count, records-counted}
 use Rattle.block.proofs.AnswerLaws.{Blank, freshAll, fresh-lawful, entry-readable}

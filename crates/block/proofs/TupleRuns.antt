@@ -1,23 +1,19 @@
 -- The tuples of a part of a list, by places: one off the front and the rest; and what is known of each. Assumes nothing.
-use Prim.Native.Nat.{ℕ, zero, suc, _+_, _-_, _*_, _^_, _%_, _≤_, _<_}
+use Prim.Native.Nat.{ℕ, zero, suc, _+_, _-_, _%_, _≤_, _<_}
 use native.Mathlib.Omega.{arith}
 use mathlib.Core.Path.{_≡_, refl, sym, _∙_}
-use mathlib.Core.Bool.{Bool, true, false, cond}
+use mathlib.Core.Bool.{Bool, true, false}
 use mathlib.Core.List.{List, [], _∷_}
 use mathlib.Core.Option.{some}
-use borrow.Author.Tests.{le-leb, leb-true, leb-false}
+use borrow.Author.Tests.{leb-true, leb-false}
 use lib.Dec.{leb}
-use lib.ListN.{length, take, drop}
-use lib.Seq.{slice, length-slice, length-take-le, take-take}
-use Rattle.laws.specs.Bytes.{de}
+use lib.ListN.{length, drop}
+use lib.Seq.{slice, length-slice}
 use Rattle.laws.proofs.SliceLaws.{drop-slice, take-slice, slice-none}
 use Rattle.wire.specs.declared.form.Row.{Row}
-use Rattle.wire.specs.declared.form.Found.{Found}
-use Rattle.wire.specs.declared.form.Found.the-variants.{In, Past}
 use Rattle.wire.specs.declared.varint.Got.the-variants.{Value}
-use Rattle.wire.specs.declared.varint.Got.the-variants.{Cut as Ends}
-use Rattle.wire.specs.Form.{byFirst, onFound}
-use Rattle.wire.specs.Varint.{readF, readIn}
+use Rattle.wire.specs.Varint.{readF}
+use Rattle.wire.proofs.VarintLaws.{read-prefix}
 use Rattle.block.specs.declared.tuples.Tuple.{Tuple}
 use Rattle.block.specs.declared.tuples.Taken.{Taken}
 use Rattle.block.specs.declared.tuples.Taken.the-variants.{One}
@@ -26,29 +22,10 @@ use Rattle.block.specs.Front.{series, before}
 use Rattle.block.specs.Tuples.{kindOf, partOf, tupleF, tupleAt, tupleFront, tuplesRun}
 use Rattle.block.specs.Numbers.{numbersF}
 use Rattle.block.specs.Index.{bytesOf}
-use Rattle.block.proofs.FrontLaws.{AllOf, taken-none, taken-cut, taken-off}
+use Rattle.laws.specs.Each.{AllOf}
+use Rattle.block.proofs.FrontLaws.{taken-none, taken-cut, taken-off}
 use Rattle.block.proofs.NumberLaws.{numbers-nil, numbers-cons}
 use Rattle.block.proofs.TupleLaws.{inside, Spans, spans}
-
--- a varint stands in its own bytes
-pub read-prefix : (F : List Row) (s : List ℕ) (v k : ℕ) → readF F s ≡ Value v k → readF F (take k s) ≡ Value v k
-unfolding readF
-read-prefix F [] v k e = let z : _≡_ {A = ℕ} 0 1 = cc in absurd (omega arith)
-read-prefix F (b ∷ s) v k e = go (byFirst F b) refl e
-  where
-    in-row : (r : Row) → byFirst F b ≡ In r → (t : Bool) → leb (r .tail) (length s) ≡ t
-        → cond t (Value ((b - r .mark) * 256 ^ r .tail + de (take (r .tail) s)) (suc (r .tail))) Ends ≡ Value v k → readF F (take k (b ∷ s)) ≡ Value v k
-    in-row r q true t d =
-        let l : r .tail ≤ length s = leb-true _ _ t in
-        let x : suc (r .tail) ≡ k = cc in
-        let y : (b - r .mark) * 256 ^ r .tail + de (take (r .tail) s) ≡ v = cc in
-        let m : r .tail ≤ length (take (r .tail) s) = omega (arith, length-take-le (r .tail) s l) in
-        rw (← x, ← y) (rw (q, le-leb _ _ m, take-take (r .tail) (r .tail) s (omega arith)))
-    in-row r q false t d = let z : _≡_ {A = ℕ} 0 1 = cc in absurd (omega arith)
-
-    go : (f : Found) → byFirst F b ≡ f → onFound f (λ r. readIn r b s) Ends ≡ Value v k → readF F (take k (b ∷ s)) ≡ Value v k
-    go (In r) q d = in-row r q (leb (r .tail) (length s)) refl d
-    go Past q d = let z : _≡_ {A = ℕ} 0 1 = cc in absurd (omega arith)
 
 -- what is known of a tuple of the block that ends in s before the place end
 pub record Proper (F : List Row) (s : List ℕ) (end : ℕ) (t : Tuple) : Type 0 where

@@ -4,5 +4,7 @@ pub mod Numbers
 pub mod Records
 pub mod Index
 pub mod Entries
+pub mod Whole
 pub mod Written
 pub mod Events
+pub mod Wires

@@ -82,7 +82,8 @@ module _ (form : Form) (t : Track) (bmdt : ℕ) (c ws : List ℕ) where
       → AllSayable (rows form) (allSent t bmdt (eventsOf c ws k))
   all-sayable k w h fit = sayable-from k 0 (λ j lt. w .each j (omega arith)) (λ j lt. h j (omega arith)) fit
 
-all-bytes : (F : List Row) (es : List Event) → AllSayable F es → length (encEvents F es) ≡ listBytes F es
+-- the bytes of events that can be written
+pub all-bytes : (F : List Row) (es : List Event) → AllSayable F es → length (encEvents F es) ≡ listBytes F es
 unfolding encEvents listBytes
 all-bytes F [] h = refl
 all-bytes F (e ∷ es) h = length-append (encEvent F e) (encEvents F es) ∙ ap₂ _+_ (event-bytes F e (h .0)) (all-bytes F es (h .1))

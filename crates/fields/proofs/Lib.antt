@@ -5,3 +5,6 @@ pub mod TakeLaws
 pub mod MarkedLaws
 pub mod RoomLaws
 pub mod SetLaws
+pub mod StandLaws
+pub mod Bounds
+pub mod SetWords

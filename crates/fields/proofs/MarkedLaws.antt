@@ -9,7 +9,7 @@ use borrow.Author.Tests.{eqb-true, eqb-false, ne-eqb, ltb-true, not-true}
 use lib.Dec.{eqb, ltb}
 use lib.ListN.{length, getD}
 use Rattle.laws.specs.Tests.{_and_}
-use Rattle.laws.proofs.TestLaws.{left, right}
+use Rattle.laws.proofs.TestLaws.{left, right, alike}
 use Rattle.wire.specs.declared.form.Row.{Row}
 use Rattle.block.specs.Entries.{HeldAs, body}
 use Rattle.block.specs.Numbers.{numbersF}
@@ -95,11 +95,6 @@ module _ (F : List Row) (o : List ℕ) (end : ℕ) (index gone before events : L
   spans inside (sent zs) h = rw (marked-sent F o end index gone before events (l .id) zs h) (listed F o end index before events l kind zs h inside)
 
 -- ---- every line of the table is of its kind
-alike : (a b : Bool) → Bool·beq a b ≡ true → a ≡ b
-alike true true e = refl
-alike true false e = absurd (false≢true e)
-alike false true e = absurd (false≢true e)
-alike false false e = refl
 
 unfoldable kinds : Line → Bool
 kinds l =

@@ -1,7 +1,7 @@
 -- What a call of `cells` or `sizes` stored is the words of a field, where it stands. Assumes nothing.
 use Prim.Native.Nat.{ℕ, _+_}
 use native.Mathlib.Numerals.{add-one}
-use mathlib.Core.Path.{_≡_, sym, _∙_, ap}
+use mathlib.Core.Path.{_≡_, refl, sym, _∙_, ap}
 use mathlib.Core.Bool.{Bool, true, false, not}
 use mathlib.Core.List.{List, [], _∷_, map}
 use lib.ListN.{set}
@@ -19,6 +19,12 @@ use Rattle.fragment.proofs.EachLaws.{each-map}
 -- a way that is known under another name
 pub way-is : (v : Way) {w : Way} (x : ℕ) → w ≡ v → valueOf v x ≡ valueOf w x
 way-is v x e = rw e
+
+-- two fields that stand alike and have the same values
+pub held-same : (a b : Bool) (xs ys : List ℕ) → a ≡ b → (b ≡ true → xs ≡ ys) → heldIf a xs ≡ heldIf b ys
+unfolding heldIf
+held-same a true xs ys e h = rw e (ap (heldIf true) (h refl))
+held-same a false xs ys e h = rw e
 
 module _ (x : List ℕ) (place : ℕ) {stands : Bool} where
   -- the field doesn't stand

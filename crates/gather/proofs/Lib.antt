@@ -7,6 +7,7 @@ pub mod FitLaws
 pub mod MarkLaws
 pub mod ProtectionLaws
 pub mod ReadyLaws
+pub mod SetSays
 pub mod SizeLaws
 pub mod StoreTwice
 pub mod StoredLaws

@@ -1,16 +1,18 @@
 -- The sizes of the samples: whether they are equal, and what is stored of them. Assumes nothing.
-use Prim.Native.Nat.{ℕ, zero, suc, _+_, _-_, _≤_, _<_}
+use Prim.Native.Nat.{ℕ, zero, suc, _+_, _-_, _*_, _≤_, _<_}
+use native.Mathlib.Nat.{zero-mul, suc-mul}
 use native.Mathlib.Numerals.{add-one}
 use native.Mathlib.Omega.{arith}
 use mathlib.Core.Path.{_≡_, refl, sym, _∙_, ap}
 use mathlib.Core.Bool.{Bool, true, false, false≢true, not, _&&_, _||_}
 use mathlib.Core.List.{List, [], _∷_}
-use borrow.Author.Tests.{eq-eqb, ltb-true, ltb-false, le-leb, lt-leb}
+use borrow.Author.Tests.{eqb-true, eq-eqb, ltb-true, ltb-false, le-leb, lt-leb}
 use lib.Dec.{eqb, leb, ltb}
-use lib.ListN.{getD, set, take}
+use lib.ListN.{length, getD, set, take}
 use lib.Seq.{sets}
-use Rattle.laws.specs.Tests.{_and_}
-use Rattle.laws.proofs.TestLaws.{and-next, and-end}
+use Rattle.laws.specs.Tests.{_and_, sum}
+use Rattle.laws.proofs.RowLaws.{Row, row-each}
+use Rattle.laws.proofs.TestLaws.{left, right, and-next, and-end, both}
 use Rattle.fragment.specs.declared.rows.Run.{Run}
 use Rattle.fragment.specs.Rows.{sizeAt}
 use Rattle.fragment.specs.Samples.{eachFrom, sizesOf}
@@ -19,7 +21,37 @@ use Rattle.gather.specs.Set.{heldIf, allSame}
 use Rattle.fragment.proofs.EachLaws.{each-here, each-none, each-first, each-take}
 use Rattle.gather.proofs.CellLaws.{not-stored, list-stored}
 
+-- ---- numbers that are all equal
+
+-- each of them
+pub same-each : (f : ℕ → ℕ) (v k i j : ℕ) → allSame v (eachFrom f k i) ≡ true → j < k → f (i + j) ≡ v
+unfolding eachFrom allSame
+same-each f v k i j e lt =
+    let row : Row (λ n. eqb (f n) v) (λ m n. allSame v (eachFrom f m n)) = record { none = λ n. refl; more = λ m n. refl } in
+    eqb-true _ _ (row-each row k i j e lt)
+
+-- their sum
+pub same-sum : (v : ℕ) (l : List ℕ) → allSame v l ≡ true → sum l ≡ length l * v
+unfolding allSame sum
+same-sum v [] e = sym (zero-mul v)
+same-sum v (x ∷ l) e =
+    let a : x ≡ v = eqb-true _ _ (left _ _ e) in
+    omega (arith, a, suc-mul (length l) v, same-sum v l (right _ _ e))
+
 -- ---- whether all are equal
+
+-- a function that says the same of all numbers
+pub same-all : (f : ℕ → ℕ) (v : ℕ) → ((i : ℕ) → f i ≡ v) → (k i : ℕ) → allSame v (eachFrom f k i) ≡ true
+unfolding eachFrom allSame
+same-all f v h zero i = refl
+same-all f v h (suc k) i = both _ _ (eq-eqb _ _ (h i)) (same-all f v h k (suc i))
+
+-- one number, or none
+pub same-few : (f : ℕ → ℕ) (k : ℕ) → k ≤ 1 → allSame (f 0) (eachFrom f k 0) ≡ true
+unfolding eachFrom allSame
+same-few f zero h = refl
+same-few f (suc zero) h = both _ _ (eq-eqb (f 0) (f 0) refl) refl
+same-few f (suc (suc k)) h = absurd (omega arith)
 
 -- those before i are the first one's: the rest decides
 pub record Comparing (f : ℕ → ℕ) (n : ℕ) (ok : Bool) (i : ℕ) : Type 0 where

@@ -21,7 +21,7 @@ use Rattle.block.specs.Index.{bytesOf}
 use Rattle.block.specs.Records.{recordsF, recordWords, wordsOf}
 use Rattle.block.specs.Events.{Event, eventOf, eventsF}
 use Rattle.block.specs.Entries.{onOption, body, HeldAs, Tells}
-use Rattle.block.proofs.FrontLaws.{AllOf}
+use Rattle.laws.specs.Each.{AllOf}
 use Rattle.block.proofs.RecordRuns.{Lies, length-words, records-lie}
 use Rattle.block.proofs.EventLaws.{events-at}
 use Rattle.chunk.specs.Front.{Event as Box}

@@ -69,7 +69,7 @@ below-at (suc n) p d e h = go (eqb d n) refl (below-at n p d (and-right (p n) (b
     go false q less = let k : d ≡ n → ⊥ = eqb-false d n q in less (omega arith)
 
 -- computed over the table: the id of each line can be deleted
-all-fields : every (λ l. moofField (l .id)) lines ≡ true
+pub all-fields : every (λ l. moofField (l .id)) lines ≡ true
 unfolding every moofField lines _and_
 all-fields = refl
 

@@ -9,7 +9,7 @@ use borrow.Author.Tests.{leb-true}
 use lib.ListN.{length, getD}
 use Rattle.laws.specs.Tests.{allLe, sum}
 use Rattle.laws.proofs.TestLaws.{left, right}
-use Rattle.laws.proofs.LadderLaws.{Hold}
+use Rattle.laws.specs.Ladder.{Hold}
 use Rattle.wire.specs.declared.zigzag.Coding.{Coding}
 use Rattle.wire.specs.declared.zigzag.Reached.{Reached}
 use Rattle.wire.specs.declared.zigzag.Reached.the-variants.{To, Outside}

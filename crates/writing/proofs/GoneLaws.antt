@@ -23,7 +23,7 @@ use Rattle.writing.specs.Fields.{isDeleted, goneOf, deletionItems}
 
 module _ (t : Track) (delta : Bool) (r x : List ℕ) where
   -- a field is deleted where it stood in the reference and stands no more
-  deleted-by : (l : Line) → (delta && (not (eqb (getD r (l .place) 0) 0) && eqb (getD x (l .place) 0) 0)) ≡ isDeleted (changeOf t delta r x l)
+  pub deleted-by : (l : Line) → (delta && (not (eqb (getD r (l .place) 0) 0) && eqb (getD x (l .place) 0) 0)) ≡ isDeleted (changeOf t delta r x l)
   unfolding changeOf
   deleted-by l =
       go delta (eqb (getD r (l .place) 0) 0) (eqb (getD x (l .place) 0) 0) (not (isIvs (l .want)) && same (olds t delta r x l) (news t delta r x l))
@@ -44,7 +44,7 @@ module _ (t : Track) (delta : Bool) (r x : List ℕ) where
   deleted-is i lt p e = rw (e ∙ place-of i lt) (deleted-by (getD lines i spare))
 
   -- nothing is deleted in a full object
-  gone-full : delta ≡ false → (ls : List Line) → goneOf t delta r x ls ≡ []
+  pub gone-full : delta ≡ false → (ls : List Line) → goneOf t delta r x ls ≡ []
   unfolding goneOf
   gone-full d [] = refl
   gone-full d (l ∷ ls) = let no : isDeleted (changeOf t delta r x l) ≡ false = sym (deleted-by l) ∙ rw d in rw no (gone-full d ls)

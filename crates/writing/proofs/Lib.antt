@@ -13,3 +13,4 @@ pub mod StandLaws
 pub mod TimeLaws
 pub mod GoneLaws
 pub mod SetLaws
+pub mod GoneIds

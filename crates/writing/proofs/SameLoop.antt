@@ -1,31 +1,32 @@
 -- Whether two lists are the same, and the loop that finds it. Assumes nothing.
-use Prim.Native.Nat.{ℕ, suc, _+_, _≤_, _<_}
+use Prim.Native.Nat.{ℕ, _+_, _≤_, _<_}
 use native.Mathlib.Numerals.{add-one}
 use native.Mathlib.Omega.{arith}
-use mathlib.Core.Path.{_≡_, refl, sym, _∙_, ap}
+use mathlib.Core.Path.{_≡_, refl, sym, _∙_, ap, ap₂}
 use mathlib.Core.Bool.{Bool, true, false, false≢true, _&&_}
 use mathlib.Core.List.{List, [], _∷_}
+use borrow.Author.Tests.{eqb-true}
 use lib.Dec.{eqb}
 use lib.ListN.{length, getD, drop, drop-of-length-le}
 use lib.Seq.{drop-cons}
 use Rattle.laws.specs.Tests.{_and_}
-use Rattle.laws.proofs.TestLaws.{right, and-next, and-end}
+use Rattle.laws.proofs.TestLaws.{left, right, and-next, and-end}
 use Rattle.writing.specs.Changes.{same}
 
--- lists that are the same have the same length
-same-length : (a b : List ℕ) → same a b ≡ true → length a ≡ length b
+-- lists that were found the same are equal
+pub same-is : (a b : List ℕ) → same a b ≡ true → a ≡ b
 unfolding same
-same-length [] [] e = refl
-same-length [] (y ∷ ys) e = absurd (false≢true e)
-same-length (x ∷ xs) [] e = absurd (false≢true e)
-same-length (x ∷ xs) (y ∷ ys) e = ap suc (same-length xs ys (right _ _ e))
+same-is [] [] e = refl
+same-is [] (y ∷ ys) e = absurd (false≢true e)
+same-is (x ∷ xs) [] e = absurd (false≢true e)
+same-is (x ∷ xs) (y ∷ ys) e = ap₂ (λ (u : ℕ) (us : List ℕ). u ∷ us) (eqb-true _ _ (left _ _ e)) (same-is xs ys (right _ _ e))
 
--- so those of other lengths aren't
+-- so those of other lengths aren't the same
 pub differ : (a b : List ℕ) → (length a ≡ length b → ⊥) → false ≡ same a b
 differ a b h = go (same a b) refl
   where
     go : (t : Bool) → same a b ≡ t → false ≡ t
-    go true e = absurd (h (same-length a b e))
+    go true e = absurd (h (ap length (same-is a b e)))
     go false e = refl
 
 -- the numbers before i are compared

@@ -3,14 +3,19 @@ use Prim.Native.Nat.{ℕ, _+_, _*_, _≤_, _<_}
 use native.Mathlib.Numerals.{add-one}
 use native.Mathlib.Omega.{arith}
 use mathlib.Core.Path.{_≡_, refl, sym, _∙_}
+use mathlib.Core.Bool.{true}
 use mathlib.Core.List.{List, [], _∷_, _++_, append-assoc, append-nil}
+use borrow.Author.Tests.{leb-true}
 use lib.ListN.{length, getD, take, length-append}
-use lib.Seq.{take-suc}
+use lib.Seq.{take-suc, take-at, drop-at}
 use Rattle.laws.specs.Bytes.{be}
+use Rattle.laws.specs.Tests.{allLe}
 use Rattle.laws.specs.Writes.{Wrote}
-use Rattle.laws.proofs.BytesLaws.{length-be}
+use Rattle.laws.proofs.BytesLaws.{length-be, de-be-small}
+use Rattle.laws.proofs.TestLaws.{left, right}
 use Rattle.laws.proofs.WriteLaws.{then}
 use Rattle.laws.proofs.PartLaws.{Parts, parts-room}
+use Rattle.fields.specs.Cells.{packed}
 use Rattle.writing.specs.Items.{wideBytes}
 
 -- how many bytes they are
@@ -18,6 +23,15 @@ pub wide-length : (ws : List ℕ) → length (wideBytes ws) ≡ 8 * length ws
 unfolding wideBytes
 wide-length [] = refl
 wide-length (w ∷ ws) = length-append (be 8 w) (wideBytes ws) ∙ omega (arith, length-be 8 w, wide-length ws)
+
+-- the words are led back to
+pub packed-back : (ws : List ℕ) → allLe 0xffff_ffff_ffff_ffff ws ≡ true → packed (length ws) (wideBytes ws) ≡ ws
+unfolding packed wideBytes allLe
+packed-back [] e = refl
+packed-back (w ∷ ws) e =
+    let n : w ≤ 0xffff_ffff_ffff_ffff = leb-true _ _ (left _ _ e) in
+    let at = length-be 8 w in
+    rw (take-at (be 8 w) (wideBytes ws) 8 at, drop-at (be 8 w) (wideBytes ws) 8 at, de-be-small 8 w (omega arith), packed-back ws (right _ _ e))
 
 -- words after others, and one word
 wide-append : (us ws : List ℕ) → wideBytes (us ++ ws) ≡ wideBytes us ++ wideBytes ws
