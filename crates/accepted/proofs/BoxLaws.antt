@@ -1,21 +1,22 @@
 -- The boxes of a chunk lie in it, and what the tests of them say. Assumes nothing.
-use Prim.Native.Nat.{ℕ, _≤_}
+use Prim.Native.Nat.{ℕ, _+_, _≤_}
 use native.Mathlib.Omega.{arith}
-use mathlib.Core.Path.{_≡_, refl, _∙_}
+use mathlib.Core.Path.{_≡_, refl, sym, _∙_, ap}
 use mathlib.Core.Bool.{Bool, true, false, _&&_}
 use mathlib.Core.List.{List}
-use lib.ListN.{length}
+use lib.ListN.{length, drop}
 use Rattle.laws.specs.Tests.{_and_}
+use Rattle.laws.proofs.SliceLaws.{slice-to-end}
 use Rattle.laws.proofs.TestLaws.{left, right, both-of}
 use Rattle.track.specs.declared.Track.{Track}
 use Rattle.shape.specs.declared.parts.Part.{Part}
 use Rattle.shape.specs.declared.top.Top.{Top}
 use Rattle.shape.specs.declared.inner.Inner.{Inner}
-use Rattle.shape.specs.Parts.{bodyOf, Inside}
+use Rattle.shape.specs.Parts.{bodyOf, endOf, Inside}
 use Rattle.shape.specs.Top.{topOf, topOk}
 use Rattle.shape.specs.Inner.{innerOf, innerOk}
 use Rattle.shape.proofs.PartLaws.{body-in}
-use Rattle.shape.proofs.TopLaws.{TopIn, top-in, styp-inside, prft-inside, emsgs-inside, moof-inside, mdat-inside}
+use Rattle.shape.proofs.TopLaws.{TopIn, top-in, top-says, top-eights, styp-inside, prft-inside, emsgs-inside, moof-inside, mdat-inside}
 use Rattle.shape.proofs.InnerLaws.{InnerIn, inner-in, mfhd-inside, traf-inside, tfhd-inside, tfdt-inside, trun-inside, senc-inside, saiz-inside, saio-inside}
 use Rattle.chunk.specs.declared.outer.Prft.{Prft}
 use Rattle.prelude.specs.Styp.{stypOk}
@@ -26,7 +27,7 @@ use Rattle.fragment.specs.Defaults.{tfhdOk}
 use Rattle.fragment.specs.Rows.{trunOk}
 use Rattle.encryption.specs.Entries.{sencOk}
 use Rattle.encryption.specs.Sizes.{saizOk, saioOk}
-use Rattle.accepted.specs.Accepted.{boxesOk, prft}
+use Rattle.accepted.specs.Accepted.{top, boxesOk, prft, payload}
 use Rattle.accepted.specs.Chunks.{takenAs}
 
 -- ---- where they lie
@@ -154,3 +155,13 @@ pub taken-by : (c : List ℕ) (top : Top) (list : ℕ) {p : Prft} {b d : Part} �
     → record { number = 0; prft = p; events = top .events; list = list; brands = b; payload = d } ≡ takenAs c list
 unfolding prft
 taken-by c top list et ep eb ed = rw (ep, eb, ed, et)
+
+-- the payload is what is left of the chunk behind the header of the `mdat`
+pub payload-behind : (t : Track) (c : List ℕ) → boxesOk t c ≡ true → payload c ≡ drop (top c .mdat .at + 8) c
+unfolding payload
+payload-behind t c e =
+    let k = boxes-hold t c e .top-ok in
+    let mdat = body-in (top c .mdat) in
+    let long = top-eights c k .1 in
+    slice-to-end (bodyOf (top c .mdat) .at) (endOf (bodyOf (top c .mdat))) c (sym (mdat .same-end long ∙ top-says c (top c) k .ends))
+    ∙ ap (λ (n : ℕ). drop n c) (mdat .past-head long)

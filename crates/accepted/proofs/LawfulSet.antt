@@ -2,26 +2,21 @@
 use Prim.Native.Nat.{ℕ, zero, suc, _+_, _-_, _^_, _≤_, _<_}
 use native.Mathlib.Omega.{arith}
 use mathlib.Core.Path.{_≡_, refl, sym, _∙_, ap}
-use mathlib.Core.Bool.{Bool, true, false, not, _&&_}
+use mathlib.Core.Bool.{Bool, true, false, not}
 use mathlib.Core.List.{List, _∷_}
-use borrow.Author.Tests.{leb-true}
-use lib.Dec.{eqb, leb}
+use lib.Dec.{eqb}
 use lib.ListN.{getD}
 use Rattle.laws.specs.Tests.{allLe}
-use Rattle.laws.proofs.TestLaws.{left, right, and-left, and-right}
-use Rattle.laws.proofs.LadderLaws.{Hold}
+use Rattle.laws.proofs.TestLaws.{left, and-right}
+use Rattle.laws.specs.Ladder.{Hold}
 use Rattle.wire.specs.declared.form.Row.{Row}
 use Rattle.track.specs.declared.Track.{Track}
 use Rattle.track.specs.Track.{ivOk}
 use Rattle.shape.specs.declared.top.Top.{Top}
 use Rattle.shape.specs.declared.inner.Inner.{Inner}
-use Rattle.shape.specs.Parts.{bodyOf, Inside}
-use Rattle.shape.proofs.TopLaws.{top-in, moof-inside}
-use Rattle.shape.proofs.InnerLaws.{inner-in, senc-inside}
 use Rattle.chunk.specs.Front.{Event}
 use Rattle.block.specs.Entries.{isSome}
 use Rattle.track.proofs.TrackLaws.{iv-size-le}
-use Rattle.prelude.specs.Styp.{brandsIn}
 use Rattle.fieldset.specs.Lines.{lines, spare, lineFor, lineNumber}
 use Rattle.fieldset.specs.Lawful.{valuesOf, saizOk, sameIvSize, measureOf, lawful}
 use Rattle.fieldset.proofs.LawfulLaws.{Lawful, lawful-all}
@@ -29,12 +24,10 @@ use Rattle.fields.specs.Said.{numbers}
 use Rattle.fields.specs.Words.{setWords}
 use Rattle.fields.proofs.SetLaws.{eleven-for, AllFit, keeps-fits}
 use Rattle.fields.proofs.SetLaws.{words-start, words-count, words-marks, words-around, words-has, around-id, words-regions}
-use Rattle.fragment.specs.Headers.{mfhdOk, tfdtOk, bmdtOf}
-use Rattle.fragment.specs.Defaults.{tfhdOk}
-use Rattle.fragment.specs.Rows.{trunOk, countOf}
+use Rattle.fragment.specs.Headers.{bmdtOf}
+use Rattle.fragment.specs.Rows.{trunOk}
 use Rattle.encryption.specs.declared.entries.Entries.{Entries}
-use Rattle.encryption.specs.Entries.{pairsAt, lengthAt, sencOk, sencCount, subsamples}
-use Rattle.encryption.specs.Sizes as sizes
+use Rattle.encryption.specs.Entries.{pairsAt, lengthAt, subsamples}
 use Rattle.encryption.proofs.SencLaws.{senc-stands, entries-iv}
 use Rattle.rules.proofs.InfoLaws.{countsFrom}
 use Rattle.rules.proofs.RuleFacts.{RulesHold, rules-hold, rules-protected, protection-holds, entries-keep}
@@ -43,6 +36,8 @@ use Rattle.gather.specs.Set.{heldFor, fieldOf, run, entries, hasMap, chunkSet}
 use Rattle.gather.proofs.EntryLengths.{senc-counts}
 use Rattle.gather.proofs.FitLaws.{some-bytes}
 use Rattle.accepted.specs.Accepted.{top, inner, boxes, bmdt, fields, boxesOk, countsOk, maximaOk, lateRungs, acceptRungs}
+use Rattle.accepted.proofs.BoxLaws.{boxes-in, BoxesHold, boxes-hold}
+use Rattle.accepted.proofs.MaximaLaws.{CountsHold, counts-hold}
 use Rattle.accepted.proofs.SetKeeps.{Counted, counts, lengths, counts-are, counts-none, counts-few, eleven-is, eleven-long, set-keeps}
 use Rattle.accepted.proofs.SetRules.{set-rules}
 
@@ -123,13 +118,6 @@ module _ (t : Track) (c : List ℕ) (top : Top) (f : Inner) {events : List Event
 
 -- ---- an accepted chunk
 
--- the maxima of its samples, and those that are asked last
-abbrev pub samplesFew : List ℕ → Bool
-samplesFew c = leb (countOf c (inner c .trun)) 64 && (leb (sencCount c (inner c .senc)) 64 && leb (sizes.saizCount c (inner c .saiz)) 64)
-
-abbrev pub restFew : List ℕ → Bool
-restFew c = leb (brandsIn (top c .styp)) 16 && (leb (top c .events) 16 && leb (bodyOf (top c .mdat) .len) 16777216)
-
 module _ (F : List Row) (t : Track) (c : List ℕ) (h : Hold (acceptRungs F t c)) where
   pub boxes-right : boxesOk t c ≡ true
   unfolding acceptRungs
@@ -139,53 +127,28 @@ module _ (F : List Row) (t : Track) (c : List ℕ) (h : Hold (acceptRungs F t c)
   unfolding acceptRungs lateRungs maximaOk
   counts-right = left _ _ (h .1 .1 .0)
 
-  rules-right : RulesHold t c (top c) (inner c) (boxes c)
+  pub rules-right : RulesHold t c (top c) (inner c) (boxes c)
   unfolding acceptRungs lateRungs
   rules-right = rules-hold t c (top c) (inner c) (boxes c) (h .1 .1 .1 .0)
 
-  trun-right : trunOk c (inner c .trun) ≡ true
-  unfolding boxesOk
-  trun-right =
-      and-right (tfdtOk c (inner c .tfdt)) (trunOk c (inner c .trun))
-      (and-right (mfhdOk c (inner c .mfhd) && tfhdOk c (inner c .tfhd)) (tfdtOk c (inner c .tfdt) && trunOk c (inner c .trun))
-      (left _ _ (right _ _ (right _ _ (right _ _ boxes-right)))))
+  pub boxes-held : BoxesHold t c (top c) (inner c)
+  boxes-held = boxes-hold t c boxes-right
 
-  pub senc-right : sencOk t c (inner c .senc) ≡ true
-  unfolding boxesOk
-  senc-right =
-      and-left (sencOk t c (inner c .senc)) (sizes.saizOk c (inner c .saiz) && sizes.saioOk c (inner c .saio))
-      (right _ _ (right _ _ (right _ _ (right _ _ boxes-right))))
-
-  pub rows-few : samplesFew c ≡ true
-  unfolding countsOk
-  rows-few = and-left (samplesFew c) (leb (subsamples t c (inner c .senc)) 256 && restFew c) counts-right
-
-  pub rest-few : (leb (subsamples t c (inner c .senc)) 256 && restFew c) ≡ true
-  unfolding countsOk
-  rest-few = and-right (samplesFew c) (leb (subsamples t c (inner c .senc)) 256 && restFew c) counts-right
-
-  pub few-samples : countOf c (inner c .trun) ≤ 64
-  few-samples =
-      leb-true _ _
-      (and-left (leb (countOf c (inner c .trun)) 64) (leb (sencCount c (inner c .senc)) 64 && leb (sizes.saizCount c (inner c .saiz)) 64) rows-few)
-
-  pub few-subsamples : subsamples t c (inner c .senc) ≤ 256
-  few-subsamples = leb-true _ _ (and-left (leb (subsamples t c (inner c .senc)) 256) (restFew c) rest-few)
-
-  senc-here : Inside c (inner c .senc)
-  senc-here = senc-inside (moof-inside (top-in c)) (inner-in c (top c .moof) (moof-inside (top-in c)))
+  pub counts-held : CountsHold t c (top c) (inner c)
+  counts-held = counts-hold t c counts-right
 
   all-counted : allLe 255 c ≡ true → ivOk (t .protection) (t .«iv_size») ≡ true → Counted t c (inner c)
   all-counted low iv =
       record {
         bytes = low;
         iv = iv-size-le (t .protection) (t .«iv_size») iv;
-        few = few-samples;
+        few = counts-held .samples;
         counted = λ s. protection-holds t c (top c) (inner c) (rules-protected t c (top c) (inner c) rules-right s) .counts .counted;
         summed =
             λ s.
-            let e = senc-counts t c (inner c .senc) senc-here (senc-stands t c (inner c .senc) senc-right s) senc-right in
-            omega (arith, e, few-subsamples);
+            let ok = boxes-held .senc-ok in
+            let e = senc-counts t c (inner c .senc) (boxes-in c .senc-in) (senc-stands t c (inner c .senc) ok s) ok in
+            omega (arith, e, counts-held .subsamples-few);
       }
 
 -- its set is lawful, if its BMDT is in range
@@ -194,4 +157,4 @@ pub chunk-lawful : (F : List Row) (t : Track) (c : List ℕ) → allLe 255 c ≡
 unfolding bmdt fields chunkSet
 chunk-lawful F t c low iv h b =
     lawful-all t _
-    (set-facts t c (top c) (inner c) (rules-right F t c h) iv (trun-right F t c h) (all-counted F t c h low iv) (bmdtOf c (inner c .tfdt)) b)
+    (set-facts t c (top c) (inner c) (rules-right F t c h) iv (boxes-held F t c h .trun-ok) (all-counted F t c h low iv) (bmdtOf c (inner c .tfdt)) b)

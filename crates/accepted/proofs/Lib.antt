@@ -7,3 +7,5 @@ pub mod SetValues
 pub mod SetKeeps
 pub mod SetRules
 pub mod LawfulSet
+pub mod BrandLaws
+pub mod ChunkFacts

@@ -6,7 +6,7 @@ use mathlib.Core.List.{List}
 use borrow.Author.Tests.{leb-true}
 use native.Mathlib.Omega.{arith}
 use lib.Dec.{leb}
-use Rattle.laws.proofs.TestLaws.{and-left, and-right, both-of}
+use Rattle.laws.proofs.TestLaws.{and-left, both-of}
 use Rattle.track.specs.declared.Track.{Track}
 use Rattle.shape.specs.declared.parts.Part.{Part}
 use Rattle.shape.specs.declared.top.Top.{Top}
@@ -38,9 +38,11 @@ pub record CountsHold (t : Track) (c : List ℕ) (top : Top) (f : Inner) : Type 
   pub samples : countOf c (f .trun) ≤ 64
   pub entries : sencCount c (f .senc) ≤ 64
   pub subsamples-few : subsamples t c (f .senc) ≤ 256
+  pub brands : brandsIn (top .styp) ≤ 16
   pub events : top .events ≤ 16
+  pub payload : bodyOf (top .mdat) .len ≤ 16777216
 
-counts-hold : (t : Track) (c : List ℕ) → countsOk t c ≡ true → CountsHold t c (topOf c) (innerOf c (topOf c .moof))
+pub counts-hold : (t : Track) (c : List ℕ) → countsOk t c ≡ true → CountsHold t c (topOf c) (innerOf c (topOf c .moof))
 unfolding countsOk
 counts-hold t c e =
     let top : Top = topOf c in
@@ -50,13 +52,15 @@ counts-hold t c e =
     let a = both-of (leb (countOf c (f .trun)) 64 && s) (leb (subsamples t c (f .senc)) 256 && (leb (brandsIn (top .styp)) 16 && m)) e in
     let b = both-of (leb (countOf c (f .trun)) 64) s (a .0) in
     let d = both-of (leb (subsamples t c (f .senc)) 256) (leb (brandsIn (top .styp)) 16 && m) (a .1) in
+    let g = both-of (leb (brandsIn (top .styp)) 16) m (d .1) in
+    let k = both-of (leb (top .events) 16) (leb (bodyOf (top .mdat) .len) 16777216) (g .1) in
     record {
       samples = leb-true _ _ (b .0);
       entries = leb-true _ _ (and-left (leb (sencCount c (f .senc)) 64) (leb (saizCount c (f .saiz)) 64) (b .1));
       subsamples-few = leb-true _ _ (d .0);
-      events =
-          leb-true _ _
-          (and-left (leb (top .events) 16) (leb (bodyOf (top .mdat) .len) 16777216) (and-right (leb (brandsIn (top .styp)) 16) m (d .1)));
+      brands = leb-true _ _ (g .0);
+      events = leb-true _ _ (k .0);
+      payload = leb-true _ _ (k .1);
     }
 
 module _ (t : Track) (c : List ℕ) (top : Top) (f : Inner) (et : top ≡ topOf c) (ef : f ≡ innerOf c (top .moof)) where

@@ -4,11 +4,11 @@ use native.Mathlib.Omega.{arith}
 use mathlib.Core.Path.{_≡_, refl, sym, _∙_, ap}
 use mathlib.Core.Bool.{Bool, true, false, false≢true, cond, not, _&&_, _||_, Bool·beq}
 use mathlib.Core.List.{List, [], _∷_, map}
-use mathlib.Core.Logic.{_⊎_, inl, inr}
 use borrow.Author.Tests.{eqb-true, eqb-false, eq-eqb, ne-eqb, leb-true, leb-false, le-leb}
 use lib.Dec.{eqb, leb}
 use Rattle.laws.specs.Tests.{_and_, sum}
-use Rattle.laws.proofs.TestLaws.{left, right, both, and-left, and-right, either}
+use Rattle.laws.proofs.TestLaws.{left, right, both, and-right}
+use Rattle.track.proofs.IvLaws.{iv-stands}
 use Rattle.track.specs.declared.Track.{Track}
 use Rattle.track.specs.Track.{none, cenc, ivOk}
 use Rattle.shape.specs.declared.top.Top.{Top}
@@ -125,33 +125,6 @@ several-sized n size own e = by (leb n 1) refl
 
 -- ---- IVs and protection
 
--- a cenc track has an IV size, another has none
-abbrev IvCase : ℕ → ℕ → Type 0
-IvCase p i = ((p ≡ cenc) × ((0 < i) × (i ≤ 16))) ⊎ ((p ≡ cenc → ⊥) × (i ≡ 0))
-
-iv-cases : (p i : ℕ) → ivOk p i ≡ true → IvCase p i
-iv-cases p i =
-    either (IvCase p i) (eqb p 1 && (eqb i 8 || eqb i 16)) ((eqb p 0 || eqb p 2) && eqb i 0)
-    (λ h.
-    let e : p ≡ 1 = eqb-true p 1 (and-left (eqb p 1) (eqb i 8 || eqb i 16) h) in
-    either (IvCase p i) (eqb i 8) (eqb i 16)
-    (λ q. let k : i ≡ 8 = eqb-true i 8 q in inl (e, (omega arith, omega arith)))
-    (λ q. let k : i ≡ 16 = eqb-true i 16 q in inl (e, (omega arith, omega arith)))
-    (and-right (eqb p 1) (eqb i 8 || eqb i 16) h))
-    (λ h.
-    let e : i ≡ 0 = eqb-true i 0 (and-right (eqb p 0 || eqb p 2) (eqb i 0) h) in
-    either (IvCase p i) (eqb p 0) (eqb p 2)
-    (λ q. let k : p ≡ 0 = eqb-true p 0 q in inr (λ z. omega arith, e))
-    (λ q. let k : p ≡ 2 = eqb-true p 2 q in inr (λ z. omega arith, e))
-    (and-left (eqb p 0 || eqb p 2) (eqb i 0) h))
-
-cenc-iv : (p i : ℕ) → ivOk p i ≡ true → not (eqb i 0) ≡ eqb p cenc
-cenc-iv p i h = go (iv-cases p i h)
-  where
-    go : IvCase p i → not (eqb i 0) ≡ eqb p cenc
-    go (inl k) = rw (ne-eqb i 0 (λ z. omega (arith, k .1 .0)), eq-eqb p cenc (k .0))
-    go (inr k) = rw (eq-eqb i 0 (k .1), ne-eqb p cenc (k .0))
-
 -- ---- a chunk
 
 module _ (t : Track) (c : List ℕ) (top : Top) (f : Inner) {events : List Event} (rules : RulesHold t c top f events)
@@ -229,7 +202,7 @@ module _ (t : Track) (c : List ℕ) (top : Top) (f : Inner) {events : List Event
   ivs-cenc =
       by-senc (λ s. Bool·beq (s && not (eqb (entries t c f .iv) 0)) (eqb (t .protection) cenc && not (eqb n 0)) ≡ true)
       (λ h.
-      rw (entries-iv t c (f .senc), cenc-iv (t .protection) (t .«iv_size») iv, ne-eqb n 0 (counts h .samples)) (same (eqb (t .protection) cenc)))
+      rw (entries-iv t c (f .senc), iv-stands (t .protection) (t .«iv_size») iv, ne-eqb n 0 (counts h .samples)) (same (eqb (t .protection) cenc)))
       (λ h. other (eqb (t .protection) cenc) (eqb n 0) (rules-unprotected t c top f rules h))
     where
       same : (b : Bool) → Bool·beq b (b && true) ≡ true

@@ -27,6 +27,7 @@ use Rattle.fragment.specs.Rows.{sizes, columnsIn, hasColumn, cell, sizeAt}
 use Rattle.fragment.specs.Samples.{eachFrom, columnOf, sizesOf}
 use Rattle.encryption.specs.declared.entries.Entries.{Entries}
 use Rattle.encryption.specs.Entries.{pairsAt, lengthAt}
+use Rattle.gather.proofs.SizeLaws.{same-all}
 use Rattle.gather.specs.Entries.{ivWords, clearBytes, protectedBytes, allFrom, allIvs, allCounts, allClear, allProtected}
 use Rattle.gather.specs.Set.{allSame, raised}
 use Rattle.fragment.proofs.EachLaws.{each-take}
@@ -76,11 +77,6 @@ zero-or-other-le v own (inl e) h = go (eqb v 0) refl (sym (ap (λ (x : Bool). no
 -- ---- sizes that differ have a column
 
 -- a function that says the same of all numbers
-same-all : (f : ℕ → ℕ) (v : ℕ) → ((i : ℕ) → f i ≡ v) → (k i : ℕ) → allSame v (eachFrom f k i) ≡ true
-unfolding eachFrom allSame
-same-all f v h zero i = refl
-same-all f v h (suc k) i = both _ _ (eq-eqb _ _ (h i)) (same-all f v h k (suc i))
-
 same-first : (f : ℕ → ℕ) (v : ℕ) → ((i : ℕ) → f i ≡ v) → (k : ℕ) → allSame (getD (eachFrom f k 0) 0 0) (eachFrom f k 0) ≡ true
 unfolding eachFrom allSame
 same-first f v h zero = refl

@@ -7,8 +7,8 @@ use mathlib.Core.List.{List}
 use borrow.Author.Tests.{lt-leb}
 use lib.ListN.{length, getD}
 use Rattle.laws.specs.Tests.{_and_, allLe}
-use Rattle.laws.specs.Ladder.{ladder}
-use Rattle.laws.proofs.LadderLaws.{Hold, broken, passed, all-hold, climbed-on, stopped-on}
+use Rattle.laws.specs.Ladder.{ladder, Hold}
+use Rattle.laws.proofs.LadderLaws.{broken, passed, all-hold, climbed-on, stopped-on}
 use Rattle.laws.proofs.TestLaws.{right}
 use Rattle.wire.specs.declared.form.Row.{Row}
 use Rattle.track.specs.declared.Track.{Track}
@@ -30,7 +30,8 @@ use Rattle.accepted.proofs.LawfulSet.{chunk-lawful}
 use Rattle.encoder.specs.Object.{fitsOk}
 use Rattle.encoder.specs.Encode.{refusing, lastRungs, chunkRungs, encodeRungs, done, encoding}
 use Rattle.encoder.specs.Planned.{OnShare, Encodable}
-use Rattle.encoder.proofs.ChunkLaws.{accept-numbered, brands-sized, fields-long, fields-bmdt}
+use Rattle.accepted.proofs.ChunkFacts.{fields-long, fields-bmdt}
+use Rattle.encoder.proofs.ChunkLaws.{accept-numbered, brands-sized}
 
 -- ---- the track of a share
 

@@ -6,5 +6,6 @@ pub mod FrontLaws
 pub mod ChunkLaws
 pub mod WriteLaws
 pub mod EncodeLaws
+pub mod FitLaws
 pub mod BlockSizes
 pub mod Theorems

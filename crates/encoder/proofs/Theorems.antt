@@ -1,17 +1,18 @@
 -- Encoding a chunk: its numbers, what a refusal leaves, what the output holds, and that the share keeps its length and stays lawful. Assumes
 -- nothing.
-use Prim.Native.Nat.{ℕ, _-_, _^_, _≤_, _<_, zero-le}
+use Prim.Native.Nat.{ℕ, _+_, _-_, _^_, _≤_, _<_}
 use native.Mathlib.Omega.{arith}
 use mathlib.Core.Path.{_≡_, refl, sym, _∙_, ap, subst}
 use mathlib.Core.Bool.{Bool, true, false, not, _&&_, _||_}
-use mathlib.Core.List.{List, _++_}
+use mathlib.Core.List.{List, [], _++_}
 use borrow.Author.Tests.{leb-true, not-true}
 use lib.Dec.{eqb}
 use lib.ListN.{length, getD, take, drop}
-use lib.Seq.{take-append-seam}
+use lib.Seq.{take-append-seam, drop-length}
 use Rattle.laws.specs.Tests.{_and_, allLe}
-use Rattle.laws.specs.Ladder.{Rung, ladder, Given}
-use Rattle.laws.proofs.LadderLaws.{Hold, Numbered, numberOf, given, given-one, ladder-append, ladder-seen, all-hold, climbed, climbs-all, hold-front, hold-back, nonzero, numbered}
+use Rattle.laws.specs.Ladder.{Rung, ladder, Given, Hold}
+use Rattle.laws.proofs.LadderLaws.{Numbered, numberOf, given, given-one, ladder-append, ladder-seen, all-hold, climbed, climbs-all, hold-front, hold-back, nonzero, numbered}
+use Rattle.laws.proofs.SliceLaws.{drop-last}
 use Rattle.laws.proofs.TestLaws.{left, and-left, and-right}
 use Rattle.laws.proofs.WriteLaws.{front-stays}
 use Rattle.wire.specs.declared.form.Row.{Row}
@@ -25,14 +26,17 @@ use Rattle.slots.specs.Table.{Out, shareAt, tableRungs, onTable}
 use Rattle.slots.specs.Laws.{after, Keeps, Apart}
 use Rattle.slots.proofs.Apart.{apart, others-stay}
 use Rattle.exchange.specs.Took.{Took, refused, PastStays}
+use Rattle.exchange.proofs.TookLaws.{refused-past}
 use Rattle.exchange.proofs.OpenLaws.{Opened, opened-facts, held-facts}
 use Rattle.exchange.proofs.AcceptedLaws.{accepted-long, accepted-lawful}
-use Rattle.accepted.specs.Accepted.{bmdt, prft, brands, events, fields, lateRungs, acceptRungs}
+use Rattle.accepted.specs.Accepted.{top, bmdt, prft, brands, events, payload, fields, lateRungs, acceptRungs}
+use Rattle.accepted.proofs.BoxLaws.{payload-behind}
 use Rattle.accepted.proofs.LawfulSet.{chunk-lawful}
 use Rattle.encoder.specs.Object.{blockItems, mayDelta, givesDelta, fitsOk, front}
 use Rattle.encoder.specs.Encode.{refusing, lastRungs, chunkRungs, encodeRungs, kept, done, encoding}
 use Rattle.encoder.specs.Laws.{EncodeExactly, EncodeStaysLawful, Refused, EncodeRefuses, EncodePast, BlockFits, EncodeOnly, EncodeMakes}
-use Rattle.encoder.proofs.ChunkLaws.{brands-length, list-few, prft-ranged, fields-long}
+use Rattle.accepted.proofs.ChunkFacts.{brands-few, list-few, fields-long}
+use Rattle.encoder.proofs.ChunkLaws.{prft-ranged}
 use Rattle.encoder.proofs.EncodeLaws.{iv-right}
 use Rattle.encoder.proofs.BlockSizes.{Most, before-most, fields-most, deletions-most, times-most, version-most, flags-most, brands-most, events-most}
 
@@ -92,7 +96,7 @@ passed F wish c output s h =
 pub encode-past : EncodePast
 unfolding encoding
 encode-past F wish c output s =
-    climbs-all P (refusing output s) (encodeRungs F wish c output s) (done F wish c output s) (λ k. record { room = zero-le; long = refl; past = refl })
+    climbs-all P (refusing output s) (encodeRungs F wish c output s) (done F wish c output s) (refused-past output)
     (λ h.
     let room = passed F wish c output s h .room in
     let f = front-stays (front F s c wish) output room in
@@ -101,17 +105,26 @@ encode-past F wish c output s =
     P : Out Took → Type 0
     P a = PastStays output (a .answer)
 
+-- the payload is the last so many bytes of the chunk
+pub encode-last : (F : List Row) (wish : Bool) (c output s : List ℕ)
+    → encoding F wish c output s .answer .payload ≡ drop (length c - length (encoding F wish c output s .answer .payload)) c
+unfolding encoding acceptRungs
+encode-last F wish c output s =
+    climbs-all (λ (a : Out Took). a .answer .payload ≡ drop (length c - length (a .answer .payload)) c) (refusing output s) (encodeRungs F wish c output s)
+    (done F wish c output s) (λ k. drop-last (length c) c [] (sym (drop-length c)))
+    (λ h. drop-last (top c .mdat .at + 8) c (payload c) (payload-behind (trackOf s) c (passed F wish c output s h .accepted .1 .0)))
+
 -- ---- the share's length
 
 -- what a delta goes by: a reference is held
-delta-held : (F : List Row) (s c : List ℕ) (wish : Bool) → givesDelta F s c wish ≡ true → eqb (getD s heldAt 0) 0 ≡ false
+pub delta-held : (F : List Row) (s c : List ℕ) (wish : Bool) → givesDelta F s c wish ≡ true → eqb (getD s heldAt 0) 0 ≡ false
 unfolding givesDelta mayDelta
 delta-held F s c wish h =
     let e = left _ _ h in
     not-true _ (and-left (not (eqb (getD s heldAt 0) 0)) (not (prft c .stands) || not (eqb (getD s prftAt 0) 0))
     (and-right wish (not (eqb (getD s heldAt 0) 0) && (not (prft c .stands) || not (eqb (getD s prftAt 0) 0))) e))
 
-bmdt-small : (F : List Row) (s c : List ℕ) (wish : Bool) → fitsOk F s c wish ≡ true → bmdt c ≤ 2 ^ 62 - 1
+pub bmdt-small : (F : List Row) (s c : List ℕ) (wish : Bool) → fitsOk F s c wish ≡ true → bmdt c ≤ 2 ^ 62 - 1
 unfolding fitsOk
 bmdt-small F s c wish h = leb-true _ _ (left _ _ h)
 
@@ -180,21 +193,25 @@ unfolding encodeRungs chunkRungs acceptRungs lateRungs lastRungs nonzero _and_
 encode-numbered F wish c output s = numbered (encodeRungs F wish c output s) refl
 
 -- where the answer is 0, every rule holds
-done-hold : (F : List Row) (wish : Bool) (c output s : List ℕ) → encoding F wish c output s .answer .number ≡ 0 → Hold (encodeRungs F wish c output s)
+pub done-hold : (F : List Row) (wish : Bool) (c output s : List ℕ) → encoding F wish c output s .answer .number ≡ 0 → Hold (encodeRungs F wish c output s)
 unfolding encoding
 done-hold F wish c output s e =
     all-hold (encodeRungs F wish c output s) (encode-numbered F wish c output s)
     (sym (ladder-seen (λ (a : Out Took). a .answer .number) (encodeRungs F wish c output s) (refusing output s) (done F wish c output s)) ∙ e)
 
-done-passed : (F : List Row) (wish : Bool) (c output s : List ℕ) → encoding F wish c output s .answer .number ≡ 0 → Passed F wish c output s
+pub done-passed : (F : List Row) (wish : Bool) (c output s : List ℕ) → encoding F wish c output s .answer .number ≡ 0 → Passed F wish c output s
 done-passed F wish c output s e = passed F wish c output s (done-hold F wish c output s e)
+
+pub done-is : (F : List Row) (wish : Bool) (c output s : List ℕ) → encoding F wish c output s .answer .number ≡ 0
+    → encoding F wish c output s ≡ done F wish c output s
+unfolding encoding
+done-is F wish c output s e =
+    climbed (refusing output s) (done F wish c output s) (encodeRungs F wish c output s) (done-hold F wish c output s e)
 
 -- the object is the one that the rules define
 pub encode-makes : EncodeMakes
-unfolding encoding
 encode-makes F wish c output s e =
-    let q : encoding F wish c output s ≡ done F wish c output s =
-    climbed (refusing output s) (done F wish c output s) (encodeRungs F wish c output s) (done-hold F wish c output s e) in
+    let q = done-is F wish c output s e in
     record {
       first =
           ap (λ (a : Out Took). take (a .answer .front) (a .answer .output)) q
@@ -215,7 +232,7 @@ block-most F wish c output s w b l h delta =
     (chunk-lawful F t c b (iv-right s (o .track)) (h .accepted) (bmdt-small F s c wish (h .fits))) (ranges (askedOf s) (o .track) .iv-size))
     (before-most F w 32 4356 _ _ (times-most F w delta s (prft c))
     (before-most F w 16 4340 _ _ (version-most F w delta s (prft c))
-    (before-most F w 84 4256 _ _ (brands-most F w 68 delta (brands c) (brands-length F t c (h .accepted)))
+    (before-most F w 84 4256 _ _ (brands-most F w 68 delta (brands c) (omega (arith, brands-few F t c (h .accepted) .0)))
     (before-most F w 16 4240 _ _ (flags-most F w delta s (prft c))
     (before-most F w 4112 128 _ _ (events-most F w 4096 (events t c) (list-few F t c (h .accepted)))
     (deletions-most F w t delta (drop setAt s) x))))))

@@ -26,7 +26,8 @@ use Rattle.encoder.specs.declared.front.Plan.{Plan}
 use Rattle.encoder.specs.Object.{givesDelta, front}
 use Rattle.encoder.specs.Encode.{refusing, lastRungs, kept, done}
 use Rattle.encoder.specs.Planned.{Encodable, PlannedAs}
-use Rattle.encoder.proofs.ChunkLaws.{payload-in, payload-lent}
+use Rattle.accepted.proofs.ChunkFacts.{payload-in}
+use Rattle.encoder.proofs.ChunkLaws.{payload-lent}
 
 -- a refusal, by what `refuse` says of it
 pub refused-is : (output s : List ℕ) (k : ℕ) {number length : ℕ} {part : List ℕ} → (number ≡ k) × (length ≡ 0) × (part ≡ [])

@@ -10,8 +10,8 @@ use lib.Dec.{eqb}
 use lib.ListN.{getD, take}
 use lib.Seq.{getD-take, take-take}
 use Rattle.laws.specs.Tests.{_and_}
-use Rattle.laws.specs.Ladder.{Rung, _else_, ladder}
-use Rattle.laws.proofs.LadderLaws.{Hold, ladder-seen, Numbered, all-hold, climbed, nonzero, numbered, hold-front, hold-back, agree}
+use Rattle.laws.specs.Ladder.{Rung, _else_, ladder, Hold}
+use Rattle.laws.proofs.LadderLaws.{ladder-seen, Numbered, all-hold, climbed, nonzero, numbered, hold-front, hold-back, agree}
 use Rattle.laws.proofs.TestLaws.{left, right, and-left, and-right}
 use Rattle.wire.specs.declared.form.Row.{Row}
 use Rattle.track.specs.declared.Track.{Track}

@@ -9,7 +9,7 @@ use borrow.Author.Tests.{eqb-true, eq-eqb, ne-eqb}
 use lib.Dec.{eqb}
 use lib.ListN.{length, getD}
 use lib.Seq.{slice, slice-empty}
-use Rattle.laws.proofs.LadderLaws.{Hold}
+use Rattle.laws.specs.Ladder.{Hold}
 use Rattle.laws.proofs.TestLaws.{right, and-right}
 use Rattle.wire.specs.declared.form.Row.{Row}
 use Rattle.track.specs.declared.Track.{Track}

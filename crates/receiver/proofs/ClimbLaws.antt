@@ -6,7 +6,8 @@ use mathlib.Core.Bool.{Bool, true}
 use mathlib.Core.List.{List, _++_}
 use borrow.Rule.Slice.PartAt.{part-to-end}
 use lib.ListN.{length}
-use Rattle.laws.proofs.LadderLaws.{Hold, numberOf, Numbered, all-hold, climbed-on, stopped-on}
+use Rattle.laws.specs.Ladder.{Hold}
+use Rattle.laws.proofs.LadderLaws.{numberOf, Numbered, all-hold, climbed-on, stopped-on}
 use Rattle.wire.specs.declared.form.Row.{Row}
 use Rattle.track.specs.declared.Track.{Track}
 use Rattle.fieldset.specs.Lines.{setLen}

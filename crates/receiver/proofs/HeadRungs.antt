@@ -7,7 +7,8 @@ use mathlib.Core.List.{List}
 use borrow.Author.Tests.{eqb-true, leb-true}
 use lib.Dec.{eqb, leb}
 use lib.ListN.{length, drop, length-drop}
-use Rattle.laws.proofs.LadderLaws.{Hold, numberOf, broken, passed}
+use Rattle.laws.specs.Ladder.{Hold}
+use Rattle.laws.proofs.LadderLaws.{numberOf, broken, passed}
 use Rattle.wire.specs.declared.form.Row.{Row}
 use Rattle.wire.specs.declared.varint.Got.{Got}
 use Rattle.wire.specs.declared.varint.Got.the-variants.{Value, Cut}

@@ -11,8 +11,8 @@ use lib.Dec.{leb}
 use lib.ListN.{length, getD, replicate, length-replicate, length-drop}
 use lib.ListN.{set as store}
 use Rattle.laws.specs.Tests.{_and_, allLe}
-use Rattle.laws.specs.Ladder.{Rung, ladder}
-use Rattle.laws.proofs.LadderLaws.{Hold, broken, passed, top}
+use Rattle.laws.specs.Ladder.{Rung, ladder, Hold}
+use Rattle.laws.proofs.LadderLaws.{broken, passed, top}
 use Rattle.laws.proofs.TestLaws.{left, and-left, and-right}
 use Rattle.wire.specs.declared.form.Row.{Row}
 use Rattle.track.specs.declared.Track.{Track}

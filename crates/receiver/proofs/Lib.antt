@@ -12,3 +12,5 @@ pub mod PassedLaws
 pub mod SameLaws
 pub mod Theorems
 pub mod AlikeTheorems
+pub mod ObjectBytes
+pub mod ObjectSplit

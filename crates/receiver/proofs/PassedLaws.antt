@@ -6,8 +6,8 @@ use mathlib.Core.List.{List, _∷_, _++_}
 use borrow.Author.Tests.{leb-true}
 use lib.Dec.{leb}
 use lib.ListN.{length}
-use Rattle.laws.specs.Ladder.{Rung, _else_}
-use Rattle.laws.proofs.LadderLaws.{Hold, hold-front, hold-back}
+use Rattle.laws.specs.Ladder.{Rung, _else_, Hold}
+use Rattle.laws.proofs.LadderLaws.{hold-front, hold-back}
 use Rattle.laws.proofs.TestLaws.{left, and-left, and-right}
 use Rattle.wire.specs.declared.form.Row.{Row}
 use Rattle.slots.specs.declared.share.Side.the-variants.{Receiver}

@@ -7,11 +7,11 @@ use mathlib.Core.List.{List, [], _∷_}
 use mathlib.Core.Option.{Option, none, some, Option·map}
 use borrow.Author.Tests.{leb-true, eqb-true}
 use lib.Dec.{eqb, leb}
-use lib.ListN.{length, take, drop, length-drop, take-append-drop}
+use lib.ListN.{length, drop, length-drop}
 use lib.Seq.{slice}
 use Rattle.laws.specs.Tests.{allLe}
-use Rattle.laws.proofs.LadderLaws.{Hold}
-use Rattle.laws.proofs.TestLaws.{left, right, allLe-append}
+use Rattle.laws.specs.Ladder.{Hold}
+use Rattle.laws.proofs.TestLaws.{low-slice}
 use Rattle.wire.specs.declared.form.Row.{Row}
 use Rattle.wire.specs.declared.varint.Got.{Got}
 use Rattle.wire.specs.declared.varint.Got.the-variants.{Value}
@@ -24,7 +24,7 @@ use Rattle.block.specs.Tuples.{partOf, tuplesRun, tuplesF}
 use Rattle.block.specs.Records.{number}
 use Rattle.block.specs.Index.{bytesOf}
 use Rattle.block.specs.Entries.{content, contents, entriesAt, onOption, body, entry, says}
-use Rattle.block.proofs.FrontLaws.{AllOf}
+use Rattle.laws.specs.Each.{AllOf}
 use Rattle.block.proofs.TupleRuns.{Proper, all-proper}
 use Rattle.receiver.specs.Object.{lengthAt, blockReads, blockLength, blockAt, blockEnd, headRungs, tuples, entries, saying}
 
@@ -90,12 +90,6 @@ all-of Q h (x ∷ xs) = (h x, all-of Q h xs)
 
 -- ---- bytes
 
--- a part keeps a bound
-part-le : (b f t : ℕ) (s : List ℕ) → allLe b s ≡ true → allLe b (slice f t s) ≡ true
-part-le b f t s h =
-    let front : allLe b (take t s) ≡ true = left _ _ (sym (ap (allLe b) (sym (take-append-drop t s)) ∙ allLe-append b (take t s) (drop t s)) ∙ h) in
-    right _ _ (sym (ap (allLe b) (sym (take-append-drop f (take t s))) ∙ allLe-append b (take f (take t s)) (drop f (take t s))) ∙ front)
-
 -- what is said of id 9 are bytes of the object
 pub raw-bytes : (F : List Row) (o : List ℕ) → allLe 255 o ≡ true → (zs : List ℕ) → saying F o 9 ≡ some zs → allLe 255 zs ≡ true
 unfolding body
@@ -104,7 +98,7 @@ raw-bytes F o h zs e =
     (λ t q u ws d.
     let p = partOf (t .kind) in
     let same : bytesOf o p ≡ ws = cc in
-    ap (allLe 255) (sym same) ∙ part-le 255 (p .at) (p .at + p .len) o h)
+    ap (allLe 255) (sym same) ∙ low-slice 255 (p .at) (p .at + p .len) o h)
     (all-of {A = Tuple} (λ t. Unit {0}) (λ t. tt) (tuplesRun F (blockAt F o) (slice (blockAt F o) (blockEnd F o) o) .items)) zs e
 
 -- ---- numbers

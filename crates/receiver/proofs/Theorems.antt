@@ -1,16 +1,18 @@
 -- Receiving an object: its numbers, what a refusal leaves, what the output holds, and that the share keeps its length and stays lawful. Assumes
 -- nothing.
-use Prim.Native.Nat.{ℕ, _<_, zero-le}
+use Prim.Native.Nat.{ℕ, _-_, _<_}
 use native.Mathlib.Omega.{arith}
 use mathlib.Core.Path.{_≡_, refl, sym, _∙_, ap, subst}
 use mathlib.Core.Bool.{Bool, true, false, _&&_}
-use mathlib.Core.List.{List, _∷_, _++_}
+use mathlib.Core.List.{List, [], _∷_, _++_}
 use borrow.Author.Tests.{le-leb}
 use lib.Dec.{leb}
-use lib.ListN.{length}
+use lib.ListN.{length, drop}
+use lib.Seq.{drop-length}
 use Rattle.laws.specs.Tests.{allLe}
 use Rattle.laws.specs.Ladder.{Rung, _else_, ladder, Given}
 use Rattle.laws.proofs.LadderLaws.{numberOf, given, climbs, ladder-append, ladder-seen, climbs-all}
+use Rattle.laws.proofs.SliceLaws.{drop-last}
 use Rattle.laws.proofs.WriteLaws.{front-stays}
 use Rattle.wire.specs.declared.form.Row.{Row}
 use Rattle.track.specs.Track.{u32}
@@ -26,9 +28,10 @@ use Rattle.slots.proofs.Apart.{apart, others-stay}
 use Rattle.reading.proofs.NewSetLaws.{taken-facts, new-lawful, new-long}
 use Rattle.object.proofs.ObjectLaws.{prft-lawful}
 use Rattle.exchange.specs.Took.{Took, refused, PastStays}
+use Rattle.exchange.proofs.TookLaws.{refused-past}
 use Rattle.exchange.proofs.OpenLaws.{Opened, opened-facts, held-facts, reference-long}
 use Rattle.exchange.proofs.AcceptedLaws.{Ranged, accepted-long, accepted-lawful}
-use Rattle.receiver.specs.Object.{isDelta, headRungs, saying}
+use Rattle.receiver.specs.Object.{blockEnd, isDelta, headRungs, saying, payload}
 use Rattle.receiver.specs.Receive.{afterRefusal, reference, bmdt, prft, newSet, heldOk, judgeRungs, sequence, chunk, accepted, refusing, done, roomRungs, receiveRungs, receiving}
 use Rattle.receiver.specs.Laws.{ReceiveExactly, ReceiveStaysLawful, Refused, ReceiveRefuses, ReceivePast}
 use Rattle.receiver.proofs.ShareFacts.{delta-held, iv-most}
@@ -89,7 +92,7 @@ receive-refuses F o output s =
 pub receive-past : ReceivePast
 unfolding receiving
 receive-past F o output s =
-    climbs-all P (refusing output s) (receiveRungs F o output s) (done F o output s) (λ k. record { room = zero-le; long = refl; past = refl })
+    climbs-all P (refusing output s) (receiveRungs F o output s) (done F o output s) (refused-past output)
     (λ h.
     let room = passed F o output s h .room in
     let f = front-stays (chunk F o s) output room in
@@ -97,6 +100,14 @@ receive-past F o output s =
   where
     P : Out Took → Type 0
     P a = PastStays output (a .answer)
+
+-- the payload is the last so many bytes of the object
+pub receive-last : (F : List Row) (o output s : List ℕ)
+    → receiving F o output s .answer .payload ≡ drop (length o - length (receiving F o output s .answer .payload)) o
+unfolding receiving payload
+receive-last F o output s =
+    climbs-all (λ (a : Out Took). a .answer .payload ≡ drop (length o - length (a .answer .payload)) o) (refusing output s) (receiveRungs F o output s)
+    (done F o output s) (λ k. drop-last (length o) o [] (sym (drop-length o))) (λ h. drop-last (blockEnd F o) o (payload F o) refl)
 
 -- ---- the share's length
 

@@ -2,3 +2,4 @@ pub mod Object
 pub mod Receive
 pub mod Judge
 pub mod Laws
+pub mod Parts

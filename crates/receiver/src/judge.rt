@@ -2,7 +2,7 @@
 ghost use mathlib.Core.Path.{_≡_};
 ghost use Prim.Native.Nat.{_+_, _-_, _≤_, _<_};
 ghost use lib.ListN.{length, replicate};
-ghost use Rattle.laws.proofs.LadderLaws.{Hold};
+ghost use Rattle.laws.specs.Ladder.{Hold};
 ghost use Rattle.wire.specs.Form.{rows};
 ghost use Rattle.fieldset.specs.Lines.{setLen};
 ghost use Rattle.reading.specs.Read.{setRungs, newWords};

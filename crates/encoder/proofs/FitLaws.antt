@@ -1,0 +1,55 @@
+-- What fits in the object that a chunk becomes: all its items, the events' times among them; and what a `prft` in a delta goes by. Assumes nothing.
+use Prim.Native.Nat.{ℕ}
+use mathlib.Core.Path.{_≡_, refl, sym, _∙_}
+use mathlib.Core.Bool.{Bool, true, false, false≢true, not, cond}
+use mathlib.Core.List.{List, [], _∷_}
+use mathlib.Core.Option.{none, some}
+use lib.Dec.{eqb}
+use lib.ListN.{getD}
+use Rattle.laws.proofs.TestLaws.{left, right, and-left, and-right}
+use Rattle.wire.specs.declared.form.Row.{Row}
+use Rattle.block.specs.Entries.{isSome}
+use Rattle.block.specs.Events.{Event, encEvents}
+use Rattle.block.specs.Written.{run}
+use Rattle.slots.specs.Share.{heldAt, prftAt, trackOf}
+use Rattle.emsgs.specs.Records.{timesFit}
+use Rattle.accepted.specs.Accepted.{prft, events}
+use Rattle.writing.specs.Items.{Items, _before_}
+use Rattle.writing.proofs.ItemLaws.{before-some}
+use Rattle.encoder.specs.Object.{eventItems, blockItems, mayDelta, givesDelta, fitsOk}
+
+-- where the items of events stand, their times fit
+events-fit : (F : List Row) (es : List Event) → isSome (eventItems F es) ≡ true → timesFit F es ≡ true
+unfolding eventItems timesFit
+events-fit F [] e = refl
+events-fit F (y ∷ ys) e = by (timesFit F (y ∷ ys)) e
+  where
+    by : (b : Bool) → isSome (cond b (some (run 25 (encEvents F (y ∷ ys)) ∷ [])) none) ≡ true → b ≡ true
+    by true q = refl
+    by false q = absurd (false≢true q)
+
+-- where items one after another are some, the later ones are
+past : (a b : Items) → isSome (a before b) ≡ true → isSome b ≡ true
+past a b e = and-right (isSome a) (isSome b) (sym (before-some a b) ∙ e)
+
+module _ (F : List Row) (s c : List ℕ) where
+  -- so those of the events, which stand before the last part of a block
+  pub times-fit : (delta : Bool) → isSome (blockItems F s c delta) ≡ true → timesFit F (events (trackOf s) c) ≡ true
+  unfolding blockItems
+  times-fit delta e =
+      events-fit F (events (trackOf s) c) (and-left _ _ (sym (before-some _ _) ∙ past _ _ (past _ _ (past _ _ (past _ _ (past _ _ e))))))
+
+  module _ (wish : Bool) where
+    -- all fits in the object that is given
+    pub gives-fits : fitsOk F s c wish ≡ true → isSome (blockItems F s c (givesDelta F s c wish)) ≡ true
+    unfolding fitsOk givesDelta
+    gives-fits h = by (givesDelta F s c wish) refl
+      where
+        by : (d : Bool) → givesDelta F s c wish ≡ d → isSome (blockItems F s c d) ≡ true
+        by true e = right _ _ e
+        by false e = rw e at (right _ _ h)
+
+    -- a delta has a `prft` only where the current full object has one
+    pub delta-prft : givesDelta F s c wish ≡ true → prft c .stands ≡ true → not (eqb (getD s prftAt 0) 0) ≡ true
+    unfolding givesDelta mayDelta
+    delta-prft e p = and-right (not (eqb (getD s heldAt 0) 0)) _ (and-right wish _ (rw p at (left _ _ e)))
