@@ -7,7 +7,7 @@ use mathlib.Core.Option.{Option, none, some}
 use lib.Dec.{eqb, ltb}
 use lib.IntN.{ℤ, pos, _-ℤ_}
 use lib.Seq.{slice}
-use Rattle.tree.specs.Numbers.{u16, u32}
+use Rattle.tree.specs.Numbers.{u16, u32, u64}
 use Rattle.track.specs.declared.Track.{Track}
 use Rattle.shape.specs.declared.parts.Part.{Part}
 use Rattle.shape.specs.declared.inner.Inner.{Inner}
@@ -18,7 +18,6 @@ use Rattle.chunk.specs.declared.outer.Prft.{Prft}
 use Rattle.chunk.specs.Front.{Event}
 use Rattle.prelude.specs.Prft.{prftOf}
 use Rattle.prelude.specs.Emsg.{emsgAt, schemeAt, schemeEnd, valueEnd}
-use Rattle.tree.specs.Numbers.{u64}
 use Rattle.fragment.specs.declared.defaults.Defaults.{Defaults}
 use Rattle.fragment.specs.declared.rows.Run.{Run}
 use Rattle.fragment.specs.Words.{bitOf}
@@ -69,11 +68,6 @@ entryAt c e at =
       map = cond (e .map) (some (pairsFrom c (pairsAt c e at) (at + e .iv + 2))) none;
     }
 
--- the place of the entry with the number i
-unfoldable pub entryPlace : List ℕ → Entries → ℕ → ℕ
-entryPlace c e zero = e .at
-entryPlace c e (suc i) = entryPlace c e i + lengthAt c e (entryPlace c e i)
-
 -- a number of 32 bits with a sign
 unfoldable pub signed : ℕ → ℤ
 signed v = cond (ltb v 0x8000_0000) (pos v) (pos v -ℤ pos 0x1_0000_0000)
@@ -84,6 +78,9 @@ module _ (t : Track) (c : List ℕ) (f : Inner) where
 
   abbrev pub run : Run
   run = runOf c (f .trun)
+
+  abbrev pub entries : Entries
+  entries = entriesOf t c (f .senc)
 
   -- a column's value, or the default's
   unfoldable pub columnAt : ℕ → ℕ → ℕ → ℕ
@@ -101,25 +98,25 @@ module _ (t : Track) (c : List ℕ) (f : Inner) where
       (cond (eqb (run .word / 0x100_0000) 1) (signed (cell c run offsets i)) (pos (cell c run offsets i)))
       (pos 0)
 
+  -- how the entry at a place of the `senc`, where one stands, protects its sample
   unfoldable pub protectionAt : ℕ → Option Protection
-  protectionAt i =
-      let e = entriesOf t c (f .senc) in
-      cond (eqb (f .senc .len) 0) none (some (entryAt c e (entryPlace c e i)))
+  protectionAt at = cond (eqb (f .senc .len) 0) none (some (entryAt c entries at))
 
-  unfoldable pub sampleAt : ℕ → Sample
-  sampleAt i =
+  -- the sample with the number i, whose entry is at a place
+  unfoldable pub sampleAt : ℕ → ℕ → Sample
+  sampleAt i at =
       record {
         size = sizeAt c run (defaults .size) i;
         duration = columnAt durations (defaults .duration) i;
         offset = offsetAt i;
         flags = flagsAt i;
-        protection = protectionAt i;
+        protection = protectionAt at;
       }
 
-  -- k samples from the number i on
-  unfoldable pub samplesFrom : ℕ → ℕ → List Sample
-  samplesFrom zero i = []
-  samplesFrom (suc k) i = sampleAt i ∷ samplesFrom k (suc i)
+  -- k samples from the number i on, whose entries follow one another from a place on
+  unfoldable pub samplesFrom : ℕ → ℕ → ℕ → List Sample
+  samplesFrom zero i at = []
+  samplesFrom (suc k) i at = sampleAt i at ∷ samplesFrom k (suc i) (at + lengthAt c entries at)
 
 -- ---- the boxes before the moof
 
@@ -154,7 +151,7 @@ meaningOf t c =
     record {
       bmdt = bmdtOf c (f .tfdt);
       description = defaultsOf t c (f .tfhd) .description;
-      samples = samplesFrom t c f (runOf c (f .trun) .count) 0;
+      samples = samplesFrom t c f (runOf c (f .trun) .count) 0 (entriesOf t c (f .senc) .at);
       prft = prftOf c (top .prft);
       events = eventsFrom c (top .events) (top .emsgs .at);
       brands = stypOf c (top .styp);
