@@ -1,0 +1,5 @@
+pub mod SizeGives
+pub mod SencWalk
+pub mod SumGives
+pub mod EventGives
+pub mod Gives

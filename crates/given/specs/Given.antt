@@ -1,0 +1,84 @@
+-- What a chunk that no rule refuses gives: all that an object is made of.
+use Prim.Native.Nat.{ℕ, _-_, _%_, _^_, _≤_}
+use mathlib.Core.Path.{_≡_}
+use mathlib.Core.Bool.{true, false}
+use mathlib.Core.List.{List, [], _∷_}
+use lib.ListN.{length, getD}
+use Rattle.laws.specs.Tests.{allLe, noZero}
+use Rattle.laws.specs.Ladder.{Hold}
+use Rattle.wire.specs.declared.form.Row.{Row}
+use Rattle.wire.specs.declared.form.Form.the-variants.{Rfc9000}
+use Rattle.wire.specs.Form.{rows}
+use Rattle.track.specs.declared.Track.{Track}
+use Rattle.track.specs.Track.{u32, ivOk}
+use Rattle.fieldset.specs.Lines.{setLen, bmdtAt}
+use Rattle.fieldset.specs.Lawful.{has, lawful}
+use Rattle.protected.specs.Protected.{valueAt, countIn}
+use Rattle.chunk.specs.declared.outer.Prft.{Prft}
+use Rattle.chunk.specs.Front.{Event as Box, sizeOf}
+use Rattle.fragment.specs.Samples.{eachFrom}
+use Rattle.gather.specs.Set.{allSame}
+use Rattle.emsgs.specs.Records.{allSent, listBytes}
+use Rattle.object.specs.Prft.{noPrft, mediaMost}
+use Rattle.object.specs.Sums.{sizesOk, protectedOk}
+use Rattle.accepted.specs.Accepted.{bmdt, prft, brands, boxes, payload, fields, acceptRungs}
+
+-- the form of numbers on the wire
+abbrev pub F : List Row
+F = rows Rfc9000
+
+-- a `prft` as its box has it; nothing is stored of one that doesn't stand
+pub record BoxedPrft (p : Prft) : Type 0 where
+  pub none : p .stands ≡ false → p ≡ noPrft true .prft
+  pub ntp : p .ntp ≤ 2 ^ 64 - 1
+  pub media : p .media ≤ mediaMost (p .version)
+  pub version : p .version ≤ 1
+  pub flags : p .flags ≤ 2 ^ 24 - 1
+
+-- an event as its box has it
+pub record BoxedEvent (e : Box) : Type 0 where
+  pub scale : e .timescale ≡ 0 → ⊥
+  pub scale-low : e .timescale ≤ u32
+  pub time : e .time ≤ 2 ^ 64 - 1
+  pub duration : e .duration ≤ u32
+  pub id : e .id ≤ u32
+  pub scheme : noZero (e .scheme) ≡ true
+  pub value : noZero (e .value) ≡ true
+  pub scheme-bytes : allLe 255 (e .scheme) ≡ true
+  pub value-bytes : allLe 255 (e .value) ≡ true
+  pub message-bytes : allLe 255 (e .message) ≡ true
+
+abbrev pub AllBoxed : List Box → Type 0
+AllBoxed [] = Unit {0}
+AllBoxed (e ∷ es) = BoxedEvent e × AllBoxed es
+
+-- a set that a chunk with n bytes of payload gives: a lawful one that says nothing that its absence would say
+pub record Canonical (t : Track) (w : List ℕ) (n : ℕ) : Type 0 where
+  pub long : length w ≡ setLen
+  pub is-lawful : lawful t w ≡ true
+  pub description : has 2 w ≡ true → valueAt 2 0 w ≡ t .description → ⊥
+  pub duration : has 4 w ≡ true → valueAt 4 0 w ≡ t .duration → ⊥
+  pub flags : has 8 w ≡ true → valueAt 8 0 w ≡ t .flags → ⊥
+  pub several : has 6 w ≡ true → 2 ≤ countIn w
+  pub size : has 6 w ≡ true → valueAt 6 0 w ≡ t .size → t .size ≡ 0
+  pub unequal : has 1 w ≡ true → allSame (sizeOf t w n 0) (eachFrom (sizeOf t w n) (countIn w) 0) ≡ false
+  pub no-iv-size : has 16 w ≡ false
+  pub sizes : sizesOk t w n ≡ true
+  pub protected : protectedOk t w n ≡ true
+
+-- all that an object is made of, with the maxima
+pub record Given (t : Track) (w : List ℕ) (p : Prft) (es : List Box) (names bs : List ℕ) : Type 0 where
+  pub set : Canonical t w (length bs)
+  pub prft : BoxedPrft p
+  pub boxed : AllBoxed es
+  pub few : length es ≤ 16
+  pub names-few : length names ≤ 64
+  pub fours : length names % 4 ≡ 0
+  pub bytes : (allLe 255 names ≡ true) × (allLe 255 bs ≡ true)
+  pub short : length bs ≤ 16777216
+  pub list-short : listBytes F (allSent t (getD w bmdtAt 0) es) ≤ 4096
+
+-- of any chunk that no rule refuses
+abbrev pub ChunkGives : Type 0
+ChunkGives = (t : Track) (c : List ℕ) → allLe 255 c ≡ true → ivOk (t .protection) (t .«iv_size») ≡ true → Hold (acceptRungs F t c)
+    → bmdt c ≤ 2 ^ 62 - 1 → Given t (fields t c) (prft c) (boxes c) (brands c) (payload c)
