@@ -1,0 +1,97 @@
+-- The items of a chunk's block tell of each id what is said of it: the laws on reading go by what is said, and not by items. Assumes nothing.
+use Prim.Native.Nat.{ℕ, suc, _≤_, _<_}
+use native.Mathlib.Omega.{arith}
+use mathlib.Core.Path.{_≡_, refl, sym, _∙_, ap}
+use mathlib.Core.Bool.{Bool, true, false, cond}
+use mathlib.Core.List.{List, [], _∷_}
+use mathlib.Core.Option.{none, some}
+use borrow.Author.Tests.{lt-ltb, le-leb, lt-leb, ltb-true}
+use lib.Dec.{ltb}
+use lib.ListN.{getD, drop}
+use Rattle.laws.specs.Tests.{_and_}
+use Rattle.wire.specs.declared.form.Form.the-variants.{Rfc9000}
+use Rattle.wire.specs.declared.zigzag.Coding.the-variants.{Plain}
+use Rattle.wire.specs.Zigzag.{wireOf}
+use Rattle.wire.proofs.FormLaws.{lawful}
+use Rattle.block.specs.Index.{known}
+use Rattle.block.specs.Events.{Event, encEvents, AllSayable}
+use Rattle.block.specs.Written.{run}
+use Rattle.block.proofs.EventsWritten.{body-events}
+use Rattle.block.proofs.WiresLaws.{plain-wires}
+use Rattle.fieldset.specs.Lines.{lines, spare, every}
+use Rattle.fieldset.proofs.LineLaws.{line-count, every-at}
+use Rattle.slots.specs.Share.{setAt, trackOf}
+use Rattle.fields.specs.Said.{Says}
+use Rattle.reading.specs.Deletions.{moofField}
+use Rattle.emsgs.specs.Records.{timesFit}
+use Rattle.accepted.specs.Accepted.{brands, fields}
+use Rattle.writing.specs.Items.{listOf}
+use Rattle.writing.specs.Changes.{lineItems}
+use Rattle.writing.specs.Fields.{linesItems, bmdtItems, countItems, fieldItems, deletionItems}
+use Rattle.writing.specs.Prft.{timesItems, unlessItems, versionItems, flagsItems}
+use Rattle.encoder.specs.Object.{brandItems, eventItems, blockItems}
+use Rattle.given.specs.Given.{F}
+use Rattle.reread.specs.Telling.{Tell, Tells}
+use Rattle.reread.specs.Block.{eventSays, blockSays}
+use Rattle.reread.proofs.Known.{Known}
+use Rattle.reread.proofs.BlockSaid.{line-said}
+use Rattle.reread.proofs.TellingLaws.{done, wide, _then_, gap, tell-all}
+use Rattle.reread.proofs.PartsTell.{numeric, odd, bytesAs, lineReads, bytes-tell, bare-tells, list-tells, tells-if, number-if, line-tells}
+
+-- the records of events
+events-tell : {f : Says} (es : List Event) → AllSayable F es → f 25 ≡ eventSays es → Tells f 25 26 (eventItems F es)
+unfolding eventItems odd known _and_
+events-tell [] h e = gap e done
+events-tell {f} (y ∷ ys) h e = go (timesFit F (y ∷ ys))
+  where
+    go : (b : Bool) → Tells f 25 26 (cond b (some (run 25 (encEvents F (y ∷ ys)) ∷ [])) none)
+    go true = bytes-tell 25 _ _ refl (body-events F (lawful Rfc9000) (y ∷ ys) h) e
+    go false = wide
+
+-- ---- the table of fields
+
+all-read : every lineReads lines ≡ true
+unfolding every lines lineReads numeric bytesAs odd known _and_
+all-read = refl
+
+module _ {s c : List ℕ} {delta : Bool} (k : Known s c delta) where
+  abbrev f : Says
+  f = blockSays s c delta
+
+  line : (i : ℕ) → ltb i 14 ≡ true → let l = getD lines i spare in
+      Tells f (l .id) (suc (l .id)) (lineItems (trackOf s) delta (drop setAt s) (fields (trackOf s) c) l F)
+  line i e =
+      let lt : i < 14 = ltb-true _ _ e in
+      line-tells _ _ _ _ (getD lines i spare) (every-at lineReads lines i spare all-read (omega (arith, line-count))) (line-said k i lt)
+
+  -- nothing is said of an id past the last
+  past : (id : ℕ) → 28 ≤ id → f id ≡ none
+  unfolding blockSays moofField
+  past id le = rw (le-leb 1 id (omega arith), lt-leb id 16 (omega arith), lt-ltb 27 id le)
+
+  -- ---- the parts
+
+  fields-tell : Tells f 1 17 (fieldItems F (trackOf s) delta (drop setAt s) (fields (trackOf s) c))
+  unfolding fieldItems linesItems lines bmdtItems countItems blockSays moofField numeric known wireOf _and_
+  fields-tell =
+      (line 0 refl then line 1 refl then line 2 refl then line 3 refl then line 4 refl
+      then line 5 refl then line 6 refl then line 7 refl then line 8 refl then done)
+      then number-if 10 _ _ _ _ refl refl
+      then (line 9 refl then line 10 refl then line 11 refl then done)
+      then number-if 14 _ _ _ _ refl refl
+      then (line 12 refl then line 13 refl then done)
+
+  -- the whole block, and the ids between its parts
+  pub tell-block : Tell f 0 (listOf (blockItems F s c delta))
+  unfolding blockItems timesItems versionItems flagsItems unlessItems brandItems deletionItems blockSays moofField numeric bytesAs odd known _and_
+  tell-block =
+      tell-all
+      (gap refl
+      (fields-tell
+      then (gap refl (number-if 18 _ _ _ _ refl refl) then gap refl (number-if 20 _ _ _ _ refl refl))
+      then gap refl (number-if 22 _ _ _ _ refl refl)
+      then tells-if 23 _ _ _ refl (bare-tells 23 (brands c) refl)
+      then number-if 24 _ _ _ _ refl refl
+      then events-tell _ (k .sayable) refl
+      then gap refl (tells-if 27 _ _ _ refl (λ e. list-tells 27 Plain 0 [] _ refl (e ∙ ap some (sym (plain-wires 0 _)))))))
+      (k .fits) past

@@ -1,0 +1,142 @@
+-- A field that was written is read as the field of the new set, whichever it is, sent, deleted or omitted. Assumes nothing.
+use Prim.Native.Nat.{ℕ, _+_, _*_, _<_}
+use native.Mathlib.Nat.{add-sub-cancel-left}
+use native.Mathlib.Omega.{arith}
+use mathlib.Core.Path.{_≡_, refl, sym, _∙_, ap}
+use mathlib.Core.Bool.{Bool, true, false, false≢true, not, _&&_, _||_}
+use mathlib.Core.List.{List, [], _∷_}
+use mathlib.Core.Option.{some}
+use borrow.Author.Tests.{leb-true, eqb-true, eq-eqb, ne-eqb, not-true}
+use borrow.Table.Steps.{cases}
+use lib.Dec.{eqb}
+use lib.ListN.{length, getD}
+use lib.Seq.{length-slice}
+use Rattle.laws.specs.Tests.{_and_, allLe}
+use Rattle.laws.proofs.TestLaws.{left, both-of}
+use Rattle.wire.specs.declared.zigzag.Coding.{Coding}
+use Rattle.wire.proofs.ZigzagLaws.{back}
+use Rattle.runs.specs.Run.{first}
+use Rattle.block.specs.Wires.{wires}
+use Rattle.block.proofs.WiresLaws.{wires-length, steps-back}
+use Rattle.track.specs.declared.Track.{Track}
+use Rattle.fieldset.specs.declared.lines.Line.{Line}
+use Rattle.fieldset.specs.declared.lines.Want.{Want}
+use Rattle.fieldset.specs.Lines.{lines, spare, every, wanted, absentValue, u64}
+use Rattle.fieldset.specs.Lawful.{measureOf}
+use Rattle.fieldset.proofs.LineLaws.{line-count, every-at}
+use Rattle.fieldset.proofs.LawfulLaws.{lawful-region}
+use Rattle.fieldset.proofs.RegionLaws.{used}
+use Rattle.fields.proofs.SetWords.{fieldIn}
+use Rattle.fields.specs.Said.{Saying, omitted, sent}
+use Rattle.fields.specs.Cells.{Came, well, codingFor, codingOf, isIvs, packed, stood, oldValues, carried, sentOne, sentList, cellOf}
+use Rattle.fields.specs.Words.{wasOf}
+use Rattle.writing.specs.Items.{wideBytes}
+use Rattle.writing.specs.Changes.{same, basisOf, stands, news, olds, changeOf, Writable}
+use Rattle.writing.proofs.FieldLaws.{Field, field-of}
+use Rattle.writing.proofs.SameLoop.{same-is}
+use Rattle.writing.proofs.WideLaws.{wide-length, packed-back}
+use Rattle.reread.specs.Sayings.{sentNumbers, lineSays, lineSaying}
+
+-- a list of one number
+alone : (vs : List ℕ) → length vs ≡ 1 → vs ≡ getD vs 0 0 ∷ []
+alone [] e = absurd (omega arith)
+alone (v ∷ []) e = refl
+alone (v ∷ u ∷ vs) e = absurd (omega arith)
+
+-- IVs have 64 bits a word
+ivsWide : Line → Bool
+ivsWide l = not (isIvs (l .want)) || eqb (l .bound) u64
+
+all-wide : every ivsWide lines ≡ true
+unfolding every lines ivsWide _and_
+all-wide = refl
+
+module _ {t : Track} {delta : Bool} {r x : List ℕ} (w : Writable t delta r x) (i : ℕ) (lt : i < 14) where
+  abbrev l : Line
+  l = getD lines i spare
+
+  f : Field t (basisOf t delta r x) r x l
+  f = field-of t (basisOf t delta r x) r x i l (w, refl) (lt, refl)
+
+  -- the values, as many as there were and are to be
+  abbrev old : List ℕ
+  old = olds t delta r x l
+
+  abbrev new : List ℕ
+  new = news t delta r x l
+
+  abbrev j : ℕ
+  j = wanted (l .want) (wasOf t delta r)
+
+  abbrev k : ℕ
+  k = wanted (l .want) (measureOf t x)
+
+  abbrev coding : Coding
+  coding = codingOf (codingFor delta) (l .absent)
+
+  abbrev base : ℕ
+  base = absentValue t (l .absent)
+
+  abbrev cell : Saying → Came
+  cell s = cellOf t (codingFor delta) delta r (wasOf t delta r) l (measureOf t x) s
+
+  new-length : length new ≡ k
+  new-length = length-slice (l .place + 1) (l .place + 1 + k) x (omega (arith, f .here, f .new-room)) ∙ add-sub-cancel-left (l .place + 1) k
+
+  old-length : stood delta r l ≡ true → length old ≡ j
+  unfolding oldValues
+  old-length e = rw e (length-slice (l .place + 1) (l .place + 1 + j) r (omega (arith, f .there, f .old-room)) ∙ add-sub-cancel-left (l .place + 1) j)
+
+  -- the new values keep their bound
+  within : stands t delta r x l ≡ true → allLe (l .bound) new ≡ true
+  within e =
+      let z : getD x (l .place) 0 ≡ 0 → ⊥ = λ q. false≢true (sym (ap not (eq-eqb (getD x (l .place) 0) 0 q)) ∙ e) in
+      rw (← used (getD x (l .place) 0) k z) at (lawful-region t x i (w .new) lt .values)
+
+  -- where there is room for one value, there is one
+  one-value : l .room ≡ 1 → new ≡ getD new 0 0 ∷ []
+  unfolding wanted
+  one-value e = alone new (new-length ∙ ap (λ (q : Want). wanted q (measureOf t x)) (f .single e))
+
+  wide-bound : isIvs (l .want) ≡ true → l .bound ≡ u64
+  unfolding ivsWide
+  wide-bound e = eqb-true _ _ (rw e at (every-at ivsWide lines i spare all-wide (omega (arith, line-count))))
+
+  -- a field that is omitted is what it was
+  kept-back : (stood delta r l && (not (isIvs (l .want)) && same old new)) ≡ true → cell omitted ≡ well (some new)
+  unfolding cellOf carried
+  kept-back e =
+      let (s, more) = both-of (stood delta r l) (not (isIvs (l .want)) && same old new) e in
+      let (v, is) = both-of (not (isIvs (l .want))) (same old new) more in
+      let q : old ≡ new = same-is _ _ is in
+      let m : j ≡ k = sym (old-length s) ∙ ap length q ∙ new-length in
+      rw (s, not-true (isIvs (l .want)) v, eq-eqb j k m, q)
+
+  -- one that is sent: IVs, a value, or a list
+  sent-back : stands t delta r x l ≡ true → cell (sent (sentNumbers t delta r x l)) ≡ well (some new)
+  unfolding cellOf sentNumbers sentList sentOne allLe
+  sent-back s =
+      cases (isIvs (l .want))
+      (λ a.
+      let o : eqb (l .room) 1 ≡ false = ne-eqb _ _ (λ q. false≢true (sym (ap isIvs (f .single q)) ∙ a)) in
+      let n : length (wideBytes new) ≡ 8 * k = wide-length new ∙ ap (λ (m : ℕ). 8 * m) new-length in
+      let p : packed k (wideBytes new) ≡ new =
+      ap (λ (m : ℕ). packed m (wideBytes new)) (sym new-length) ∙ packed-back new (rw (wide-bound a) at (within s)) in
+      rw (a, o, eq-eqb (length (wideBytes new)) (8 * k) n, p))
+      (λ a.
+      cases (eqb (l .room) 1)
+      (λ o.
+      let v : ℕ = getD new 0 0 in
+      let one : new ≡ v ∷ [] = one-value (eqb-true _ _ o) in
+      rw (a, o, one, back coding (first base old) v (l .bound) (leb-true _ _ (left _ _ (rw one at (within s))))))
+      (λ o.
+      let n : length (wires coding base old new) ≡ k = wires-length coding base old new ∙ new-length in
+      rw (a, o, eq-eqb (length (wires coding base old new)) k n, steps-back coding base (l .bound) old new (within s))))
+
+  -- whichever; one that is deleted, or was never there, isn't there
+  pub field-back : cell (lineSaying t delta r x l) ≡ well (fieldIn t x l)
+  unfolding lineSaying lineSays changeOf cellOf
+  field-back =
+      cases (stands t delta r x l)
+      (λ a. cases (stood delta r l && (not (isIvs (l .want)) && same old new)) (λ e. rw (a, e) (kept-back e)) (λ e. rw (a, e) (sent-back a)))
+      (λ a. cases (stood delta r l) (λ o. rw (a, o)) (λ o. rw (a, o) (rw o)))

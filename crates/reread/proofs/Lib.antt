@@ -1,0 +1,12 @@
+pub mod EventsRead
+pub mod Known
+pub mod TellingLaws
+pub mod PartsTell
+pub mod BlockSaid
+pub mod BlockTells
+pub mod FieldRead
+pub mod DeletionsRead
+pub mod SetRead
+pub mod PrftRead
+pub mod ObjectParts
+pub mod ObjectRead

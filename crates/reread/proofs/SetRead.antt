@@ -1,0 +1,121 @@
+-- The set that is read from the object is the set that was written, and no rule on fields refuses it. Assumes nothing.
+use Prim.Native.Nat.{ℕ, _<_}
+use native.Mathlib.Omega.{arith}
+use mathlib.Core.Path.{_≡_, refl, sym, _∙_, ap}
+use mathlib.Core.Bool.{Bool, true, false, not, cond}
+use mathlib.Core.List.{List, _∷_}
+use mathlib.Core.Option.{none, some}
+use borrow.Author.Tests.{le-leb, eqb-true, eqb-false}
+use lib.Dec.{eqb, leb}
+use lib.ListN.{getD, set}
+use lib.Seq.{getD-set-other}
+use Rattle.laws.specs.Tests.{sum}
+use Rattle.laws.proofs.TestLaws.{both}
+use Rattle.laws.specs.Ladder.{Hold}
+use Rattle.block.specs.Entries.{isSome}
+use Rattle.track.specs.declared.Track.{Track}
+use Rattle.fieldset.specs.Lines.{lines, spare, lineFor, every, bmdtAt, countAt}
+use Rattle.fieldset.specs.Lawful.{has, valuesOf, marksOf, saizOk, setRules, sameIvSize, measureOf}
+use Rattle.fieldset.proofs.LawfulLaws.{Lawful, lawful-facts, lawful-region}
+use Rattle.fieldset.proofs.LineLaws.{line-count, every-holds}
+use Rattle.fields.specs.Said.{Says, numbers, sayingOf}
+use Rattle.fields.specs.Cells.{Held, Came, well}
+use Rattle.fields.specs.Words.{setWords}
+use Rattle.fields.proofs.SetLaws.{map-same, eleven-for, words-bmdt}
+use Rattle.fields.proofs.SetWords.{fieldIn, set-words, held-values, regions-same}
+use Rattle.reading.specs.Read.{countOf, cameOf, subsamples, came, stands, marks, newWords, fieldRungs, setRungs}
+use Rattle.reading.proofs.CameLaws.{came-early, came-stands}
+use Rattle.writing.specs.Changes.{news, Writable}
+use Rattle.writing.proofs.GoneIds.{gone-is}
+use Rattle.reread.specs.Sayings.{lineSaying, SetSaid}
+use Rattle.reread.proofs.FieldRead.{field-back}
+use Rattle.reread.proofs.DeletionsRead.{deletions-hold}
+
+module _ {t : Track} {delta : Bool} {r x : List ℕ} {f : Says} (w : Writable t delta r x) (h : SetSaid t delta r x f) where
+  abbrev n : ℕ
+  n = getD x countAt 0
+
+  facts : Lawful t x
+  facts = lawful-facts t x (w .new)
+
+  count-is : countOf t delta r f ≡ n
+  unfolding countOf
+  count-is = rw (h .count)
+
+  -- ---- the fields
+
+  came-is : (i : ℕ) → i < 14 → cameOf t delta r f (measureOf t x) (getD lines i spare) ≡ well (fieldIn t x (getD lines i spare))
+  unfolding cameOf sayingOf lineSaying
+  came-is i lt = rw (h .line i lt, h .gone, gone-is t delta r x i lt) (field-back w i lt)
+
+  -- the subsample counts, on which the lengths of two fields go
+  counts-are : subsamples t delta r f ≡ valuesOf 11 n x
+  unfolding subsamples lines
+  counts-are =
+      rw (eleven-for, count-is)
+      (ap (λ (z : Came). numbers (z .field))
+      (came-early t delta r f n _ 0 (getD lines 9 spare) (λ e. let no : _≡_ {A = ℕ} 0 1 = cc in absurd (omega arith)) ∙ came-is 9 (omega arith))
+      ∙ held-values t x)
+
+  field-is : (i : ℕ) → i < 14 → came t delta r f (getD lines i spare) ≡ well (fieldIn t x (getD lines i spare))
+  unfolding came
+  field-is i lt = rw (count-is, counts-are) (came-is i lt)
+
+  -- a field stands where its mark is 1
+  mark-is : (i : ℕ) → i < 14 → cond (stands t delta r f (getD lines i spare)) 1 0 ≡ getD x (getD lines i spare .place) 0
+  mark-is i lt = rw ((rw (came-is i lt) at (came-stands t delta r f (measureOf t x) (getD lines i spare))) refl refl refl) (by (eqb mark 0) refl)
+    where
+      mark : ℕ
+      mark = getD x (getD lines i spare .place) 0
+
+      by : (b : Bool) → eqb mark 0 ≡ b → cond (isSome (cond (not b) (some (news t delta r x (getD lines i spare))) none)) 1 0 ≡ mark
+      by true e = sym (eqb-true _ _ e)
+      by false e = let z : mark ≡ 0 → ⊥ = eqb-false _ _ e in omega (arith, lawful-region t x i (w .new) lt .mark)
+
+  marks-are : marks t delta r f ≡ marksOf x
+  unfolding marksOf
+  marks-are = map-same _ _ lines (λ i lt. mark-is i (omega (arith, line-count)))
+
+  -- ---- the words
+
+  words-are : (b : ℕ) → newWords t delta r f b ≡ setWords b n (fieldIn t x)
+  unfolding setWords
+  words-are b =
+      rw count-is
+      (ap (λ (z : List ℕ). b ∷ n ∷ z) (regions-same _ _ lines (λ i lt. ap (λ (z : Came). z .field) (field-is i (omega (arith, line-count))))))
+
+  -- the set that is read is the set that was written
+  pub set-back : newWords t delta r f (getD x bmdtAt 0) ≡ x
+  set-back = words-are (getD x bmdtAt 0) ∙ set-words t x (w .new-words) (w .new)
+
+  iv-size : sameIvSize t (newWords t delta r f 0) ≡ true
+  unfolding sameIvSize has lines lineFor
+  iv-size =
+      let zero : newWords t delta r f 0 ≡ set x 0 0 =
+      words-are 0 ∙ sym (words-bmdt (getD x 0 0) 0 n (fieldIn t x)) ∙ ap (λ (z : List ℕ). set z 0 0) (set-words t x (w .new-words) (w .new)) in
+      rw (zero, getD-set-other x 0 979 0 0 (λ e. omega arith), getD-set-other x 0 980 0 0 (λ e. omega arith)) (facts .iv-size)
+
+  -- ---- the rules
+
+  cells-right : (p : Came → Bool) → ((h : Held) → p (well h) ≡ true) → every (λ l. p (came t delta r f l)) lines ≡ true
+  cells-right p k =
+      every-holds (λ l. p (came t delta r f l)) lines (λ i lt. ap p (field-is i (omega (arith, line-count))) ∙ k (fieldIn t x (getD lines i spare)))
+
+  fields-hold : Hold (fieldRungs t delta r f)
+  unfolding fieldRungs
+  fields-hold =
+      let within : came t delta r f (lineFor 11 lines) .cell .within ≡ true = rw (eleven-for, field-is 9 (omega arith)) refl in
+      let sizes : saizOk (t .«iv_size») (subsamples t delta r f) ≡ true = rw counts-are (facts .saiz) in
+      let few : leb (sum (subsamples t delta r f)) 256 ≡ true = rw counts-are (le-leb _ _ (facts .subsamples)) in
+      let rules : setRules t (countOf t delta r f) (marks t delta r f) ≡ true = rw (count-is, marks-are) (facts .rules) in (
+        both _ _ (cells-right (λ z. z .cell .first) (λ h. refl)) (h .brands),
+        (
+          both _ _ within (both _ _ sizes few),
+          (both _ _ (cells-right (λ z. z .cell .second) (λ h. refl)) rules, (both _ _ (cells-right (λ z. z .cell .within) (λ h. refl)) iv-size, tt)),
+        ),
+      )
+
+  -- no rule on the set refuses it
+  pub set-holds : Hold (setRungs t delta r f)
+  unfolding setRungs
+  set-holds = (deletions-hold h, (rw (h .count) refl, fields-hold))

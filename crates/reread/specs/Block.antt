@@ -1,0 +1,62 @@
+-- What the block of a chunk's object says of each id: the chunk c on the share s, as a delta or in full.
+use Prim.Native.Nat.{ℕ}
+use mathlib.Core.Bool.{Bool, cond, not, _&&_}
+use mathlib.Core.List.{List, [], _∷_}
+use mathlib.Core.Option.{Option, none, some}
+use lib.Dec.{eqb, ltb}
+use lib.ListN.{length, getD, drop}
+use Rattle.wire.specs.Zigzag.{wireOf}
+use Rattle.block.specs.Events.{Event, encEvents}
+use Rattle.track.specs.declared.Track.{Track}
+use Rattle.fieldset.specs.Lines.{lines, lineFor, bmdtAt, countAt}
+use Rattle.slots.specs.Share.{ntpAt, mediaTimeAt, versionAt, prftFlagsAt, setAt, trackOf}
+use Rattle.fields.specs.Said.{Says}
+use Rattle.fields.specs.Cells.{codingFor}
+use Rattle.reading.specs.Deletions.{moofField}
+use Rattle.object.specs.Prft.{keptFor}
+use Rattle.accepted.specs.Accepted.{prft, brands, events, fields}
+use Rattle.writing.specs.Fields.{goneOf, bmdtStands, countStands}
+use Rattle.given.specs.Given.{F}
+use Rattle.reread.specs.Sayings.{lineSays}
+
+-- numbers that stand under a condition
+abbrev pub saidIf : Bool → List ℕ → Option (List ℕ)
+saidIf b zs = cond b (some zs) none
+
+-- the records of events, where there are any
+abbrev pub eventSays : List Event → Option (List ℕ)
+eventSays [] = none
+eventSays (e ∷ es) = some (encEvents F (e ∷ es))
+
+module _ (s c : List ℕ) (delta : Bool) where
+  abbrev t : Track
+  t = trackOf s
+
+  abbrev r : List ℕ
+  r = drop setAt s
+
+  abbrev x : List ℕ
+  x = fields t c
+
+  -- a number against the one that was
+  abbrev against : ℕ → ℕ → List ℕ
+  against old new = wireOf (codingFor delta) old new ∷ []
+
+  -- a number of the `prft` that stands unless it is the usual one
+  abbrev unless : ℕ → ℕ → Option (List ℕ)
+  unless usual v = saidIf (prft c .stands && not (eqb v usual)) (against usual v)
+
+  unfoldable pub blockSays : Says
+  blockSays id =
+      cond (moofField id) (lineSays t delta r x (lineFor id lines))
+      (cond (ltb 27 id) none
+      (cond (eqb id 10) (saidIf (bmdtStands t delta r x) (getD x bmdtAt 0 ∷ []))
+      (cond (eqb id 14) (saidIf (countStands t delta r x) (against (getD r countAt 0) (getD x countAt 0)))
+      (cond (eqb id 18) (saidIf (prft c .stands) (against (getD s ntpAt 0) (prft c .ntp)))
+      (cond (eqb id 20) (saidIf (prft c .stands) (against (getD s mediaTimeAt 0) (prft c .media)))
+      (cond (eqb id 22) (unless (keptFor delta (getD s versionAt 0) 1) (prft c .version))
+      (cond (eqb id 23) (saidIf (not delta && not (eqb (length (brands c)) 0)) (brands c))
+      (cond (eqb id 24) (unless (keptFor delta (getD s prftFlagsAt 0) 0) (prft c .flags))
+      (cond (eqb id 25) (eventSays (events t c))
+      (cond (eqb id 27) (saidIf (not (eqb (length (goneOf t delta r x lines)) 0)) (goneOf t delta r x lines))
+      none))))))))))

@@ -1,0 +1,4 @@
+pub mod Sayings
+pub mod Telling
+pub mod Block
+pub mod Read

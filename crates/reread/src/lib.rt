@@ -1,0 +1,1 @@
+// The encoder's object, read by the receiver. There is no code.
