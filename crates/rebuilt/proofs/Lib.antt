@@ -1,0 +1,16 @@
+pub mod TopFront
+pub mod SencBack
+pub mod Bits
+pub mod WholeFront
+pub mod PrftRead
+pub mod TrunBack
+pub mod FullBoxes
+pub mod SencValues
+pub mod EmsgRead
+pub mod TfhdBack
+pub mod InnerFront
+pub mod BytesHold
+pub mod OuterRead
+pub mod SencWalk
+pub mod FitLaws
+pub mod FrontRead

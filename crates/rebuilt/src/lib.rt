@@ -1,0 +1,1 @@
+// The chunk that the receiver writes, read box by box. There is no code.

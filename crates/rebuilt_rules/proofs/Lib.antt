@@ -1,0 +1,10 @@
+pub mod OuterRight
+pub mod SizesAdd
+pub mod SampleRules
+pub mod SaizSaioRight
+pub mod SencRight
+pub mod EntriesRight
+pub mod Accepting
+pub mod MoofRight
+pub mod LastRight
+pub mod FrontAccepts

@@ -1,0 +1,4 @@
+pub mod SizeLines
+pub mod SencLines
+pub mod SetRead
+pub mod FrontSaid
