@@ -1,90 +1,96 @@
--- Demand 3: neighbouring calls on different slots are swapped, and the tuples of property blocks reordered, with no answer and no table changed.
--- Assumes nothing.
-use Prim.Native.Nat.{ℕ}
-use mathlib.Core.Path.{_≡_, refl, sym, _∙_, ap}
-use mathlib.Core.List.{List, [], _∷_, _++_}
-use Rattle.slots.specs.declared.share.Side.the-variants.{Receiver}
-use Rattle.slots.specs.Table.{Out, onTable}
-use Rattle.slots.specs.Laws.{Keeps, Apart}
-use Rattle.slots.proofs.Apart.{apart}
-use Rattle.slots.proofs.Lawful.{open-keeps, close-keeps, group-keeps}
-use Rattle.exchange.specs.Took.{Took, refused}
-use Rattle.receiver.proofs.Theorems.{receive-keeps}
-use Rattle.receiver.proofs.AlikeTheorems.{any-order}
-use Rattle.demands.specs.Three.{Call, opens, closes, groups, receives, slotOf, onShareOf, refusedBy, call, answers, tableAfter, Swapped, Reordered, SameBut, AllSameBut, DemandThree}
+-- Demand 3: any number of changes keeps what every call is told, and the table at the end. Assumes nothing.
+use Prim.Native.Nat.{ℕ, suc, _+_}
+use native.Mathlib.Nat.{add-zero, zero-add, add-suc, suc-add}
+use mathlib.Core.Path.{_≡_, refl, sym, _∙_, ap, subst}
+use mathlib.Core.List.{List, [], _∷_, map, List·Permᴰ, List·Permᴰ·cons, List·Permᴰ·swap, List·Permᴰ·trans, Permᴰ·refl}
+use lib.ListN.{replicate}
+use Rattle.slots.specs.Table.{tableLen}
+use Rattle.receiver.proofs.ObjectSplit.{parts-of, parts-once}
+use Rattle.given.specs.Given.{F}
+use Rattle.demands.specs.Three.{Call, Told, told, call, answers, tableAfter, Numbered, numberedFrom, callsOf, numbersOf}
+use Rattle.demands.specs.Three.{Changed, swap, reorder, behind, _then_, none, answerTo, Kept, DemandThree}
+use Rattle.demands.proofs.OneChange.{tables-same, told-same, received-same, told-reordered}
 
--- ---- swapped calls
+-- every call of a run is told what f says of its number
+abbrev Answered : (ℕ → Told) → List Numbered → List ℕ → Type 0
+Answered f [] t = Unit {0}
+Answered f (x ∷ xs) t = (told (x .made) t ≡ f (x .number)) × Answered f xs (call (x .made) t .words)
 
--- every call keeps its share's length
-call-keeps : (a : Call) → Keeps (onShareOf a)
-call-keeps (opens slot a) = record { keeps = open-keeps Receiver a .keeps }
-call-keeps (closes slot) = record { keeps = close-keeps Receiver .keeps }
-call-keeps (groups slot) = record { keeps = group-keeps Receiver .keeps }
-call-keeps (receives slot o room) = receive-keeps _ o room
+-- whatever is said of the numbers, on whatever table: what a change keeps
+record Alike (xs ys : List Numbered) : Type 0 where
+  answered : (f : ℕ → Told) (t : List ℕ) → Answered f xs t → Answered f ys t
+  table : (t : List ℕ) → tableAfter (callsOf xs) t ≡ tableAfter (callsOf ys) t
+  numbers : List·Permᴰ (numbersOf xs) (numbersOf ys)
 
--- two calls on different slots: either order leaves the same table, and each is answered as it would be alone
-calls-apart : (a b : Call) → (slotOf a ≡ slotOf b → ⊥) → (t : List ℕ)
-    → Apart (refusedBy a) (onShareOf a) (refusedBy b) (onShareOf b) (slotOf a) (slotOf b) t
-calls-apart a b d t =
-    apart Took Took (refusedBy a) (onShareOf a) (refusedBy b) (onShareOf b) (call-keeps a) (call-keeps b) (slotOf a) (slotOf b) d t
-
--- the table after a run and another behind it
-after-append : (xs ys : List Call) (t : List ℕ) → tableAfter (xs ++ ys) t ≡ tableAfter ys (tableAfter xs t)
+alike : {xs ys : List Numbered} → Changed xs ys → Alike xs ys
 unfolding tableAfter
-after-append [] ys t = refl
-after-append (a ∷ xs) ys t = after-append xs ys (call a t .words)
-
--- the two calls between any runs, in either order: the same table is left
-after-swapped : (before : List Call) (a b : Call) (after : List Call) → (slotOf a ≡ slotOf b → ⊥) → (t : List ℕ)
-    → tableAfter (before ++ (a ∷ b ∷ after)) t ≡ tableAfter (before ++ (b ∷ a ∷ after)) t
-unfolding tableAfter call
-after-swapped before a b after d t =
-    after-append before (a ∷ b ∷ after) t
-    ∙ ap (tableAfter after) (calls-apart a b d (tableAfter before t) .same)
-    ∙ sym (after-append before (b ∷ a ∷ after) t)
-
--- the two calls keep their answers, and so do the calls behind them
-swapped : (before : List Call) (a b : Call) (after : List Call) → (slotOf a ≡ slotOf b → ⊥) → (t : List ℕ) → Swapped before a b after t
-unfolding call
-swapped before a b after d t =
-    let w = calls-apart a b d (tableAfter before t) in
+alike (swap a b {after} d) =
+    let x : Call = a .made in
+    let y : Call = b .made in
     record {
-      a-answer = w .first;
-      b-answer = w .second;
-      last-answers = ap (answers after) (after-swapped before a b [] d t);
-      table = after-swapped before a b after d t;
+      answered = λ f t h. (
+        sym (told-same y x (λ e. d (sym e)) t) ∙ h .1 .0,
+        (told-same x y d t ∙ h .0, subst (Answered f after) (tables-same x y d t) (h .1 .1)),
+      );
+      table = λ t. ap (tableAfter (callsOf after)) (tables-same x y d t);
+      numbers = List·Permᴰ·swap refl refl;
+    }
+alike (reorder k slot {o} {o′} room {after} r) =
+    record {
+      answered = λ f t h. (
+        sym (told-reordered slot o o′ room r t) ∙ h .0,
+        subst (Answered f after) (λ j. received-same slot o o′ room r t j .words) (h .1),
+      );
+      table = λ t. ap (tableAfter (callsOf after)) (λ j. received-same slot o o′ room r t j .words);
+      numbers = Permᴰ·refl (k ∷ numbersOf after);
+    }
+alike (behind a c) =
+    let h = alike c in
+    record {
+      answered = λ f t q. (q .0, h .answered f (call (a .made) t .words) (q .1));
+      table = λ t. h .table (call (a .made) t .words);
+      numbers = List·Permᴰ·cons refl (h .numbers);
+    }
+alike (_then_ c d) =
+    let h = alike c in
+    let k = alike d in
+    record {
+      answered = λ f t q. k .answered f t (h .answered f t q);
+      table = λ t. h .table t ∙ k .table t;
+      numbers = List·Permᴰ·trans (h .numbers) (k .numbers);
+    }
+alike (none {xs}) = record { answered = λ f t q. q; table = λ t. refl; numbers = Permᴰ·refl (numbersOf xs) }
+
+-- ---- by their places
+
+-- the calls of a run that was just numbered
+calls-are : (k : ℕ) (calls : List Call) → callsOf (numberedFrom k calls) ≡ calls
+calls-are k [] = refl
+calls-are k (a ∷ calls) = ap (λ (l : List Call). a ∷ l) (calls-are (suc k) calls)
+
+-- a run is told what its answers say, by their places
+answered-from : (f : ℕ → Told) (k : ℕ) (calls : List Call) (t : List ℕ) → ((i : ℕ) → answerTo calls t i ≡ f (k + i)) → Answered f (numberedFrom k calls) t
+unfolding answers
+answered-from f k [] t h = tt
+answered-from f k (a ∷ calls) t h =
+    (h 0 ∙ ap f (add-zero k), answered-from f (suc k) calls (call a t .words) (λ i. h (suc i) ∙ ap f (add-suc k i ∙ sym (suc-add k i))))
+
+-- the answers of a run that is told what f says
+answers-are : (f : ℕ → Told) (ys : List Numbered) (t : List ℕ) → Answered f ys t → answers (callsOf ys) t ≡ map (λ (y : Numbered). f (y .number)) ys
+unfolding answers
+answers-are f [] t h = refl
+answers-are f (y ∷ ys) t h = let rest = answers-are f ys (call (y .made) t .words) (h .1) in λ j. h .0 j ∷ rest j
+
+kept : (t : List ℕ) (calls : List Call) (ys : List Numbered) → Changed (numberedFrom 0 calls) ys → Kept t calls ys
+kept t calls ys c =
+    let h = alike c in
+    let f : ℕ → Told = answerTo calls t in
+    record {
+      numbers = h .numbers;
+      answered = answers-are f ys t (h .answered f t (answered-from f 0 calls t (λ i. ap f (sym (zero-add i)))));
+      table = sym (h .table t) ∙ ap (λ (l : List Call). tableAfter l t) (calls-are 0 calls);
     }
 
--- ---- reordered tuples
-
--- an object with its tuples in another order is received alike, on any table
-received-alike : (slot : ℕ) (o o′ room : List ℕ) → Reordered o o′ → call (receives slot o room) ≡ call (receives slot o′ room)
-unfolding call
-received-alike slot o o′ room r =
-    λ j t.
-    onTable (refused room)
-    (λ s. any-order _ o o′ room s (r .entries) (r .entries′) (r .heads) (r .kinds) (r .payloads) (r .split) (r .split′) (r .permuted) j) t slot
-
--- calls that are the same but for the order of tuples do the same
-call-alike : (a b : Call) → SameBut a b → call a ≡ call b
-call-alike (opens slot a) b e = ap call e
-call-alike (closes slot) b e = ap call e
-call-alike (groups slot) b e = ap call e
-call-alike (receives slot o room) b (o′, e, r) = received-alike slot o o′ room r ∙ sym (ap call e)
-
--- and so do runs of them: the same answers, and the same table
-reordered : (xs ys : List Call) → AllSameBut xs ys → (t : List ℕ) → (answers xs t ≡ answers ys t) × (tableAfter xs t ≡ tableAfter ys t)
-unfolding answers tableAfter
-reordered [] [] h t = (refl, refl)
-reordered (a ∷ xs) (b ∷ ys) (e, h) t =
-    let c : call a t ≡ call b t = λ j. call-alike a b e j t in
-    let rest = reordered xs ys h (call b t .words) in (
-      ap (λ (x : Out Took). x .answer ∷ answers xs (x .words)) c ∙ ap (λ (rs : List Took). call b t .answer ∷ rs) (rest .0),
-      ap (λ (x : Out Took). tableAfter xs (x .words)) c ∙ rest .1,
-    )
-reordered [] (b ∷ ys) h t = absurd h
-reordered (a ∷ xs) [] h t = absurd h
-
--- the demand, of any table
+-- the demand, of any table, and so of a fresh one
 pub demand-three : DemandThree
-demand-three = record { swaps = swapped; reorders = reordered }
+demand-three = record { any = kept; fresh = kept (replicate tableLen 0); parted = parts-of F; once = parts-once F }

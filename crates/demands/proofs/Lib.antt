@@ -1,2 +1,13 @@
+pub mod OneRules
+pub mod OneShares
 pub mod DemandOne
+pub mod Encoded
+pub mod Received
+pub mod Same
+pub mod Trips
+pub mod Shares
+pub mod Readings
+pub mod DemandTwo
+pub mod OneChange
 pub mod DemandThree
+pub mod ReorderedRun

@@ -1,91 +1,175 @@
--- Demand 2: "Every chunk that no rule refuses becomes, given room, the one object that the rules define, and every object is read as they define. The encoder's object,
--- read under the same parameters and reference, gives the same meaning, the same payload and an equal reference; the rebuilt chunk, encoded again from the starting
--- reference with the same wish, gives the same object."
-use Prim.Native.Nat.{ℕ}
+-- Demand 2, of any codec: "Every chunk that no rule refuses becomes, given room, the one object that the rules define, and every object is read as they define. The
+-- encoder's object, read with room under the same parameters and reference, gives a head with the same meaning, the same payload bytes, and a reference equal to the
+-- encoder's. Each chunk so rebuilt, encoded again from the starting reference with the same wish, gives the same object."
+-- What the rules define is said by their definitions alone, and the codec is held to it.
+use Prim.Native.Nat.{ℕ, _≤_, _<_}
 use mathlib.Core.Path.{_≡_}
-use mathlib.Core.Bool.{Bool, true, cond}
+use mathlib.Core.Bool.{Bool, true, false, cond, _&&_}
 use mathlib.Core.List.{List, [], _∷_, _++_}
-use lib.ListN.{length, take, drop}
+use lib.ListN.{length, take, drop, replicate}
 use Rattle.laws.specs.Tests.{allLe}
-use Rattle.wire.specs.declared.form.Row.{Row}
-use Rattle.wire.specs.declared.form.Form.the-variants.{Rfc9000}
-use Rattle.wire.specs.Form.{rows}
+use Rattle.laws.specs.Ladder.{Rung, _else_, Hold}
+use Rattle.track.specs.declared.Asked.{Asked}
+use Rattle.slots.specs.declared.share.Side.{Side}
 use Rattle.slots.specs.declared.share.Side.the-variants.{Encoder, Receiver}
 use Rattle.slots.specs.Share.{acceptedAt, heldAt, shareLen, trackOf, lawful}
-use Rattle.slots.specs.Table.{Out}
+use Rattle.slots.specs.Table.{Out, tableLen, shareAt, itself}
+use Rattle.slots.specs.Calls.{openedRungs, opening, grouping}
+use Rattle.slots.specs.Laws.{after}
 use Rattle.exchange.specs.Took.{Took}
-use Rattle.encoder.specs.Object.{givesDelta}
-use Rattle.encoder.specs.Encode.{encoding}
-use Rattle.receiver.specs.Receive.{receiving}
+use Rattle.accepted.specs.Accepted.{acceptRungs, payload}
+use Rattle.encoder.specs.Object.{givesDelta, fitsOk, front}
+use Rattle.encoder.specs.Encode.{kept}
+use Rattle.receiver.specs.Receive.{receiving, chunk}
 use Rattle.meaning.specs.Meaning.{Meaning, meaningOf, unbranded}
+use Rattle.given.specs.Given.{F}
+use Rattle.demands.specs.Codec.{Codec, gave}
 
-abbrev pub F : List Row
-F = rows Rfc9000
+-- ---- what the rules define
 
--- the object, or the chunk, that a call handed out: its front and then the payload
-abbrev pub gave : Took → List ℕ
-gave a = take (a .front) (a .output) ++ a .payload
+-- a chunk, with the wish and the room that it is encoded with
+pub record Send : Type 0 where
+  pub wish : Bool
+  pub chunk : List ℕ
+  pub room : List ℕ
 
--- "under the same parameters and reference": an encoder's share and a receiver's
-pub record Paired (s s′ : List ℕ) : Type 0 where
+-- on the share s of an encoder
+module _ (p : Send) (s : List ℕ) where
+  abbrev pub isDelta : Bool
+  isDelta = givesDelta F s (p .chunk) (p .wish)
+
+  abbrev pub objectFront : List ℕ
+  objectFront = front F s (p .chunk) (p .wish)
+
+  -- "the one object that the rules define": its front, and then the chunk's payload
+  abbrev pub object : List ℕ
+  object = objectFront ++ payload (p .chunk)
+
+  -- 01's order line but for the room: 18, 2, "5, 6, 8, 7, 9"
+  abbrev pub rules : List Rung
+  rules = openedRungs Encoder s ++ (acceptRungs F (trackOf s) (p .chunk) ++ ((fitsOk F s (p .chunk) (p .wish) else 9) ∷ []))
+
+  -- "Every chunk that no rule refuses .., given room"
+  pub record Sends : Type 0 where
+    pub hold : Hold rules
+    pub room : length objectFront ≤ length (p .room)
+
+  -- "becomes .. the one object that the rules define"; 01: "Done reports the front's length". The reference is the chunk's, so that the object after it is the
+  -- rules' too
+  pub record Becomes (a : Out Took) : Type 0 where
+    pub done : a .answer .number ≡ 0
+    pub long : a .answer .front ≡ length objectFront
+    pub gives : gave (a .answer) ≡ object
+    pub part : a .answer .payload ≡ payload (p .chunk)
+    pub words : a .words ≡ kept F (p .wish) (p .chunk) (p .room) s
+
+  -- nothing is sent. 01: "every other refusal changes nothing, in the encoder too"
+  pub record Unsent (a : Out Took) : Type 0 where
+    pub refused : a .answer .number ≡ 0 → ⊥
+    pub nothing : gave (a .answer) ≡ []
+    pub words : a .words ≡ s
+
+  -- 01: "Same meaning: .. but for that number, box choice, and `styp` on a delta". A meaning has neither that number nor a choice of boxes
+  abbrev pub carried : Meaning → Meaning
+  carried m = cond isDelta (unbranded m) m
+
+  -- "read with room": room for the front of the chunk, on the share s′ of a receiver
+  abbrev pub Roomy : List ℕ → List ℕ → Type 0
+  Roomy s′ room = length (chunk F object s′) ≤ length room
+
+-- the shares of an encoder and of a receiver, both lawful, "under the same parameters"
+pub record Beside (s s′ : List ℕ) : Type 0 where
   pub encoder-long : length s ≡ shareLen
   pub receiver-long : length s′ ≡ shareLen
   pub encoder-lawful : lawful Encoder s ≡ true
   pub receiver-lawful : lawful Receiver s′ ≡ true
   pub parameters : take acceptedAt s ≡ take acceptedAt s′
+
+-- "under the same parameters and reference"
+pub record Paired (s s′ : List ℕ) : Type 0 where
+  pub beside : Beside s s′
   pub reference : drop heldAt s ≡ drop heldAt s′
 
--- the chunk c with a wish, both shares, and the rooms of the encoder and of the receiver
-module _ (wish : Bool) (c s s′ room room′ : List ℕ) where
-  abbrev pub encoded : Out Took
-  encoded = encoding F wish c room s
+-- without room: 17, nothing is handed out, and the share s′ stays, so that the object can be given again
+pub record Short (s′ : List ℕ) (a : Out Took) : Type 0 where
+  pub number : a .answer .number ≡ 17
+  pub nothing : gave (a .answer) ≡ []
+  pub words : a .words ≡ s′
+
+-- ---- what a codec makes of it
+
+-- what happens to an encoder's share and a receiver's
+pub data Call : Type 0 where
+  -- a group starts, on both sides
+  start : Call
+  -- a chunk is encoded; its object, if there is one, is given to the receiver with each of these rooms in turn, until one is long enough. If none is, it is lost
+  carry : Send → List (List ℕ) → Call
+
+module _ (C : Codec) where
+  abbrev pub sent : Send → List ℕ → Out Took
+  sent p s = C .encode (p .wish) (p .chunk) (p .room) s
 
   -- "The encoder's object, read"
-  abbrev pub reread : Out Took
-  reread = receiving F (gave (encoded .answer)) room′ s′
+  abbrev pub got : Send → List ℕ → List ℕ → List ℕ → Out Took
+  got p s s′ room = C .receive (gave (sent p s .answer)) room s′
 
-  -- 01: "but for that number, box choice, and `styp` on a delta"
-  abbrev pub carried : Meaning → Meaning
-  carried m = cond (givesDelta F s c wish) (unbranded m) m
+  pub record RoundTrip (p : Send) (s s′ room : List ℕ) : Type 0 where
+    -- "The encoder's object, read with room under the same parameters and reference, gives"
+    pub done : got p s s′ room .answer .number ≡ 0
+    pub long : got p s s′ room .answer .front ≡ length (chunk F (object p s) s′)
+    -- "a head with the same meaning"
+    pub meaning : meaningOf (trackOf s) (gave (got p s s′ room .answer)) ≡ carried p s (meaningOf (trackOf s) (p .chunk))
+    -- "the same payload bytes"
+    pub part : got p s s′ room .answer .payload ≡ payload (p .chunk)
+    -- "and a reference equal to the encoder's."
+    pub reference : drop heldAt (got p s s′ room .words) ≡ drop heldAt (sent p s .words)
+    -- "Each chunk so rebuilt, encoded again from the starting reference with the same wish, gives the same object."
+    pub again : C .encode (p .wish) (gave (got p s s′ room .answer)) (p .room) s .answer ≡ sent p s .answer
 
-  pub record RoundTrip : Type 0 where
-    -- "every object is read"
-    pub done : reread .answer .number ≡ 0
-    -- "gives the same meaning, the same payload and an equal reference"
-    pub meaning : meaningOf (trackOf s) (gave (reread .answer)) ≡ carried (meaningOf (trackOf s) c)
-    pub payload : reread .answer .payload ≡ encoded .answer .payload
-    pub reference : drop heldAt (reread .words) ≡ drop heldAt (encoded .words)
-    -- "the rebuilt chunk, encoded again from the starting reference with the same wish, gives the same object"
-    pub again : encoding F wish (gave (reread .answer)) room s .answer ≡ encoded .answer
+  -- the object of a chunk given with each room in turn: too short, and nothing changes; or long enough, and then it goes on from the share that the receiver has
+  abbrev pub Tried : Send → List ℕ → List ℕ → List (List ℕ) → (List ℕ → Type 0) → Type 0 → Type 0
+  Tried p s s′ [] then lost = lost
+  Tried p s s′ (room ∷ rooms) then lost =
+      (Roomy p s s′ room → RoundTrip p s s′ room × then (got p s s′ room .words))
+      × ((Roomy p s s′ room → ⊥) → Short s′ (got p s s′ room) × Tried p s (got p s s′ room .words) rooms then lost)
 
--- for one object
-abbrev pub DemandTwo : Type 0
-DemandTwo = (wish : Bool) (c s s′ room room′ : List ℕ) → allLe 255 c ≡ true → Paired s s′ → encoded wish c s s′ room room′ .answer .number ≡ 0
-    → (reread wish c s s′ room room′ .answer .number ≡ 17 → ⊥) → RoundTrip wish c s s′ room room′
+  -- any calls, each on the shares that the one before it left. Behind is a receiver that lost an object: it may have taken any calls since, so that its share is any
+  -- lawful one with the same parameters, and no more is said of it up to the next full object or the next start of a group
+  abbrev pub AllMet : Bool → List Call → List ℕ → List ℕ → Type 0
+  AllMet behind [] s s′ = Unit {0}
+  AllMet behind (start ∷ calls) s s′ = AllMet false calls (grouping Encoder s .words) (grouping Receiver s′ .words)
+  AllMet behind (carry p rooms ∷ calls) s s′ =
+      let next : List ℕ = sent p s .words in
+      let lost : Type 0 = (any : List ℕ) → Beside next any → AllMet true calls next any in
+      allLe 255 (p .chunk) ≡ true
+      → (Sends p s → Becomes p s (sent p s)
+      × ((behind && isDelta p s) ≡ false → Tried p s s′ rooms (λ (next′ : List ℕ). AllMet false calls next next′) lost)
+      × ((behind && isDelta p s) ≡ true → lost))
+      × ((Sends p s → ⊥) → Unsent p s (sent p s) × AllMet behind calls next s′)
 
--- ---- for whole groups
+  -- ---- the demand
 
--- a chunk of a group, with what it is called with
-pub record Step : Type 0 where
-  pub wish : Bool
-  pub chunk : List ℕ
-  pub room : List ℕ
-  pub room′ : List ℕ
+  -- for one object
+  pub record DemandTwo : Type 0 where
+    -- "Every chunk that no rule refuses becomes, given room, the one object that the rules define"
+    pub becomes : (p : Send) (s : List ℕ) → length s ≡ shareLen → allLe 255 (p .chunk) ≡ true → Sends p s → Becomes p s (sent p s)
+    -- and no other chunk becomes one
+    pub refuses : (p : Send) (s : List ℕ) → length s ≡ shareLen → allLe 255 (p .chunk) ≡ true → (Sends p s → ⊥) → Unsent p s (sent p s)
+    -- "and every object is read as they define": any bytes, on any share, with any room
+    pub reads : (o room s : List ℕ) → length s ≡ shareLen → allLe 255 o ≡ true → C .receive o room s ≡ receiving F o room s
+    -- "The encoder's object, read with room under the same parameters and reference, gives .."
+    pub trips : (p : Send) (s s′ room : List ℕ) → Paired s s′ → allLe 255 (p .chunk) ≡ true → Sends p s → Roomy p s s′ room → RoundTrip p s s′ room
 
--- every chunk of a run is taken, given room on both sides: each share is the one that the chunk before left
-abbrev pub AllDone : List Step → List ℕ → List ℕ → Type 0
-AllDone [] s s′ = Unit {0}
-AllDone (p ∷ ps) s s′ =
-    (allLe 255 (p .chunk) ≡ true)
-    × (encoded (p .wish) (p .chunk) s s′ (p .room) (p .room′) .answer .number ≡ 0)
-    × (reread (p .wish) (p .chunk) s s′ (p .room) (p .room′) .answer .number ≡ 17 → ⊥)
-    × AllDone ps (encoded (p .wish) (p .chunk) s s′ (p .room) (p .room′) .words) (reread (p .wish) (p .chunk) s s′ (p .room) (p .room′) .words)
+  -- 01: "at every object of a group": for runs of any calls
+  abbrev pub DemandTwoRuns : Type 0
+  DemandTwoRuns = (calls : List Call) (s s′ : List ℕ) → Paired s s′ → AllMet false calls s s′
 
-abbrev pub AllRound : List Step → List ℕ → List ℕ → Type 0
-AllRound [] s s′ = Unit {0}
-AllRound (p ∷ ps) s s′ =
-    RoundTrip (p .wish) (p .chunk) s s′ (p .room) (p .room′)
-    × AllRound ps (encoded (p .wish) (p .chunk) s s′ (p .room) (p .room′) .words) (reread (p .wish) (p .chunk) s s′ (p .room) (p .room′) .words)
+-- ---- from fresh tables
 
-abbrev pub DemandTwoGroups : Type 0
-DemandTwoGroups = (ps : List Step) (s s′ : List ℕ) → Paired s s′ → AllDone ps s s′ → AllRound ps s s′
+-- the share of a slot that was opened on a table of zeros
+abbrev pub openedAt : Side → Asked → ℕ → List ℕ
+openedAt side a slot = shareAt (after itself (opening side a) slot (replicate tableLen 0)) slot
+
+-- any slot of an encoder's fresh table and any of a receiver's, opened with the same parameters: any calls
+abbrev pub DemandTwoFresh : Codec → Type 0
+DemandTwoFresh C = (a : Asked) (i j : ℕ) → i < 8 → j < 8 → (calls : List Call) → AllMet C false calls (openedAt Encoder a i) (openedAt Receiver a j)
