@@ -1,0 +1,1 @@
+// Five false codecs, and that none of them meets demand 2. There is no code.
