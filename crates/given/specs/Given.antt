@@ -2,9 +2,10 @@
 use Prim.Native.Nat.{ℕ, _-_, _%_, _^_, _≤_}
 use mathlib.Core.Path.{_≡_}
 use mathlib.Core.Bool.{true, false}
-use mathlib.Core.List.{List, [], _∷_}
+use mathlib.Core.List.{List}
 use lib.ListN.{length, getD}
 use Rattle.laws.specs.Tests.{allLe, noZero}
+use Rattle.laws.specs.Each.{AllOf}
 use Rattle.laws.specs.Ladder.{Hold}
 use Rattle.wire.specs.declared.form.Row.{Row}
 use Rattle.wire.specs.declared.form.Form.the-variants.{Rfc9000}
@@ -49,8 +50,7 @@ pub record BoxedEvent (e : Box) : Type 0 where
   pub message-bytes : allLe 255 (e .message) ≡ true
 
 abbrev pub AllBoxed : List Box → Type 0
-AllBoxed [] = Unit {0}
-AllBoxed (e ∷ es) = BoxedEvent e × AllBoxed es
+AllBoxed = AllOf BoxedEvent
 
 -- a set that a chunk with n bytes of payload gives: a lawful one that says nothing that its absence would say
 pub record Canonical (t : Track) (w : List ℕ) (n : ℕ) : Type 0 where

@@ -2,8 +2,9 @@
 use Prim.Native.Nat.{ℕ, _+_, _^_, _≤_, _<_}
 use mathlib.Core.Path.{_≡_}
 use mathlib.Core.Bool.{true}
-use mathlib.Core.List.{List, [], _∷_, _++_}
+use mathlib.Core.List.{List, _++_}
 use lib.ListN.{length, getD}
+use Rattle.laws.specs.Each.{AllOf}
 use Rattle.track.specs.declared.Track.{Track}
 use Rattle.fieldset.specs.Lines.{bmdtAt}
 use Rattle.fieldset.specs.Lawful.{has}
@@ -26,8 +27,7 @@ pub record Short (e : Event) : Type 0 where
   pub message : length (e .message) ≤ 16384
 
 abbrev pub AllShort : List Event → Type 0
-AllShort [] = Unit {0}
-AllShort (e ∷ es) = Short e × AllShort es
+AllShort = AllOf Short
 
 -- what keeps every box's size within 32 bits
 pub record Sizable (t : Track) (w : List ℕ) (p : Prft) (events : List Event) (brands bs : List ℕ) : Type 0 where
