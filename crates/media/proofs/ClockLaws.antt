@@ -1,29 +1,22 @@
--- A time comes back from its distance, on every clock. Assumes nothing.
-use Prim.Native.Nat.{ℕ, _-_, _^_, _<_}
+-- A time comes back from its number on the wire, on every clock. Assumes nothing.
+use Prim.Native.Nat.{ℕ, _-_, _^_, _≤_, _<_}
 use native.Mathlib.Omega.{arith}
 use mathlib.Core.Path.{_≡_}
 use mathlib.Core.List.{List}
 use Rattle.wire.specs.declared.form.Row.{Row}
-use Rattle.wire.specs.declared.zigzag.Coding.the-variants.{Delta}
+use Rattle.wire.specs.declared.zigzag.Coding.{Coding}
 use Rattle.wire.specs.declared.zigzag.Coded.the-variants.{Number}
-use Rattle.wire.specs.declared.zigzag.Reached.the-variants.{To}
 use Rattle.wire.specs.Zigzag.{codeOf}
 use Rattle.wire.proofs.ZigzagLaws.{code-back}
 use Rattle.media.specs.declared.clocks.TrackTime.{TrackTime}
 use Rattle.media.specs.declared.clocks.NtpTime.{NtpTime}
-use Rattle.media.specs.Clocks.{countAt, trackAt, ntpAt}
+use Rattle.media.specs.Clocks.{trackAt, ntpAt}
 
-module _ (F : List Row) (from t : ℕ) {z : ℕ} (given : codeOf F Delta from t ≡ Number z) (small : t < 2 ^ 64) where
-  -- the number on the wire for a count's distance leads back to the count
-  pub count-back : countAt from z ≡ To t
-  unfolding countAt
-  count-back = code-back F Delta from t (2 ^ 64 - 1) given (omega arith)
-
-  -- the same on the track's clock, and on NTP's
-  pub track-back : trackAt from z ≡ TrackTime.At (record { 0 = t })
+module _ (F : List Row) (coding : Coding) (from t : ℕ) {z : ℕ} (given : codeOf F coding from t ≡ Number z) where
+  pub track-back : (bound : ℕ) → t ≤ bound → trackAt coding from bound z ≡ TrackTime.At (record { 0 = t })
   unfolding trackAt
-  track-back = rw count-back
+  track-back bound low = rw (code-back F coding from t bound given low)
 
-  pub ntp-back : ntpAt from z ≡ NtpTime.At (record { 0 = t })
+  pub ntp-back : t < 2 ^ 64 → ntpAt coding from z ≡ NtpTime.At (record { 0 = t })
   unfolding ntpAt
-  ntp-back = rw count-back
+  ntp-back low = rw (code-back F coding from t (2 ^ 64 - 1) given (omega arith))

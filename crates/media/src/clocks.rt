@@ -1,4 +1,5 @@
-// The three clocks. Each time is a value of its own clock's kind, and no function takes or gives two kinds, so that nothing adds them.
+// The three clocks. Each time is a value of its own clock's kind, and no function takes or gives two kinds but as the time of an event, which is on
+// one of two clocks: nothing adds them.
 ghost use mathlib.Core.Path.{_≡_};
 ghost use Rattle.wire.specs.Form.{rows};
 ghost use Rattle.wire.specs.Zigzag.{codeOf};
@@ -17,7 +18,13 @@ pub struct EventTicks(pub u64);
 // A time in units of NTP, a second being 2^32 of them.
 pub struct NtpUnits(pub u64);
 
-// A time on the track's clock, or that a distance leads below 0 or past 64 bits.
+// The time of an event, which is on the track's clock or on its own.
+pub enum EventTime {
+    Track(TrackTicks),
+    Own(EventTicks),
+}
+
+// A time on the track's clock, or that a number on the wire leads below 0 or past the bound.
 pub enum TrackTime {
     At(TrackTicks),
     Outside,
@@ -30,18 +37,18 @@ pub enum NtpTime {
 }
 
 impl TrackTicks {
-    // The number on the wire for this time as a distance from another, as from BMDT.
-    pub fn distance(self, form: Form, from: TrackTicks) -> Coded
-        ensures { λ r. ⌜ r ≡ codeOf (rows form) Coding.Delta (from .0) (self .0) ⌝ }
+    // The number on the wire for this time: plain, or as its distance from another, as from BMDT.
+    pub fn code(self, form: Form, coding: Coding, from: TrackTicks) -> Coded
+        ensures { λ r. ⌜ r ≡ codeOf (rows form) coding (from .0) (self .0) ⌝ }
     {
-        wire::zigzag::code(form, Coding::Delta, from.0, self.0)
+        wire::zigzag::code(form, coding, from.0, self.0)
     }
 
-    // The time that a number on the wire gives as a distance from this one.
-    pub fn at_distance(self, z: u64) -> TrackTime
-        ensures { λ r. ⌜ r ≡ trackAt (self .0) z ⌝ }
+    // The time that a number on the wire gives: plain, or as its distance from this one. A media time has 32 bits in version 0, hence the bound.
+    pub fn reach(self, coding: Coding, bound: u64, z: u64) -> TrackTime
+        ensures { λ r. ⌜ r ≡ trackAt coding (self .0) bound z ⌝ }
     {
-        let t = wire::zigzag::reach(Coding::Delta, self.0, 0xffff_ffff_ffff_ffff, z);
+        let t = wire::zigzag::reach(coding, self.0, bound, z);
         let Reached::To(v) = t else {
             return TrackTime::Outside;
         };
@@ -49,19 +56,28 @@ impl TrackTicks {
     }
 }
 
-impl NtpUnits {
-    // The number on the wire for this time as a distance from another.
-    pub fn distance(self, form: Form, since: NtpUnits) -> Coded
-        ensures { λ r. ⌜ r ≡ codeOf (rows form) Coding.Delta (since .0) (self .0) ⌝ }
+impl EventTicks {
+    // The number on the wire for this time: itself.
+    pub fn code(self, form: Form) -> Coded
+        ensures { λ r. ⌜ r ≡ codeOf (rows form) Coding.Plain 0 (self .0) ⌝ }
     {
-        wire::zigzag::code(form, Coding::Delta, since.0, self.0)
+        wire::zigzag::code(form, Coding::Plain, 0, self.0)
+    }
+}
+
+impl NtpUnits {
+    // The number on the wire for this time: plain, or as its distance from another.
+    pub fn code(self, form: Form, coding: Coding, since: NtpUnits) -> Coded
+        ensures { λ r. ⌜ r ≡ codeOf (rows form) coding (since .0) (self .0) ⌝ }
+    {
+        wire::zigzag::code(form, coding, since.0, self.0)
     }
 
-    // The time that a number on the wire gives as a distance from this one.
-    pub fn at_distance(self, z: u64) -> NtpTime
-        ensures { λ r. ⌜ r ≡ ntpAt (self .0) z ⌝ }
+    // The time that a number on the wire gives: plain, or as its distance from this one.
+    pub fn reach(self, coding: Coding, z: u64) -> NtpTime
+        ensures { λ r. ⌜ r ≡ ntpAt coding (self .0) z ⌝ }
     {
-        let t = wire::zigzag::reach(Coding::Delta, self.0, 0xffff_ffff_ffff_ffff, z);
+        let t = wire::zigzag::reach(coding, self.0, 0xffff_ffff_ffff_ffff, z);
         let Reached::To(v) = t else {
             return NtpTime::Outside;
         };
