@@ -65,7 +65,7 @@ media-long version media e = rw (ne-eqb version 0 e)
 -- the fields before the media time are words
 abbrev pub prftParts : Track → Prft → ℕ → List (List ℕ)
 prftParts t p size =
-    words (size ∷ B.prft ∷ (p .version * 2 ^ 24 + p .flags) ∷ t .id ∷ (p .ntp / 2 ^ 32) ∷ p .ntp ∷ []) ∷ mediaBytes (p .version) (p .media) ∷ []
+    words (size ∷ B.prft ∷ (p .version * 2 ^ 24 + p .flags) ∷ t .id ∷ (p .ntp .0 / 2 ^ 32) ∷ p .ntp .0 ∷ []) ∷ mediaBytes (p .version) (p .media .0) ∷ []
 
 module _ (t : Track) (p : Prft) where
   pub prft-none : p .stands ≡ false → prftBox t p ≡ []
@@ -73,7 +73,7 @@ module _ (t : Track) (p : Prft) where
   prft-none e = rw e
 
   abbrev rest : List ℕ
-  rest = be 4 (t .id) ++ (be 8 (p .ntp) ++ mediaBytes (p .version) (p .media))
+  rest = be 4 (t .id) ++ (be 8 (p .ntp .0) ++ mediaBytes (p .version) (p .media .0))
 
   module _ (stands : p .stands ≡ true) where
     prft-is : fullBox B.prft (p .version) (p .flags) rest ≡ prftBox t p
@@ -83,16 +83,16 @@ module _ (t : Track) (p : Prft) where
     whole : length (prftBox t p) ≡ 12 + length rest
     whole = ap length (sym prft-is) ∙ length-fullBox B.prft (p .version) (p .flags) rest
 
-    pub prft-length : length (prftBox t p) ≡ 24 + length (mediaBytes (p .version) (p .media))
+    pub prft-length : length (prftBox t p) ≡ 24 + length (mediaBytes (p .version) (p .media .0))
     prft-length = whole ∙ simp (length-append, length-be) (omega arith)
 
-    numbers : words (t .id ∷ (p .ntp / 2 ^ 32) ∷ p .ntp ∷ []) ++ mediaBytes (p .version) (p .media) ≡ rest
+    numbers : words (t .id ∷ (p .ntp .0 / 2 ^ 32) ∷ p .ntp .0 ∷ []) ++ mediaBytes (p .version) (p .media .0) ≡ rest
     unfolding words be
-    numbers = ap (λ (l : List ℕ). be 4 (t .id) ++ (l ++ mediaBytes (p .version) (p .media))) (sym (be-split 4 4 (p .ntp)))
+    numbers = ap (λ (l : List ℕ). be 4 (t .id) ++ (l ++ mediaBytes (p .version) (p .media .0))) (sym (be-split 4 4 (p .ntp .0)))
 
     pub prft-parts : (size : ℕ) → size ≡ length (prftBox t p) → joined (prftParts t p size) ≡ prftBox t p
     prft-parts size e =
-        fullBox-head B.prft (p .version) (p .flags) size _ (t .id ∷ (p .ntp / 2 ^ 32) ∷ p .ntp ∷ []) (mediaBytes (p .version) (p .media)) numbers refl (e ∙ whole)
+        fullBox-head B.prft (p .version) (p .flags) size _ (t .id ∷ (p .ntp .0 / 2 ^ 32) ∷ p .ntp .0 ∷ []) (mediaBytes (p .version) (p .media .0)) numbers refl (e ∙ whole)
         ∙ prft-is
 
 -- ---- emsg

@@ -1,7 +1,7 @@
 -- The chunk written, up to and with the `mdat` header, from the words of a lawful set. 01: "Same box order, `senc saiz saio` last; `tfdt`
 -- and `trun` version 1; `tfhd` flags 0x020000 plus ids 2, 4, 8; `trun` with data offset, ids 3, 5, 7, 12, and sizes if there are samples."
 use Prim.Native.Nat.{ℕ, zero, suc, _+_, _-_, _%_, _^_}
-use mathlib.Core.Bool.{cond}
+use mathlib.Core.Bool.{false, cond}
 use mathlib.Core.List.{List, [], _∷_, _++_}
 use lib.Dec.{eqb, leb, ltb}
 use lib.ListN.{length, getD, take, drop}
@@ -35,6 +35,10 @@ unfoldable pub stypBox : List ℕ → List ℕ
 stypBox [] = []
 stypBox (b ∷ bs) = box B.styp (take 4 (b ∷ bs) ++ (be 4 0 ++ drop 4 (b ∷ bs)))
 
+-- no producer reference time: a box that doesn't stand
+abbrev pub absentPrft : Prft
+absentPrft = record { stands = false; ntp = record { 0 = 0 }; media = record { 0 = 0 }; version = 0; flags = 0 }
+
 -- a media time, which has 32 bits in version 0
 unfoldable pub mediaBytes : ℕ → ℕ → List ℕ
 mediaBytes version media = cond (eqb version 0) (be 4 media) (be 8 media)
@@ -44,7 +48,7 @@ unfoldable pub prftBox : Track → Prft → List ℕ
 prftBox t p =
     when (p .stands)
     (fullBox B.prft (p .version) (p .flags)
-    (be 4 (t .id) ++ (be 8 (p .ntp) ++ mediaBytes (p .version) (p .media))))
+    (be 4 (t .id) ++ (be 8 (p .ntp .0) ++ mediaBytes (p .version) (p .media .0))))
 
 -- an event, with its timescale and time as the box has them
 pub record Event : Type 0 where

@@ -4,20 +4,37 @@ ghost use mathlib.Core.List.{[], _∷_, _++_};
 ghost use Prim.Native.Nat.{_+_, _≤_};
 ghost use lib.ListN.{length};
 ghost use Rattle.laws.specs.Writes.{Wrote};
-ghost use Rattle.chunk.specs.Front.{stypBox, mediaBytes, prftBox, emsgBox, emsgBoxes};
+ghost use Rattle.chunk.specs.Front.{stypBox, absentPrft, mediaBytes, prftBox, emsgBox, emsgBoxes};
 ghost use Rattle.chunk.specs.Events.{part, eventAt, eventsOf, Inside, EventFits, EventsFit};
 ghost use Rattle.chunk.specs.Writable.{Headed, Branded};
 use boxes::kinds;
 use boxes::put;
+use media::clocks::NtpUnits;
+use media::clocks::TrackTicks;
 use track::Track;
 
 // A producer reference time: whether there is one, when, at which media time, and the box's version and flags.
 pub struct Prft {
     pub stands: bool,
-    pub ntp: u64,
-    pub media: u64,
+    pub ntp: NtpUnits,
+    pub media: TrackTicks,
     pub version: u64,
     pub flags: u64,
+}
+
+impl Prft {
+    // No producer reference time.
+    pub fn none() -> Self
+        ensures { λ r. ⌜ r ≡ absentPrft ⌝ }
+    {
+        Prft {
+            stands: false,
+            ntp: NtpUnits(0),
+            media: TrackTicks(0),
+            version: 0,
+            flags: 0,
+        }
+    }
 }
 
 // ---- styp
@@ -60,14 +77,14 @@ pub fn prft_length(t: Track, p: Prft) -> usize
 }
 
 // The media time, which has 32 bits in version 0.
-fn put_media(version: u64, media: u64, out: &mut [u8], at: usize) -> usize
-    requires { ⌜ at + length (mediaBytes version media) ≤ length (now out) ⌝ }
-    ensures { λ r. ⌜ Wrote (now (out .entry)) at (mediaBytes version media) (now (out .exit)) r ⌝ }
+fn put_media(version: u64, media: TrackTicks, out: &mut [u8], at: usize) -> usize
+    requires { ⌜ at + length (mediaBytes version (media .0)) ≤ length (now out) ⌝ }
+    ensures { λ r. ⌜ Wrote (now (out .entry)) at (mediaBytes version (media .0)) (now (out .exit)) r ⌝ }
 {
     if version == 0 {
-        return put::put_u32(out, at, media);
+        return put::put_u32(out, at, media.0);
     }
-    put::put_u64(out, at, media)
+    put::put_u64(out, at, media.0)
 }
 
 pub fn put_prft(t: Track, p: Prft, out: &mut [u8], at: usize) -> usize
@@ -83,11 +100,12 @@ pub fn put_prft(t: Track, p: Prft, out: &mut [u8], at: usize) -> usize
         kinds::PRFT,
         p.version * 0x100_0000 + p.flags,
         t.id as u64,
-        p.ntp / 0x1_0000_0000,
-        p.ntp,
+        p.ntp.0 / 0x1_0000_0000,
+        p.ntp.0,
     ];
     let a = put::put_words(out, at, &head);
-    put_media(p.version, p.media, out, a)
+    let media = p.media;
+    put_media(p.version, media, out, a)
 }
 
 // ---- emsg

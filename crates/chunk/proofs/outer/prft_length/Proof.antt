@@ -16,16 +16,16 @@ returns-2 c =
     let b = c .before .before .before .before in
     let a = b .args in
     let e = prft-length (a .t) (a .p) (not-false _ (c .before .before .if1 .left)) in
-    let m = ap length (media-short (a .p .version) (a .p .media) (c .if2 .taken)) in
-    (omega (arith, length-be 4 (a .p .media)), omega arith)
+    let m = ap length (media-short (a .p .version) (a .p .media .0) (c .if2 .taken)) in
+    (omega (arith, length-be 4 (a .p .media .0)), omega arith)
 
 returns-3 : tie.Need-returns-3
 returns-3 c =
     let b = c .before .before .before .before in
     let a = b .args in
     let e = prft-length (a .t) (a .p) (not-false _ (c .before .before .if1 .left)) in
-    let m = ap length (media-long (a .p .version) (a .p .media) (c .if2 .left)) in
-    (omega (arith, length-be 8 (a .p .media)), omega arith)
+    let m = ap length (media-long (a .p .version) (a .p .media .0) (c .if2 .left)) in
+    (omega (arith, length-be 8 (a .p .media .0)), omega arith)
 
 pub prft-length-spec : {M : Type 1} → statement M
 prft-length-spec = tie.close (tie.spec returns returns-2 returns-3)

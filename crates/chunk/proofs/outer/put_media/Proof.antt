@@ -13,7 +13,7 @@ put-u32-requires : tie.Need-put-u32-requires
 put-u32-requires c κs =
     let b = c .before .before .before in
     let a = b .args in
-    omega (arith, ap length (media-short (a .version) (a .media) (c .before .if1 .taken)), length-be 4 (a .media))
+    omega (arith, ap length (media-short (a .version) (a .media .0) (c .before .if1 .taken)), length-be 4 (a .media .0))
 
 same-length : tie.Need-same-length
 same-length c = search needs
@@ -23,13 +23,13 @@ returns c =
     let b₁ = c .before .before .before .before in
     let b₂ = b₁ .before .before in
     let a = b₂ .args in
-    wrote-as (sym (media-short (a .version) (a .media) (b₁ .if1 .taken))) (c .before .before .put-u32 .ensures)
+    wrote-as (sym (media-short (a .version) (a .media .0) (b₁ .if1 .taken))) (c .before .before .put-u32 .ensures)
 
 put-u64-requires : tie.Need-put-u64-requires
 put-u64-requires c κs =
     let b = c .before .before .before in
     let a = b .args in
-    omega (arith, ap length (media-long (a .version) (a .media) (c .before .if1 .left)), length-be 8 (a .media))
+    omega (arith, ap length (media-long (a .version) (a .media .0) (c .before .if1 .left)), length-be 8 (a .media .0))
 
 same-length-2 : tie.Need-same-length-2
 same-length-2 c = search needs
@@ -39,7 +39,7 @@ returns-2 c =
     let b₁ = c .before .before .before .before in
     let b₂ = b₁ .before .before in
     let a = b₂ .args in
-    wrote-as (sym (media-long (a .version) (a .media) (b₁ .if1 .left))) (c .before .before .put-u64 .ensures)
+    wrote-as (sym (media-long (a .version) (a .media .0) (b₁ .if1 .left))) (c .before .before .put-u64 .ensures)
 
 pub put-media-spec : {M : Type 1} → statement M
 put-media-spec =

@@ -20,14 +20,14 @@ returns c =
 prft-length-requires : tie.Need-prft-length-requires
 prft-length-requires c κs = search needs
 
-mul-t10 : tie.Need-mul-t10
-mul-t10 c = search needs
+mul-t11 : tie.Need-mul-t11
+mul-t11 c = search needs
 
-add-t11 : tie.Need-add-t11
-add-t11 c = search needs
+add-t12 : tie.Need-add-t12
+add-t12 c = search needs
 
-cast-t12 : tie.Need-cast-t12
-cast-t12 c = search needs
+cast-t13 : tie.Need-cast-t13
+cast-t13 c = search needs
 
 slice-aggregate-put-words : tie.Need-slice-aggregate-put-words
 slice-aggregate-put-words c = search needs
@@ -46,7 +46,7 @@ put-words-requires c κs =
 
 put-media-requires : tie.Need-put-media-requires
 put-media-requires c κs =
-    let b₁ = c .before .before .before in
+    let b₁ = c .before .before .before .before in
     let b₂ = b₁ .before .before .before .before .before .before .before in
     let b₃ = b₂ .before in
     let b₄ = b₃ .before .before .before in
@@ -61,7 +61,7 @@ same-length c = search needs
 
 returns-2 : tie.Need-returns-2
 returns-2 c =
-    let b₁ = c .before .before .before .before .before .before in
+    let b₁ = c .before .before .before .before .before .before .before in
     let b₂ = b₁ .before .before .before .before .before .before .before in
     let b₃ = b₂ .before in
     let b₄ = b₃ .before .before .before in
@@ -77,9 +77,9 @@ put-prft-spec =
     (tie.spec
     returns
     prft-length-requires
-    mul-t10
-    add-t11
-    cast-t12
+    mul-t11
+    add-t12
+    cast-t13
     slice-aggregate-put-words
     put-words-requires
     put-media-requires
