@@ -19,9 +19,9 @@ use Rattle.track.specs.Track.{u32}
 use Rattle.media.specs.declared.clocks.TrackTicks.{TrackTicks}
 use Rattle.media.specs.declared.clocks.TrackTime.{TrackTime}
 use Rattle.media.specs.declared.clocks.TrackTime.the-variants.{At, Outside}
-use Rattle.media.specs.Clocks.{trackAt}
+use Rattle.media.specs.Clocks.{onTrack}
 use Rattle.chunk.specs.Events.{part, Inside, EventFits, EventsFit}
-use Rattle.object.specs.Events.{onTrack, onClock, rebuilt, timed, eventOk, eventsOk, allRebuilt, EventRead, EventsRead}
+use Rattle.object.specs.Events.{fromBmdt, onClock, rebuilt, timed, eventOk, eventsOk, allRebuilt, EventRead, EventsRead}
 
 -- ---- bytes that are not 0
 
@@ -49,8 +49,8 @@ module _ (o : List ℕ) (from to : ℕ) where
 -- ---- one event, whose words stand from the place p on
 
 module _ (t : Track) (bmdt : ℕ) (ws : List ℕ) (p : ℕ) where
-  here : {A : Type 0} (track : ℕ → A) (outside own : A)
-      → onClock bmdt (drop p ws) track outside own ≡ cond (eqb (getD ws (p + 4) 0) 0) (onTrack (trackAt bmdt (getD ws (p + 5) 0)) track outside) own
+  here : {A : Type 0} (track : TrackTicks → A) (outside own : A)
+      → onClock bmdt (drop p ws) track outside own ≡ cond (eqb (getD ws (p + 4) 0) 0) (onTrack (fromBmdt bmdt (getD ws (p + 5) 0)) track outside) own
   unfolding onClock
   here track outside own = rw (getD-drop p ws 4 0, getD-drop p ws 5 0)
 
@@ -68,12 +68,12 @@ module _ (t : Track) (bmdt : ℕ) (ws : List ℕ) (p : ℕ) where
 
   module _ (zero : getD ws (p + 4) 0 ≡ 0) where
     -- its time is below 0
-    pub time-outside : Outside ≡ trackAt bmdt (getD ws (p + 5) 0) → (false ≡ timed bmdt (drop p ws)) × (ws ≡ take p ws ++ rebuilt t bmdt (drop p ws))
+    pub time-outside : Outside ≡ fromBmdt bmdt (getD ws (p + 5) 0) → (false ≡ timed bmdt (drop p ws)) × (ws ≡ take p ws ++ rebuilt t bmdt (drop p ws))
     unfolding timed rebuilt
     time-outside e = (rw (here, eq-eqb _ _ zero, ← e), rw (here, eq-eqb _ _ zero, ← e) (sym (take-append-drop p ws)))
 
     -- its time is on the track's clock
-    pub time-at : (x : TrackTicks) → At x ≡ trackAt bmdt (getD ws (p + 5) 0) → p + 10 ≤ length ws
+    pub time-at : (x : TrackTicks) → At x ≡ fromBmdt bmdt (getD ws (p + 5) 0) → p + 10 ≤ length ws
         → (true ≡ timed bmdt (drop p ws)) × (set (set ws (p + 4) (t .timescale)) (p + 5) (x .0) ≡ take p ws ++ rebuilt t bmdt (drop p ws))
     unfolding timed rebuilt
     time-at x e h =
@@ -83,10 +83,10 @@ module _ (t : Track) (bmdt : ℕ) (ws : List ℕ) (p : ℕ) where
   -- every other word stays
   kept : p ≤ length ws → (j : ℕ) → (j ≡ p + 4 → ⊥) → (j ≡ p + 5 → ⊥) → getD (take p ws ++ rebuilt t bmdt (drop p ws)) j 0 ≡ getD ws j 0
   unfolding rebuilt onClock
-  kept h j a b = go (eqb (getD (drop p ws) 4 0) 0) (trackAt bmdt (getD (drop p ws) 5 0))
+  kept h j a b = go (eqb (getD (drop p ws) 4 0) 0) (fromBmdt bmdt (getD (drop p ws) 5 0))
     where
       go : (c : Bool) (x : TrackTime)
-          → getD (take p ws ++ cond c (onTrack x (λ time. sets (drop p ws) 4 (t .timescale ∷ time ∷ [])) (drop p ws)) (drop p ws)) j 0 ≡ getD ws j 0
+          → getD (take p ws ++ cond c (onTrack x (λ time. sets (drop p ws) 4 (t .timescale ∷ time .0 ∷ [])) (drop p ws)) (drop p ws)) j 0 ≡ getD ws j 0
       go true (At x) =
           let d : j ≡ suc (p + 4) → ⊥ = λ e. b (omega arith) in
           rw (← put-at (t .timescale ∷ x .0 ∷ []) h)
@@ -137,16 +137,16 @@ module _ (bmdt n : ℕ) (e : List ℕ) (h : 8 ≤ n) where
   module _ (t : Track) where
     pub length-rebuilt : length (rebuilt t bmdt e) ≡ length e
     unfolding rebuilt onClock
-    length-rebuilt = go (eqb (getD e 4 0) 0) (trackAt bmdt (getD e 5 0))
+    length-rebuilt = go (eqb (getD e 4 0) 0) (fromBmdt bmdt (getD e 5 0))
       where
-        go : (c : Bool) (x : TrackTime) → length (cond c (onTrack x (λ time. sets e 4 (t .timescale ∷ time ∷ [])) e) e) ≡ length e
+        go : (c : Bool) (x : TrackTime) → length (cond c (onTrack x (λ time. sets e 4 (t .timescale ∷ time .0 ∷ [])) e) e) ≡ length e
         go true (At x) = length-sets e 4 (t .timescale ∷ x .0 ∷ [])
         go true Outside = refl
         go false x = refl
 
     cut-rebuilt : n ≤ length e → rebuilt t bmdt e ≡ rebuilt t bmdt (take n e) ++ drop n e
     unfolding rebuilt onClock
-    cut-rebuilt l = rw (cut-at 4 (omega arith), cut-at 5 (omega arith)) (go (eqb (getD e 4 0) 0) (trackAt bmdt (getD e 5 0)))
+    cut-rebuilt l = rw (cut-at 4 (omega arith), cut-at 5 (omega arith)) (go (eqb (getD e 4 0) 0) (fromBmdt bmdt (getD e 5 0)))
       where
         front : (vs : List ℕ) → length vs ≡ 2 → sets e 4 vs ≡ sets (take n e) 4 vs ++ drop n e
         front vs q =
@@ -154,8 +154,8 @@ module _ (bmdt n : ℕ) (e : List ℕ) (h : 8 ≤ n) where
             ap (λ (z : List ℕ). sets z 4 vs) (sym (take-append-drop n e)) ∙ sets-before vs (take n e) (drop n e) 4 r
 
         go : (c : Bool) (x : TrackTime)
-            → cond c (onTrack x (λ time. sets e 4 (t .timescale ∷ time ∷ [])) e) e
-            ≡ cond c (onTrack x (λ time. sets (take n e) 4 (t .timescale ∷ time ∷ [])) (take n e)) (take n e) ++ drop n e
+            → cond c (onTrack x (λ time. sets e 4 (t .timescale ∷ time .0 ∷ [])) e) e
+            ≡ cond c (onTrack x (λ time. sets (take n e) 4 (t .timescale ∷ time .0 ∷ [])) (take n e)) (take n e) ++ drop n e
         go true (At x) = front (t .timescale ∷ x .0 ∷ []) refl
         go true Outside = sym (take-append-drop n e)
         go false x = sym (take-append-drop n e)

@@ -24,6 +24,7 @@ use Rattle.track.specs.declared.Track.{Track}
 use Rattle.fieldset.specs.Lines.{lines, lineFor, setLen}
 use Rattle.fieldset.specs.Lawful.{lawful}
 use Rattle.fieldset.proofs.LawfulLaws.{lawful-facts, lawful-region}
+use Rattle.media.specs.Clocks.{asTrack, onTrack, asNtp, onNtp}
 use Rattle.slots.specs.Share.{ntpAt, mediaTimeAt, versionAt, prftFlagsAt}
 use Rattle.chunk.specs.declared.outer.Prft.{Prft}
 use Rattle.chunk.specs.Writable.{Headed}
@@ -97,8 +98,10 @@ module _ (delta : Bool) (s : List ℕ) (says says′ : Says) (a : says 18 ≡ sa
   times-says : (version flags : ℕ) → timesOf delta says s version flags ≡ timesOf delta says′ s version flags
   unfolding timesOf
   times-says version flags =
-      on-same _ _ _ _ _ (number-says delta says says′ 18 (getD s ntpAt 0) 0 (2 ^ 64 - 1) a)
-      (λ ntp. on-same _ _ _ _ _ (number-says delta says says′ 20 (getD s mediaTimeAt 0) 0 (mediaMost version) b) (λ media. refl))
+      rw (
+        number-says delta says says′ 18 (getD s ntpAt 0) 0 (2 ^ 64 - 1) a,
+        number-says delta says says′ 20 (getD s mediaTimeAt 0) 0 (mediaMost version) b,
+      )
 
   pub prft-says : says 22 ≡ says′ 22 → says 24 ≡ says′ 24 → prftOf delta says s ≡ prftOf delta says′ s
   prft-says c d = go (says′ 18) refl
@@ -125,8 +128,8 @@ pub record Made (delta : Bool) (says : Says) (s : List ℕ) (p : Prft) : Type 0 
   pub stands : p .stands ≡ true
   pub version : numberFor delta says 22 (getD s versionAt 0) 1 1 ≡ To (p .version)
   pub flags : numberFor delta says 24 (getD s prftFlagsAt 0) 0 (2 ^ 24 - 1) ≡ To (p .flags)
-  pub ntp : numberFor delta says 18 (getD s ntpAt 0) 0 (2 ^ 64 - 1) ≡ To (p .ntp)
-  pub media : numberFor delta says 20 (getD s mediaTimeAt 0) 0 (mediaMost (p .version)) ≡ To (p .media)
+  pub ntp : numberFor delta says 18 (getD s ntpAt 0) 0 (2 ^ 64 - 1) ≡ To (p .ntp .0)
+  pub media : numberFor delta says 20 (getD s mediaTimeAt 0) 0 (mediaMost (p .version)) ≡ To (p .media .0)
 
 module _ (delta : Bool) (says : Says) (s : List ℕ) where
   -- that there is none, or one that is made of its numbers, where it is no refusal
@@ -140,15 +143,15 @@ module _ (delta : Bool) (says : Says) (s : List ℕ) where
     where
       two : (ntp : ℕ) → numberFor delta says 18 (getD s ntpAt 0) 0 (2 ^ 64 - 1) ≡ To ntp
           → (m : Reached) → numberFor delta says 20 (getD s mediaTimeAt 0) 0 (mediaMost version) ≡ m
-          → Fine (onReached m (λ media. told true true ntp media version flags) (noPrft false))
+          → Fine (onTrack (asTrack m) (λ media. told (record { 0 = ntp }) media version flags) (noPrft false))
       two ntp n (To media) m e = inr (record { stands = refl; version = v; flags = f; ntp = n; media = m })
       two ntp n Outside m e = absurd (false≢true e)
 
       one : (n : Reached) → numberFor delta says 18 (getD s ntpAt 0) 0 (2 ^ 64 - 1) ≡ n
           → Fine
-          (onReached n
+          (onNtp (asNtp n)
           (λ ntp.
-          onReached (numberFor delta says 20 (getD s mediaTimeAt 0) 0 (mediaMost version)) (λ media. told true true ntp media version flags) (noPrft false))
+          onTrack (asTrack (numberFor delta says 20 (getD s mediaTimeAt 0) 0 (mediaMost version))) (λ media. told ntp media version flags) (noPrft false))
           (noPrft false))
       one (To ntp) n e = two ntp n (numberFor delta says 20 (getD s mediaTimeAt 0) 0 (mediaMost version)) refl e
       one Outside n e = absurd (false≢true e)
@@ -201,8 +204,8 @@ prft-headed delta says s a b e =
 -- the share that keeps a full object's `prft` stays lawful
 pub prft-lawful : (says : Says) (s : List ℕ) → prftOf false says s .ok ≡ true
     → let p = prftOf false says s .prft in
-    (p .stands ≡ false → (p .ntp ≡ 0) × (p .media ≡ 0) × (p .version ≡ 0) × (p .flags ≡ 0))
-    × (p .stands ≡ true → (p .version ≤ 1) × ((p .version ≡ 1) ⊎ (p .media ≤ 0xffff_ffff)) × (p .flags ≤ 0xff_ffff))
+    (p .stands ≡ false → (p .ntp .0 ≡ 0) × (p .media .0 ≡ 0) × (p .version ≡ 0) × (p .flags ≡ 0))
+    × (p .stands ≡ true → (p .version ≤ 1) × ((p .version ≡ 1) ⊎ (p .media .0 ≤ 0xffff_ffff)) × (p .flags ≤ 0xff_ffff))
 prft-lawful says s e = go (prftOf false says s .prft) (prft-made false says s e)
   where
     media-most : (version media : ℕ) → version ≤ 1 → (b : Bool) → eqb version 0 ≡ b → media ≤ cond b (2 ^ 32 - 1) (2 ^ 64 - 1)
@@ -211,13 +214,13 @@ prft-lawful says s e = go (prftOf false says s .prft) (prft-made false says s e)
     media-most version media h false q le = let n : version ≡ 0 → ⊥ = eqb-false _ _ q in inl (omega arith)
 
     go : (p : Prft) → (p ≡ noPrft true .prft) ⊎ Made false says s p
-        → (p .stands ≡ false → (p .ntp ≡ 0) × (p .media ≡ 0) × (p .version ≡ 0) × (p .flags ≡ 0))
-        × (p .stands ≡ true → (p .version ≤ 1) × ((p .version ≡ 1) ⊎ (p .media ≤ 0xffff_ffff)) × (p .flags ≤ 0xff_ffff))
+        → (p .stands ≡ false → (p .ntp .0 ≡ 0) × (p .media .0 ≡ 0) × (p .version ≡ 0) × (p .flags ≡ 0))
+        × (p .stands ≡ true → (p .version ≤ 1) × ((p .version ≡ 1) ⊎ (p .media .0 ≤ 0xffff_ffff)) × (p .flags ≤ 0xff_ffff))
     go p (inl q) = rw q ((λ d. (refl, refl, refl, refl)), (λ d. (zero-le, inr zero-le, zero-le)))
     go p (inr m) =
         let v : p .version ≤ 1 = number-for-most false says 22 (getD s versionAt 0) 1 1 (p .version) (λ d. absurd (false≢true d)) (omega arith) (m .version) in
         let f : p .flags ≤ 2 ^ 24 - 1 =
         number-for-most false says 24 (getD s prftFlagsAt 0) 0 (2 ^ 24 - 1) (p .flags) (λ d. absurd (false≢true d)) zero-le (m .flags) in
-        let t : p .media ≤ mediaMost (p .version) =
-        number-for-most false says 20 (getD s mediaTimeAt 0) 0 (mediaMost (p .version)) (p .media) (λ d. absurd (false≢true d)) zero-le (m .media) in
-        ((λ d. absurd (false≢true (sym d ∙ m .stands))), (λ d. (v, media-most (p .version) (p .media) v (eqb (p .version) 0) refl t, omega arith)))
+        let t : p .media .0 ≤ mediaMost (p .version) =
+        number-for-most false says 20 (getD s mediaTimeAt 0) 0 (mediaMost (p .version)) (p .media .0) (λ d. absurd (false≢true d)) zero-le (m .media) in
+        ((λ d. absurd (false≢true (sym d ∙ m .stands))), (λ d. (v, media-most (p .version) (p .media .0) v (eqb (p .version) 0) refl t, omega arith)))

@@ -1,6 +1,6 @@
 -- Laws of the producer reference time: one number of it, and the ways out of code. Assumes nothing.
 use Prim.Native.Nat.{ℕ, _+_, _-_, _*_, _^_}
-use mathlib.Core.Path.{_≡_, _∙_}
+use mathlib.Core.Path.{_≡_, refl, _∙_, ap}
 use mathlib.Core.Bool.{Bool, true, false}
 use mathlib.Core.List.{List, [], _∷_}
 use mathlib.Core.Option.{none, some}
@@ -11,6 +11,11 @@ use Rattle.wire.specs.declared.zigzag.Coding.the-variants.{Plain, Delta}
 use Rattle.wire.specs.declared.zigzag.Reached.{Reached}
 use Rattle.wire.specs.declared.zigzag.Reached.the-variants.{To, Outside}
 use Rattle.wire.specs.Zigzag.{reached, onReached}
+use Rattle.media.specs.declared.clocks.TrackTicks.{TrackTicks}
+use Rattle.media.specs.declared.clocks.TrackTime.{TrackTime}
+use Rattle.media.specs.declared.clocks.NtpUnits.{NtpUnits}
+use Rattle.media.specs.declared.clocks.NtpTime.{NtpTime}
+use Rattle.media.specs.Clocks.{asTrack, trackAt, asNtp, ntpAt as ntpReached}
 use Rattle.slots.specs.Share.{ntpAt, mediaTimeAt, versionAt, prftFlagsAt}
 use Rattle.fields.specs.Said.{Says, scalarIn}
 use Rattle.object.specs.declared.prft.Told.{Told}
@@ -38,14 +43,35 @@ module _ (coding : Coding) (index : List ℕ) (id kept bound : ℕ) where
   unfolding numberOf
   number-sent h r e = rw (scalar-some index id h) e
 
-module _ (delta : Bool) (says : Says) (id share plain bound : ℕ) (r : Reached) where
-  pub number-delta : delta ≡ true → r ≡ numberOf Delta (says id) share bound → r ≡ numberFor delta says id share plain bound
+-- by the kind of object, on any clock
+module _ (delta : Bool) (says : Says) (id share plain bound : ℕ) {A : Type 0} (f : Reached → A) (r : A) where
+  pub for-delta : delta ≡ true → r ≡ f (numberOf Delta (says id) share bound) → r ≡ f (numberFor delta says id share plain bound)
   unfolding numberFor
-  number-delta d e = rw d e
+  for-delta d e = rw d e
 
-  pub number-full : delta ≡ false → r ≡ numberOf Plain (says id) plain bound → r ≡ numberFor delta says id share plain bound
+  pub for-full : delta ≡ false → r ≡ f (numberOf Plain (says id) plain bound) → r ≡ f (numberFor delta says id share plain bound)
   unfolding numberFor
-  number-full d e = rw d e
+  for-full d e = rw d e
+
+-- ---- a time on its own clock
+
+module _ (coding : Coding) (index : List ℕ) (kept : ℕ) where
+  pub ntp-kept : getD index 54 0 ≡ 0 → NtpTime.At (record { 0 = kept }) ≡ asNtp (numberOf coding (scalarIn index 18) kept (2 ^ 64 - 1))
+  ntp-kept e = ap asNtp (number-kept coding index 18 kept (2 ^ 64 - 1) e)
+
+  pub ntp-sent : (getD index 54 0 ≡ 0 → ⊥) → (r : NtpTime) → r ≡ ntpReached coding kept (getD index 55 0)
+      → r ≡ asNtp (numberOf coding (scalarIn index 18) kept (2 ^ 64 - 1))
+  unfolding ntpReached
+  ntp-sent h r e = e ∙ ap asNtp (number-sent coding index 18 kept (2 ^ 64 - 1) h _ refl)
+
+  module _ (bound : ℕ) where
+    pub media-kept : getD index 60 0 ≡ 0 → TrackTime.At (record { 0 = kept }) ≡ asTrack (numberOf coding (scalarIn index 20) kept bound)
+    media-kept e = ap asTrack (number-kept coding index 20 kept bound e)
+
+    pub media-sent : (getD index 60 0 ≡ 0 → ⊥) → (r : TrackTime) → r ≡ trackAt coding kept bound (getD index 61 0)
+        → r ≡ asTrack (numberOf coding (scalarIn index 20) kept bound)
+    unfolding trackAt
+    media-sent h r e = e ∙ ap asTrack (number-sent coding index 20 kept bound h _ refl)
 
 -- the most that a media time may be, by the version
 module _ (version : ℕ) where
@@ -57,18 +83,18 @@ module _ (version : ℕ) where
 
 -- ---- the two times
 
-module _ (delta : Bool) (says : Says) (s : List ℕ) (version flags : ℕ) (n : Reached) (en : n ≡ numberFor delta says 18 (getD s ntpAt 0) 0 (2 ^ 64 - 1)) where
-  pub ntp-outside : n ≡ Outside → (r : Told) → r ≡ noPrft false → r ≡ timesOf delta says s version flags
+module _ (delta : Bool) (says : Says) (s : List ℕ) (version flags : ℕ) (n : NtpTime) (en : n ≡ asNtp (numberFor delta says 18 (getD s ntpAt 0) 0 (2 ^ 64 - 1))) where
+  pub ntp-outside : n ≡ NtpTime.Outside → (r : Told) → r ≡ noPrft false → r ≡ timesOf delta says s version flags
   unfolding timesOf
   ntp-outside q r e = rw (← en, q) e
 
-  module _ (ntp : ℕ) (to : n ≡ To ntp) (most : ℕ) (em : most ≡ mediaMost version)
-      (m : Reached) (e : m ≡ numberFor delta says 20 (getD s mediaTimeAt 0) 0 most) where
-    pub media-outside : m ≡ Outside → (r : Told) → r ≡ noPrft false → r ≡ timesOf delta says s version flags
+  module _ (ntp : NtpUnits) (to : n ≡ NtpTime.At ntp) (most : ℕ) (em : most ≡ mediaMost version)
+      (m : TrackTime) (e : m ≡ asTrack (numberFor delta says 20 (getD s mediaTimeAt 0) 0 most)) where
+    pub media-outside : m ≡ TrackTime.Outside → (r : Told) → r ≡ noPrft false → r ≡ timesOf delta says s version flags
     unfolding timesOf
     media-outside q r d = rw (← en, to, ← em, ← e, q) d
 
-    pub times-are : (media : ℕ) → m ≡ To media → told true true ntp media version flags ≡ timesOf delta says s version flags
+    pub times-are : (media : TrackTicks) → m ≡ TrackTime.At media → told ntp media version flags ≡ timesOf delta says s version flags
     unfolding timesOf
     times-are media q = rw (← en, to, ← em, ← e, q)
 

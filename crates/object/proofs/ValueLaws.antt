@@ -14,7 +14,7 @@ use Rattle.wire.specs.declared.form.Row.{Row}
 use Rattle.track.specs.declared.Track.{Track}
 use Rattle.media.specs.declared.clocks.TrackTime.{TrackTime}
 use Rattle.media.specs.declared.clocks.TrackTime.the-variants.{At, Outside}
-use Rattle.media.specs.Clocks.{trackAt}
+use Rattle.media.specs.Clocks.{onTrack}
 use Rattle.block.specs.declared.tuples.Part.{Part}
 use Rattle.block.specs.declared.records.Record.{Record}
 use Rattle.block.specs.Index.{bytesOf}
@@ -26,7 +26,7 @@ use Rattle.block.proofs.RecordRuns.{Lies, length-words, records-lie}
 use Rattle.block.proofs.EventLaws.{events-at}
 use Rattle.chunk.specs.Front.{Event as Box}
 use Rattle.chunk.specs.Events.{part, eventAt, eventsFrom, eventsOf, EventFits, EventsFit}
-use Rattle.object.specs.Events.{onTrack, onClock, rebuilt, timed, eventOk, eventsOk, allRebuilt}
+use Rattle.object.specs.Events.{fromBmdt, onClock, rebuilt, timed, eventOk, eventsOk, allRebuilt}
 use Rattle.object.specs.Values.{listed, fits, allFit, withTime, boxed, boxes}
 use Rattle.object.proofs.EventLaws.{length-rebuilt}
 
@@ -51,7 +51,7 @@ module _ (t : Track) (bmdt : ℕ) (o : List ℕ) (r : Record) where
   -- its words, rebuilt, are those of its box
   event-boxed : (ws : List ℕ) → eventAt o (rebuilt t bmdt (recordWords r) ++ ws) 0 ≡ boxed t bmdt (eventOf o r)
   unfolding eventAt rebuilt onClock boxed eventOf
-  event-boxed ws = go (eqb (r .timescale) 0) (trackAt bmdt (r .time))
+  event-boxed ws = go (eqb (r .timescale) 0) (fromBmdt bmdt (r .time))
     where
       box : ℕ → ℕ → List ℕ → List ℕ → List ℕ → Box
       box scale time scheme value message =
@@ -71,9 +71,9 @@ module _ (t : Track) (bmdt : ℕ) (o : List ℕ) (r : Record) where
       same scale time = λ j. box scale time (part-is o (r .scheme) j) (part-is o (r .value) j) (part-is o (r .message) j)
 
       go : (c : Bool) (x : TrackTime)
-          → eventAt o (cond c (onTrack x (λ time. sets (recordWords r) 4 (t .timescale ∷ time ∷ [])) (recordWords r)) (recordWords r) ++ ws) 0
+          → eventAt o (cond c (onTrack x (λ time. sets (recordWords r) 4 (t .timescale ∷ time .0 ∷ [])) (recordWords r)) (recordWords r) ++ ws) 0
           ≡ cond c
-          (onTrack x (withTime (eventOf o r) (t .timescale)) (withTime (eventOf o r) (r .timescale) (r .time)))
+          (onTrack x (λ time. withTime (eventOf o r) (t .timescale) (time .0)) (withTime (eventOf o r) (r .timescale) (r .time)))
           (withTime (eventOf o r) (r .timescale) (r .time))
       go true (At x) = same (t .timescale) (x .0)
       go true Outside = same (r .timescale) (r .time)

@@ -1,6 +1,6 @@
 -- The values of the events of an object, and their clocks. An event is read as ten words (`recordWords` of crate `block`): the places and
 -- lengths of its scheme and its value, its timescale, time, duration and id, and its message's place and length.
-use Prim.Native.Nat.{ℕ, zero, suc}
+use Prim.Native.Nat.{ℕ, zero, suc, _-_, _^_}
 use mathlib.Core.Path.{_≡_}
 use mathlib.Core.Bool.{Bool, true, false, cond}
 use mathlib.Core.List.{List, [], _∷_, _++_}
@@ -11,23 +11,24 @@ use Rattle.laws.specs.Tests.{_and_}
 unfoldable pub use Rattle.laws.specs.Tests.{noZero}
 use Rattle.track.specs.declared.Track.{Track}
 use Rattle.track.specs.Track.{u32}
+use Rattle.wire.specs.declared.zigzag.Coding.the-variants.{Delta}
+use Rattle.media.specs.declared.clocks.TrackTicks.{TrackTicks}
 use Rattle.media.specs.declared.clocks.TrackTime.{TrackTime}
-use Rattle.media.specs.declared.clocks.TrackTime.the-variants.{At, Outside}
-use Rattle.media.specs.Clocks.{trackAt}
+use Rattle.media.specs.Clocks.{onTrack, trackAt}
 use Rattle.chunk.specs.Events.{part, EventsFit}
 
-abbrev pub onTrack : {A : Type 0} → TrackTime → (ℕ → A) → A → A
-onTrack (At ticks) f z = f (ticks .0)
-onTrack Outside f z = z
+-- the time at a distance from BMDT; the box field has 64 bits
+abbrev pub fromBmdt : ℕ → ℕ → TrackTime
+fromBmdt bmdt z = trackAt Delta bmdt (2 ^ 64 - 1) z
 
 -- 01: "Timescale 0 means the track's .. Then the time is a zigzag distance from BMDT in track ticks; otherwise an absolute count on the
 -- event's own clock."
-unfoldable pub onClock : {A : Type 0} → ℕ → List ℕ → (ℕ → A) → A → A → A
-onClock bmdt e track outside own = cond (eqb (getD e 4 0) 0) (onTrack (trackAt bmdt (getD e 5 0)) track outside) own
+unfoldable pub onClock : {A : Type 0} → ℕ → List ℕ → (TrackTicks → A) → A → A → A
+onClock bmdt e track outside own = cond (eqb (getD e 4 0) 0) (onTrack (fromBmdt bmdt (getD e 5 0)) track outside) own
 
 -- the words of an event with the timescale and time of its box
 unfoldable pub rebuilt : Track → ℕ → List ℕ → List ℕ
-rebuilt t bmdt e = onClock bmdt e (λ time. sets e 4 (t .timescale ∷ time ∷ [])) e e
+rebuilt t bmdt e = onClock bmdt e (λ time. sets e 4 (t .timescale ∷ time .0 ∷ [])) e e
 
 -- 01: "A rebuilt time below 0: 15."
 unfoldable pub timed : ℕ → List ℕ → Bool

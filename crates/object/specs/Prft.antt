@@ -10,6 +10,10 @@ use Rattle.wire.specs.declared.zigzag.Coding.{Coding}
 use Rattle.wire.specs.declared.zigzag.Reached.{Reached}
 use Rattle.wire.specs.declared.zigzag.Reached.the-variants.{To}
 use Rattle.wire.specs.Zigzag.{reached, onReached}
+use Rattle.media.specs.declared.clocks.NtpUnits.{NtpUnits}
+use Rattle.media.specs.declared.clocks.TrackTicks.{TrackTicks}
+use Rattle.media.specs.Clocks.{asTrack, onTrack, asNtp, onNtp}
+use Rattle.chunk.specs.Front.{absentPrft}
 use Rattle.slots.specs.Share.{ntpAt, mediaTimeAt, versionAt, prftFlagsAt}
 use Rattle.fields.specs.Said.{Says}
 use Rattle.fields.specs.Cells.{codingFor}
@@ -21,12 +25,12 @@ numberOf coding none kept bound = To kept
 numberOf coding (some []) kept bound = To kept
 numberOf coding (some (z ∷ zs)) kept bound = reached coding kept bound z
 
-abbrev pub told : Bool → Bool → ℕ → ℕ → ℕ → ℕ → Told
-told ok stands ntp media version flags =
-    record { ok = ok; prft = record { stands = stands; ntp = ntp; media = media; version = version; flags = flags } }
+abbrev pub told : NtpUnits → TrackTicks → ℕ → ℕ → Told
+told ntp media version flags =
+    record { ok = true; prft = record { stands = true; ntp = ntp; media = media; version = version; flags = flags } }
 
 abbrev pub noPrft : Bool → Told
-noPrft ok = told ok false 0 0 0 0
+noPrft ok = record { ok = ok; prft = absentPrft }
 
 -- 01: "A value's range is that of its box field, after deltas": the media time has 32 bits in version 0
 abbrev pub mediaMost : ℕ → ℕ
@@ -40,12 +44,12 @@ keptFor delta share plain = cond delta share plain
 unfoldable pub numberFor : Bool → Says → ℕ → ℕ → ℕ → ℕ → Reached
 numberFor delta says id share plain bound = numberOf (codingFor delta) (says id) (keptFor delta share plain) bound
 
--- the two times, once version and flags are known
+-- the two times, each on its own clock, once version and flags are known
 unfoldable pub timesOf : Bool → Says → List ℕ → ℕ → ℕ → Told
 timesOf delta says s version flags =
-    onReached (numberFor delta says 18 (getD s ntpAt 0) 0 (2 ^ 64 - 1))
+    onNtp (asNtp (numberFor delta says 18 (getD s ntpAt 0) 0 (2 ^ 64 - 1)))
     (λ ntp.
-    onReached (numberFor delta says 20 (getD s mediaTimeAt 0) 0 (mediaMost version)) (λ media. told true true ntp media version flags) (noPrft false))
+    onTrack (asTrack (numberFor delta says 20 (getD s mediaTimeAt 0) 0 (mediaMost version))) (λ media. told ntp media version flags) (noPrft false))
     (noPrft false)
 
 unfoldable pub prftOf : Bool → Says → List ℕ → Told

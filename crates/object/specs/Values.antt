@@ -8,10 +8,10 @@ use Rattle.laws.specs.Tests.{_and_, noZero}
 use Rattle.wire.specs.declared.form.Row.{Row}
 use Rattle.track.specs.declared.Track.{Track}
 use Rattle.track.specs.Track.{u32}
-use Rattle.media.specs.Clocks.{trackAt}
+use Rattle.media.specs.Clocks.{onTrack}
 use Rattle.block.specs.Events.{Event, eventsF}
 use Rattle.chunk.specs.Front.{Event as Box}
-use Rattle.object.specs.Events.{onTrack}
+use Rattle.object.specs.Events.{fromBmdt}
 
 -- the events that id 25 lists
 unfoldable pub listed : List Row → Option (List ℕ) → List Event
@@ -25,7 +25,7 @@ listed F (some bs) = onEvents (eventsF F bs)
 -- 01: "Timescale 0 means the track's .. Then the time is a zigzag distance from BMDT in track ticks; otherwise an absolute count on the
 -- event's own clock."
 abbrev pub onTime : {A : Type 0} → Track → ℕ → Event → (ℕ → ℕ → A) → A → A
-onTime t bmdt e f outside = cond (eqb (e .timescale) 0) (onTrack (trackAt bmdt (e .time)) (f (t .timescale)) outside) (f (e .timescale) (e .time))
+onTime t bmdt e f outside = cond (eqb (e .timescale) 0) (onTrack (fromBmdt bmdt (e .time)) (λ time. f (t .timescale) (time .0)) outside) (f (e .timescale) (e .time))
 
 -- 01: "A rebuilt time below 0: 15. Strings hold no zero byte (15)"; timescale, duration and id have 32 bits
 unfoldable pub fits : Track → ℕ → Event → Bool

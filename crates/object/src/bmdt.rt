@@ -4,6 +4,7 @@ ghost use lib.ListN.{length};
 ghost use Rattle.fields.specs.Said.{scalarIn};
 ghost use Rattle.object.specs.Bmdt.{durationsOf, bmdtOf, Timed};
 use fieldset::lines;
+use media::clocks::TrackTicks;
 use track::Track;
 
 // The sum of the effective durations of the reference.
@@ -23,13 +24,13 @@ pub fn durations(t: Track, r: &[u64]) -> u64
 }
 
 // What the object sends, or what follows from the reference.
-pub fn bmdt_of(t: Track, index: &[u64], r: &[u64]) -> u64
+pub fn bmdt_of(t: Track, index: &[u64], r: &[u64]) -> TrackTicks
     requires { ⌜ length (now index) ≡ 84 ⌝ }
     requires { ⌜ Timed (now r) ⌝ }
-    ensures { λ b. ⌜ b ≡ bmdtOf t (scalarIn (now (index .entry)) 10) (now (r .entry)) ⌝ }
+    ensures { λ b. ⌜ b .0 ≡ bmdtOf t (scalarIn (now (index .entry)) 10) (now (r .entry)) ⌝ }
 {
     if index[30] != 0 {
-        return index[31];
+        return TrackTicks(index[31]);
     }
-    r[lines::BMDT] + durations(t, r)
+    TrackTicks(r[lines::BMDT] + durations(t, r))
 }

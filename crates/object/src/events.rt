@@ -9,8 +9,11 @@ ghost use Rattle.object.specs.Events.{rebuilt, timed, noZero, EventRead,
 use media::clocks::TrackTicks;
 use media::clocks::TrackTime;
 use track::Track;
+use wire::zigzag::Coding;
 
 const U32: u64 = 0xffff_ffff;
+
+const U64: u64 = 0xffff_ffff_ffff_ffff;
 
 // Whether none of the bytes from a place up to another is 0.
 fn no_zero(o: &[u8], from: usize, to: usize) -> bool
@@ -27,15 +30,15 @@ fn no_zero(o: &[u8], from: usize, to: usize) -> bool
 }
 
 // The event whose ten words start at the place p: its timescale and time become those of its box.
-fn rebuild(t: Track, bmdt: u64, events: &mut [u64], p: usize) -> bool
+fn rebuild(t: Track, bmdt: TrackTicks, events: &mut [u64], p: usize) -> bool
     requires { ⌜ p + 10 ≤ length (now events) ⌝ }
-    ensures { λ r. ⌜ r ≡ timed bmdt (drop p (now (events .entry))) ⌝ }
-    ensures { λ _. ⌜ now (events .exit) ≡ take p (now (events .entry)) ++ rebuilt t bmdt (drop p (now (events .entry))) ⌝ }
+    ensures { λ r. ⌜ r ≡ timed (bmdt .0) (drop p (now (events .entry))) ⌝ }
+    ensures { λ _. ⌜ now (events .exit) ≡ take p (now (events .entry)) ++ rebuilt t (bmdt .0) (drop p (now (events .entry))) ⌝ }
 {
     if events[p + 4] != 0 {
         return true;
     }
-    let at = TrackTicks(bmdt).at_distance(events[p + 5]);
+    let at = bmdt.reach(Coding::Delta, U64, events[p + 5]);
     let TrackTime::At(time) = at else {
         return false;
     };
@@ -45,11 +48,11 @@ fn rebuild(t: Track, bmdt: u64, events: &mut [u64], p: usize) -> bool
 }
 
 // Whether the values of the event whose ten words start at the place p are in range; it is rebuilt.
-fn event_ok(t: Track, bmdt: u64, o: &[u8], events: &mut [u64], p: usize) -> bool
+fn event_ok(t: Track, bmdt: TrackTicks, o: &[u8], events: &mut [u64], p: usize) -> bool
     requires { ⌜ p + 10 ≤ length (now events) ⌝ }
     requires { ⌜ Inside (now o) (getD (now events) p 0) (getD (now events) (p + 1) 0) ⌝ }
     requires { ⌜ Inside (now o) (getD (now events) (p + 2) 0) (getD (now events) (p + 3) 0) ⌝ }
-    ensures { λ r. ⌜ EventRead t bmdt (now (o .entry)) (now (events .entry)) p r (now (events .exit)) ⌝ }
+    ensures { λ r. ⌜ EventRead t (bmdt .0) (now (o .entry)) (now (events .entry)) p r (now (events .exit)) ⌝ }
 {
     let a = events[p] as usize;
     let b = events[p + 2] as usize;
@@ -60,10 +63,10 @@ fn event_ok(t: Track, bmdt: u64, o: &[u8], events: &mut [u64], p: usize) -> bool
 }
 
 // Whether the first k events' values are in range; each is rebuilt.
-pub fn events_ok(t: Track, bmdt: u64, o: &[u8], events: &mut [u64], k: usize) -> bool
+pub fn events_ok(t: Track, bmdt: TrackTicks, o: &[u8], events: &mut [u64], k: usize) -> bool
     requires { ⌜ length (now events) ≡ 160 ⌝ }
     requires { ⌜ EventsFit (now o) (now events) k ⌝ }
-    ensures { λ r. ⌜ EventsRead t bmdt (now (o .entry)) (now (events .entry)) k r (now (events .exit)) ⌝ }
+    ensures { λ r. ⌜ EventsRead t (bmdt .0) (now (o .entry)) (now (events .entry)) k r (now (events .exit)) ⌝ }
 {
     let mut ok = true;
     let mut i = 0;

@@ -9,22 +9,22 @@ use Rattle.object.proofs.bmdt.bmdt_of.Tie as tie
 shared-slice-read-if1 : tie.Need-shared-slice-read-if1
 shared-slice-read-if1 c = search needs
 
-shared-slice-read-result : tie.Need-shared-slice-read-result
-shared-slice-read-result c = search needs
+shared-slice-read-t8 : tie.Need-shared-slice-read-t8
+shared-slice-read-t8 c = search needs
 
 returns : tie.Need-returns
 returns c =
     let a = c .before .before .before .before .before .args in
     bmdt-index (a .t) (now (a .r)) (now (a .index)) (c .before .if1 .taken)
 
-shared-slice-read-result-2 : tie.Need-shared-slice-read-result-2
-shared-slice-read-result-2 c = search needs
+shared-slice-read-t5 : tie.Need-shared-slice-read-t5
+shared-slice-read-t5 c = search needs
 
 durations-requires : tie.Need-durations-requires
 durations-requires c κs = search needs
 
-add-result : tie.Need-add-result
-add-result c =
+add-t11 : tie.Need-add-t11
+add-t11 c =
     let b = c .before .before .before .before .before .before in
     omega (arith, bmdt-fits (b .args .t) (now (b .args .r)) (b .pre .1) (omega arith) _ (c .durations .ensures))
 
@@ -38,9 +38,9 @@ bmdt-of-spec =
     tie.close
     (tie.spec
     shared-slice-read-if1
-    shared-slice-read-result
+    shared-slice-read-t8
     returns
-    shared-slice-read-result-2
+    shared-slice-read-t5
     durations-requires
-    add-result
+    add-t11
     returns-2)

@@ -7,7 +7,7 @@ use Rattle.object.proofs.events.events_ok.Statement.{statement}
 use Rattle.object.proofs.events.events_ok.Tie as tie
 
 abbrev Inv-loop : tie.InvT-loop
-Inv-loop t bmdt o events₀ k ok₀ i₀ events ok i = Reading t bmdt o events₀ k events ok i
+Inv-loop t bmdt o events₀ k ok₀ i₀ events ok i = Reading t (bmdt .0) o events₀ k events ok i
 
 abbrev μ-loop : tie.MeasureT-loop
 μ-loop t bmdt o events₀ k ok₀ i₀ events ok i = k - i

@@ -19,17 +19,17 @@ slice-read-if1 c = search needs
 returns : tie.Need-returns
 returns c = own-clock _ _ _ _ (c .if1 .taken)
 
-add-at-distance : tie.Need-add-at-distance
-add-at-distance c = search needs
+add-reach : tie.Need-add-reach
+add-reach c = search needs
 
-mul-at-distance : tie.Need-mul-at-distance
-mul-at-distance c = search needs
+mul-reach : tie.Need-mul-reach
+mul-reach c = search needs
 
-slice-read-at-distance : tie.Need-slice-read-at-distance
-slice-read-at-distance c = search needs
+slice-read-reach : tie.Need-slice-read-reach
+slice-read-reach c = search needs
 
-at-distance-requires : tie.Need-at-distance-requires
-at-distance-requires c κs = search needs
+reach-requires : tie.Need-reach-requires
+reach-requires c κs = search needs
 
 enum-known-at : tie.Need-enum-known-at
 enum-known-at c = search needs
@@ -40,7 +40,7 @@ enum-told c = search needs
 returns-2 : tie.Need-returns-2
 returns-2 c =
     let b = c .before .before in
-    time-outside _ _ _ _ (b .before .before .if1 .left) (sym (c .enum-told .given .1) ∙ b .at-distance .ensures)
+    time-outside _ _ _ _ (b .before .before .if1 .left) (sym (c .enum-told .given .1) ∙ b .reach .ensures)
 
 cast-events : tie.Need-cast-events
 cast-events c = search needs
@@ -69,7 +69,7 @@ same-length c = search needs
 returns-3 : tie.Need-returns-3
 returns-3 c =
     let b = c .before .before .before .before in
-    time-at _ _ _ _ (b .before .before .if1 .left) _ (sym (c .before .before .at .given .1) ∙ b .at-distance .ensures) (b .before .before .before .before .before .pre)
+    time-at _ _ _ _ (b .before .before .if1 .left) _ (sym (c .before .before .at .given .1) ∙ b .reach .ensures) (b .before .before .before .before .before .pre)
 
 pub rebuild-spec : {M : Type 1} → statement M
 rebuild-spec =
@@ -79,10 +79,10 @@ rebuild-spec =
     mul-if1
     slice-read-if1
     returns
-    add-at-distance
-    mul-at-distance
-    slice-read-at-distance
-    at-distance-requires
+    add-reach
+    mul-reach
+    slice-read-reach
+    reach-requires
     enum-known-at
     enum-told
     returns-2

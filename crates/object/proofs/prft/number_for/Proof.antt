@@ -2,7 +2,7 @@
 use borrow.Author.Needs.{needs}
 use denote.Ref.{now}
 use Rattle.fields.specs.Said.{scalarIn}
-use Rattle.object.proofs.PrftLaws.{number-delta, number-full}
+use Rattle.object.proofs.PrftLaws.{for-delta, for-full}
 use Rattle.object.proofs.prft.number_for.Statement.{statement}
 use Rattle.object.proofs.prft.number_for.Tie as tie
 
@@ -12,7 +12,7 @@ number-requires c κs = search needs
 returns : tie.Need-returns
 returns c =
     let a = c .before .before .before .args in
-    number-delta (a .delta) (scalarIn (now (a .index))) _ _ _ _ _ (c .before .if1 .taken) (c .number .ensures)
+    for-delta (a .delta) (scalarIn (now (a .index))) _ _ _ _ (λ r. r) _ (c .before .if1 .taken) (c .number .ensures)
 
 number-requires-2 : tie.Need-number-requires-2
 number-requires-2 c κs = search needs
@@ -20,7 +20,7 @@ number-requires-2 c κs = search needs
 returns-2 : tie.Need-returns-2
 returns-2 c =
     let a = c .before .before .before .args in
-    number-full (a .delta) (scalarIn (now (a .index))) _ _ _ _ _ (c .before .if1 .left) (c .number2 .ensures)
+    for-full (a .delta) (scalarIn (now (a .index))) _ _ _ _ (λ r. r) _ (c .before .if1 .left) (c .number2 .ensures)
 
 pub number-for-spec : {M : Type 1} → statement M
 number-for-spec = tie.close (tie.spec number-requires returns number-requires-2 returns-2)
