@@ -10,6 +10,7 @@ use Rattle.laws.specs.Bytes.{Bytes}
 use Rattle.laws.proofs.TestLaws.{and-left, and-right, either}
 use Rattle.shape.specs.declared.parts.Part.{Part}
 use Rattle.shape.specs.Parts.{Inside}
+use Rattle.chunk.specs.Front.{absentPrft}
 use Rattle.chunk.specs.Writable.{Headed}
 use Rattle.prelude.specs.Fields.{versionAt}
 use Rattle.tree.specs.Numbers.{u32, u64}
@@ -75,12 +76,12 @@ module _ (c : List ℕ) (b : Part) where
   unfolding mediaTime
   media-wide w m e z em = rw (← e, ne-eqb (w / 0x100_0000) 0 z) em
 
-  pub prft-none : b .len ≡ 0 → record { stands = false; ntp = 0; media = 0; version = 0; flags = 0 } ≡ prftOf c b
+  pub prft-none : b .len ≡ 0 → absentPrft ≡ prftOf c b
   unfolding prftOf
   prft-none h = rw (eq-eqb (b .len) 0 h)
 
   pub prft-some : (b .len ≡ 0 → ⊥) → (w n m : ℕ) → w ≡ u32 c (b .at + 8) → n ≡ u64 c (b .at + 16) → m ≡ mediaTime c b
-      → record { stands = true; ntp = n; media = m; version = w / 0x100_0000; flags = w % 0x100_0000 } ≡ prftOf c b
+      → record { stands = true; ntp = record { 0 = n }; media = record { 0 = m }; version = w / 0x100_0000; flags = w % 0x100_0000 } ≡ prftOf c b
   unfolding prftOf
   prft-some h w n m ew en em = rw (ne-eqb (b .len) 0 h, ew, en, em)
 
@@ -105,17 +106,17 @@ module _ (c : List ℕ) (b : Part) where
           (record { version = omega (arith, f .version); flags = omega arith })
 
   -- where no box stands, nothing is said
-  pub prft-lacks : prftOf c b .stands ≡ false → record { stands = false; ntp = 0; media = 0; version = 0; flags = 0 } ≡ prftOf c b
+  pub prft-lacks : prftOf c b .stands ≡ false → absentPrft ≡ prftOf c b
   unfolding prftOf
   prft-lacks = by (eqb (b .len) 0) refl
     where
-      by : (t : Bool) → eqb (b .len) 0 ≡ t → prftOf c b .stands ≡ false → record { stands = false; ntp = 0; media = 0; version = 0; flags = 0 } ≡ prftOf c b
+      by : (t : Bool) → eqb (b .len) 0 ≡ t → prftOf c b .stands ≡ false → absentPrft ≡ prftOf c b
       by true q z = prft-none (eqb-true (b .len) 0 q)
       by false q z = absurd (false≢true (sym (rw q at z)))
 
   -- its version is 0 or 1, and its times have as many bits as their fields: the media time 32 in version 0
-  pub prft-ranges : Bytes c → Inside c b → prftOk c b ≡ true → (prftOf c b .version ≤ 1) × (prftOf c b .ntp ≤ 2 ^ 64 - 1)
-      × (prftOf c b .media ≤ cond (eqb (prftOf c b .version) 0) (2 ^ 32 - 1) (2 ^ 64 - 1))
+  pub prft-ranges : Bytes c → Inside c b → prftOk c b ≡ true → (prftOf c b .version ≤ 1) × (prftOf c b .ntp .0 ≤ 2 ^ 64 - 1)
+      × (prftOf c b .media .0 ≤ cond (eqb (prftOf c b .version) 0) (2 ^ 32 - 1) (2 ^ 64 - 1))
   unfolding prftOf mediaTime
   prft-ranges h n e = by (eqb (b .len) 0) refl
     where
@@ -123,8 +124,8 @@ module _ (c : List ℕ) (b : Part) where
       media f true q = omega (arith, number-lt c 4 (b .at + 24) h (omega (arith, f .long, n .within)))
       media f false q = omega (arith, number-lt c 8 (b .at + 24) h (omega (arith, f .wide (eqb-false _ _ q), n .within)))
 
-      by : (t : Bool) → eqb (b .len) 0 ≡ t → (prftOf c b .version ≤ 1) × (prftOf c b .ntp ≤ 2 ^ 64 - 1)
-          × (prftOf c b .media ≤ cond (eqb (prftOf c b .version) 0) (2 ^ 32 - 1) (2 ^ 64 - 1))
+      by : (t : Bool) → eqb (b .len) 0 ≡ t → (prftOf c b .version ≤ 1) × (prftOf c b .ntp .0 ≤ 2 ^ 64 - 1)
+          × (prftOf c b .media .0 ≤ cond (eqb (prftOf c b .version) 0) (2 ^ 32 - 1) (2 ^ 64 - 1))
       by true q = rw q (omega arith, omega arith, omega arith)
       by false q =
           let f = prft-fits e (omega (arith, eqb-false (b .len) 0 q)) in

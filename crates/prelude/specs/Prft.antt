@@ -1,10 +1,11 @@
 -- The `prft` of a chunk, or its absence: a box of no bytes. 01: "`prft`: version 0 or 1, any flags, its track ours."
 use Prim.Native.Nat.{ℕ, _+_}
-use mathlib.Core.Bool.{Bool, true, false, cond, _&&_, _||_}
+use mathlib.Core.Bool.{Bool, true, cond, _&&_, _||_}
 use mathlib.Core.List.{List}
 use lib.Dec.{eqb}
 use Rattle.shape.specs.declared.parts.Part.{Part}
 use Rattle.chunk.specs.declared.outer.Prft.{Prft}
+use Rattle.chunk.specs.Front.{absentPrft}
 use Rattle.prelude.specs.Fields.{versionAt, flagsAt}
 use Rattle.tree.specs.Numbers.{u32, u64}
 
@@ -19,8 +20,8 @@ mediaTime c b = cond (eqb (versionAt c b) 0) (u32 c (b .at + 24)) (u64 c (b .at 
 -- what the box says
 unfoldable pub prftOf : List ℕ → Part → Prft
 prftOf c b =
-    cond (eqb (b .len) 0) (record { stands = false; ntp = 0; media = 0; version = 0; flags = 0 })
-    (record { stands = true; ntp = u64 c (b .at + 16); media = mediaTime c b; version = versionAt c b; flags = flagsAt c b })
+    cond (eqb (b .len) 0) absentPrft
+    (record { stands = true; ntp = record { 0 = u64 c (b .at + 16) }; media = record { 0 = mediaTime c b }; version = versionAt c b; flags = flagsAt c b })
 
 -- the track that it names; ours where there is no box
 unfoldable pub prftTrack : List ℕ → Part → ℕ → ℕ

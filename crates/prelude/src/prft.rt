@@ -5,6 +5,8 @@ ghost use Prim.Native.Nat.{_<_};
 ghost use Rattle.shape.specs.Parts.{Inside};
 ghost use Rattle.prelude.specs.Prft.{prftOk, mediaTime, prftOf, prftTrack};
 use chunk::outer::Prft;
+use media::clocks::NtpUnits;
+use media::clocks::TrackTicks;
 use shape::parts::Part;
 use tree::numbers;
 
@@ -21,16 +23,16 @@ pub fn prft_ok(c: &[u8], b: Part) -> bool
 }
 
 // The media time of a box that stands.
-fn media_time(c: &[u8], b: Part) -> u64
+fn media_time(c: &[u8], b: Part) -> TrackTicks
     requires { ⌜ Inside (now c) b ⌝ }
     requires { ⌜ (prftOk (now c) b ≡ true) × (0 < b .len) ⌝ }
-    ensures { λ r. ⌜ r ≡ mediaTime (now (c .entry)) b ⌝ }
+    ensures { λ r. ⌜ r .0 ≡ mediaTime (now (c .entry)) b ⌝ }
 {
     let version = numbers::u32_at(c, b.at + 8) / 0x100_0000;
     if version == 0 {
-        return numbers::u32_at(c, b.at + 24);
+        return TrackTicks(numbers::u32_at(c, b.at + 24));
     }
-    numbers::u64_at(c, b.at + 24)
+    TrackTicks(numbers::u64_at(c, b.at + 24))
 }
 
 pub fn prft_of(c: &[u8], b: Part) -> Prft
@@ -39,16 +41,10 @@ pub fn prft_of(c: &[u8], b: Part) -> Prft
     ensures { λ r. ⌜ r ≡ prftOf (now (c .entry)) b ⌝ }
 {
     if b.len == 0 {
-        return Prft {
-            stands: false,
-            ntp: 0,
-            media: 0,
-            version: 0,
-            flags: 0,
-        };
+        return Prft::none();
     }
     let word = numbers::u32_at(c, b.at + 8);
-    let ntp = numbers::u64_at(c, b.at + 16);
+    let ntp = NtpUnits(numbers::u64_at(c, b.at + 16));
     let media = media_time(c, b);
     Prft {
         stands: true,

@@ -1,12 +1,16 @@
 -- `prelude::prft::prft_of` meets its contract, field by field. Assumes nothing.
 use native.Mathlib.Omega.{arith}
+use mathlib.Core.Path.{_∙_}
 use Rattle.prelude.proofs.PrftLaws.{prft-fits, prft-none, prft-some}
 use borrow.Author.Needs.{needs}
 use Rattle.prelude.proofs.prft.prft_of.Statement.{statement}
 use Rattle.prelude.proofs.prft.prft_of.Tie as tie
 
+none-requires : tie.Need-none-requires
+none-requires c κs = search needs
+
 returns : tie.Need-returns
-returns c = prft-none _ _ (c .if1 .taken)
+returns c = c .none .ensures ∙ prft-none _ _ (c .before .if1 .taken)
 
 add-u32-at : tie.Need-add-u32-at
 add-u32-at c = search needs
@@ -40,6 +44,7 @@ pub prft-of-spec : {M : Type 1} → statement M
 prft-of-spec =
     tie.close
     (tie.spec
+    none-requires
     returns
     add-u32-at
     u32-at-requires
