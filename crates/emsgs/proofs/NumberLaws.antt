@@ -1,7 +1,7 @@
 -- The numbers of a record: its timescale and time by the event's clock. Assumes nothing.
 use Prim.Native.Nat.{ℕ, _≤_}
 use native.Mathlib.Omega.{arith}
-use mathlib.Core.Path.{_≡_}
+use mathlib.Core.Path.{_≡_, ap}
 use mathlib.Core.Bool.{Bool, true, false, cond}
 use mathlib.Core.List.{List}
 use borrow.Author.Tests.{eq-eqb, ne-eqb}
@@ -9,8 +9,11 @@ use lib.Dec.{eqb}
 use Rattle.wire.specs.declared.form.Row.{Row}
 use Rattle.wire.specs.declared.zigzag.Coding.the-variants.{Plain, Delta}
 use Rattle.wire.specs.Zigzag.{wireOf, fitted, codeOf}
+use Rattle.media.specs.declared.clocks.TrackTicks.{TrackTicks}
+use Rattle.media.specs.declared.clocks.EventTicks.{EventTicks}
+use Rattle.media.specs.declared.clocks.EventTime.{EventTime}
 use Rattle.track.specs.declared.Track.{Track}
-use Rattle.emsgs.specs.Records.{scaleFor, clockOf, timeFor}
+use Rattle.emsgs.specs.Records.{scaleFor, clockOf, wireTime, timeFor}
 
 -- on the track's clock, and on the event's own
 module _ (t : Track) (scale : ℕ) where
@@ -31,11 +34,21 @@ module _ (t : Track) (scale : ℕ) where
       go true = omega arith
       go false = omega arith
 
-  module _ (F : List Row) (bmdt time : ℕ) where
-    pub time-track : scale ≡ t .timescale → codeOf F Delta bmdt time ≡ fitted F (timeFor t bmdt scale time)
-    unfolding codeOf timeFor clockOf
-    time-track e = rw (eq-eqb _ _ e)
+  module _ (time : ℕ) where
+    pub clock-track : scale ≡ t .timescale → EventTime.Track (record { 0 = time }) ≡ clockOf t scale time
+    unfolding clockOf
+    clock-track e = rw (eq-eqb _ _ e)
 
-    pub time-own : (scale ≡ t .timescale → ⊥) → codeOf F Plain 0 time ≡ fitted F (timeFor t bmdt scale time)
-    unfolding codeOf timeFor clockOf wireOf
-    time-own e = rw (ne-eqb _ _ e)
+    pub clock-own : (scale ≡ t .timescale → ⊥) → EventTime.Own (record { 0 = time }) ≡ clockOf t scale time
+    unfolding clockOf
+    clock-own e = rw (ne-eqb _ _ e)
+
+    -- the number on the wire by the clock that was found
+    module _ (F : List Row) (bmdt : ℕ) where
+      pub time-track : (x : TrackTicks) → EventTime.Track x ≡ clockOf t scale time → codeOf F Delta bmdt (x .0) ≡ fitted F (timeFor t bmdt scale time)
+      unfolding codeOf timeFor wireTime
+      time-track x e = ap (λ (c : EventTime). fitted F (wireTime bmdt c)) e
+
+      pub time-own : (x : EventTicks) → EventTime.Own x ≡ clockOf t scale time → codeOf F Plain 0 (x .0) ≡ fitted F (timeFor t bmdt scale time)
+      unfolding codeOf timeFor wireTime wireOf
+      time-own x e = ap (λ (c : EventTime). fitted F (wireTime bmdt c)) e

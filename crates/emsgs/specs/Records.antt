@@ -6,11 +6,11 @@ use lib.Dec.{eqb, ltb}
 use lib.ListN.{length, getD}
 use Rattle.laws.specs.Tests.{_and_}
 use Rattle.wire.specs.declared.form.Row.{Row}
-use Rattle.wire.specs.declared.zigzag.Coding.{Coding}
-use Rattle.wire.specs.declared.zigzag.Coding.the-variants.{Plain, Delta}
+use Rattle.wire.specs.declared.zigzag.Coding.the-variants.{Delta}
 use Rattle.wire.specs.Form.{limit}
 use Rattle.wire.specs.Varint.{encode, sizeOf}
 use Rattle.wire.specs.Zigzag.{wireOf}
+use Rattle.media.specs.declared.clocks.EventTime.{EventTime}
 use Rattle.track.specs.declared.Track.{Track}
 use Rattle.block.specs.Events.{Event}
 use Rattle.chunk.specs.Front.{Event as Box}
@@ -20,11 +20,15 @@ unfoldable pub scaleFor : Track → ℕ → ℕ
 scaleFor t scale = cond (eqb scale (t .timescale)) 0 scale
 
 -- 01: "Then the time is a zigzag distance from BMDT in track ticks; otherwise an absolute count on the event's own clock."
-unfoldable pub clockOf : Track → ℕ → Coding
-clockOf t scale = cond (eqb scale (t .timescale)) Delta Plain
+unfoldable pub clockOf : Track → ℕ → ℕ → EventTime
+clockOf t scale time = cond (eqb scale (t .timescale)) (EventTime.Track (record { 0 = time })) (EventTime.Own (record { 0 = time }))
+
+unfoldable pub wireTime : ℕ → EventTime → ℕ
+wireTime bmdt (EventTime.Track ticks) = wireOf Delta bmdt (ticks .0)
+wireTime bmdt (EventTime.Own ticks) = ticks .0
 
 unfoldable pub timeFor : Track → ℕ → ℕ → ℕ → ℕ
-timeFor t bmdt scale time = wireOf (clockOf t scale) bmdt time
+timeFor t bmdt scale time = wireTime bmdt (clockOf t scale time)
 
 -- an event as it stands on the wire
 unfoldable pub sent : Track → ℕ → Box → Event

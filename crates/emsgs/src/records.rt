@@ -13,8 +13,9 @@ ghost use Rattle.wire.specs.Zigzag.{fitted};
 ghost use Rattle.block.specs.Events.{encText, encEvent, encEvents};
 ghost use Rattle.emsgs.specs.Records.{encMarks};
 ghost use Rattle.chunk.specs.Events.{part, eventAt, eventsOf};
-ghost use Rattle.emsgs.specs.Records.{scaleFor, timeFor, sent, allSent, textBytes, timesFit, EventWords, AllWords, EventIn, AllIn, wordsBytes, allBytes};
+ghost use Rattle.emsgs.specs.Records.{scaleFor, clockOf, timeFor, sent, allSent, textBytes, timesFit, EventWords, AllWords, EventIn, AllIn, wordsBytes, allBytes};
 use media::clocks::EventTicks;
+use media::clocks::EventTime;
 use media::clocks::TrackTicks;
 use track::Track;
 use wire::form::Form;
@@ -34,14 +35,25 @@ fn scale_of(t: Track, scale: u64) -> u64
     scale
 }
 
-// The time in a record: on the track's clock the distance from BMDT, on the event's own clock itself.
-fn time_number(form: Form, t: Track, bmdt: u64, scale: u64, time: u64) -> Coded
-    ensures { λ r. ⌜ r ≡ fitted (rows form) (timeFor t bmdt scale time) ⌝ }
+// The time of an event, which is on the track's clock exactly where its timescale is the track's.
+fn time_of(t: Track, scale: u64, time: u64) -> EventTime
+    ensures { λ r. ⌜ r ≡ clockOf t scale time ⌝ }
 {
     if scale == t.timescale as u64 {
-        return TrackTicks(time).distance(form, TrackTicks(bmdt));
+        return EventTime::Track(TrackTicks(time));
     }
-    wire::zigzag::code(form, Coding::Plain, 0, EventTicks(time).0)
+    EventTime::Own(EventTicks(time))
+}
+
+// The time in a record: on the track's clock the distance from BMDT, on the event's own clock itself.
+fn time_number(form: Form, t: Track, bmdt: TrackTicks, scale: u64, time: u64) -> Coded
+    ensures { λ r. ⌜ r ≡ fitted (rows form) (timeFor t (bmdt .0) scale time) ⌝ }
+{
+    let at = time_of(t, scale, time);
+    match at {
+        EventTime::Track(ticks) => ticks.code(form, Coding::Delta, bmdt),
+        EventTime::Own(ticks) => ticks.code(form),
+    }
 }
 
 // ---- counted
@@ -55,8 +67,8 @@ fn text_bytes(form: Form, n: u64) -> usize
 }
 
 // The bytes of a time, which counts as the longest varint where it is too wide.
-fn time_bytes(form: Form, t: Track, bmdt: u64, scale: u64, time: u64) -> usize
-    ensures { λ r. ⌜ r ≡ sizeOf (rows form) (timeFor t bmdt scale time) ⌝ }
+fn time_bytes(form: Form, t: Track, bmdt: TrackTicks, scale: u64, time: u64) -> usize
+    ensures { λ r. ⌜ r ≡ sizeOf (rows form) (timeFor t (bmdt .0) scale time) ⌝ }
 {
     let c = time_number(form, t, bmdt, scale, time);
     let Coded::Number(z) = c else {
@@ -66,9 +78,9 @@ fn time_bytes(form: Form, t: Track, bmdt: u64, scale: u64, time: u64) -> usize
 }
 
 // The bytes of the record of the event with the number i.
-fn record_bytes(form: Form, t: Track, bmdt: u64, events: &[u64], i: usize) -> usize
+fn record_bytes(form: Form, t: Track, bmdt: TrackTicks, events: &[u64], i: usize) -> usize
     requires { ⌜ EventWords (now events) i ⌝ }
-    ensures { λ r. ⌜ (r ≡ wordsBytes (rows form) t bmdt (now (events .entry)) i) × (r < 2 ^ 36) ⌝ }
+    ensures { λ r. ⌜ (r ≡ wordsBytes (rows form) t (bmdt .0) (now (events .entry)) i) × (r < 2 ^ 36) ⌝ }
 {
     let p = EVENT * i;
     let texts = text_bytes(form, events[p + 1]);
@@ -82,9 +94,9 @@ fn record_bytes(form: Form, t: Track, bmdt: u64, events: &[u64], i: usize) -> us
 }
 
 // The bytes of the records of k events.
-pub fn list_bytes(form: Form, t: Track, bmdt: u64, events: &[u64], k: usize) -> usize
+pub fn list_bytes(form: Form, t: Track, bmdt: TrackTicks, events: &[u64], k: usize) -> usize
     requires { ⌜ AllWords (now events) k ⌝ }
-    ensures { λ r. ⌜ r ≡ allBytes (rows form) t bmdt (now (events .entry)) k 0 ⌝ }
+    ensures { λ r. ⌜ r ≡ allBytes (rows form) t (bmdt .0) (now (events .entry)) k 0 ⌝ }
 {
     let mut sum = 0;
     let mut i = 0;
@@ -96,9 +108,9 @@ pub fn list_bytes(form: Form, t: Track, bmdt: u64, events: &[u64], k: usize) -> 
 }
 
 // Whether the time of the event with the number i fits into a varint. Its strings have no part in it.
-fn time_fits(form: Form, t: Track, bmdt: u64, events: &[u64], i: usize) -> bool
+fn time_fits(form: Form, t: Track, bmdt: TrackTicks, events: &[u64], i: usize) -> bool
     requires { ⌜ EventWords (now events) i ⌝ }
-    ensures { λ r. ⌜ r ≡ ltb (sent t bmdt (eventAt [] (now (events .entry)) i) .time) (limit (rows form)) ⌝ }
+    ensures { λ r. ⌜ r ≡ ltb (sent t (bmdt .0) (eventAt [] (now (events .entry)) i) .time) (limit (rows form)) ⌝ }
 {
     let p = EVENT * i;
     let c = time_number(form, t, bmdt, events[p + 4], events[p + 5]);
@@ -109,9 +121,9 @@ fn time_fits(form: Form, t: Track, bmdt: u64, events: &[u64], i: usize) -> bool
 }
 
 // Whether all times of k events do.
-pub fn times_fit(form: Form, t: Track, bmdt: u64, events: &[u64], k: usize) -> bool
+pub fn times_fit(form: Form, t: Track, bmdt: TrackTicks, events: &[u64], k: usize) -> bool
     requires { ⌜ AllWords (now events) k ⌝ }
-    ensures { λ r. ⌜ r ≡ timesFit (rows form) (allSent t bmdt (eventsOf [] (now (events .entry)) k)) ⌝ }
+    ensures { λ r. ⌜ r ≡ timesFit (rows form) (allSent t (bmdt .0) (eventsOf [] (now (events .entry)) k)) ⌝ }
 {
     let mut ok = true;
     let mut i = 0;
@@ -139,16 +151,16 @@ fn put_text(form: Form, c: &[u8], from: u64, n: u64, out: &mut [u8], at: usize) 
 fn put_marks(
     form: Form,
     t: Track,
-    bmdt: u64,
+    bmdt: TrackTicks,
     events: &[u64],
     i: usize,
     out: &mut [u8],
     at: usize,
 ) -> usize
     requires { ⌜ EventWords (now events) i ⌝ }
-    requires { ⌜ sent t bmdt (eventAt [] (now events) i) .time < limit (rows form) ⌝ }
-    requires { ⌜ at + length (encMarks (rows form) (sent t bmdt (eventAt [] (now events) i))) ≤ length (now out) ⌝ }
-    ensures { λ r. ⌜ Wrote (now (out .entry)) at (encMarks (rows form) (sent t bmdt (eventAt [] (now (events .entry)) i))) (now (out .exit)) r ⌝ }
+    requires { ⌜ sent t (bmdt .0) (eventAt [] (now events) i) .time < limit (rows form) ⌝ }
+    requires { ⌜ at + length (encMarks (rows form) (sent t (bmdt .0) (eventAt [] (now events) i))) ≤ length (now out) ⌝ }
+    ensures { λ r. ⌜ Wrote (now (out .entry)) at (encMarks (rows form) (sent t (bmdt .0) (eventAt [] (now (events .entry)) i))) (now (out .exit)) r ⌝ }
 {
     let p = EVENT * i;
     let c = time_number(form, t, bmdt, events[p + 4], events[p + 5]);
@@ -165,7 +177,7 @@ fn put_marks(
 fn put_record(
     form: Form,
     t: Track,
-    bmdt: u64,
+    bmdt: TrackTicks,
     c: &[u8],
     events: &[u64],
     i: usize,
@@ -173,9 +185,9 @@ fn put_record(
     at: usize,
 ) -> usize
     requires { ⌜ EventWords (now events) i × EventIn (now c) (now events) i ⌝ }
-    requires { ⌜ sent t bmdt (eventAt (now c) (now events) i) .time < limit (rows form) ⌝ }
-    requires { ⌜ at + length (encEvent (rows form) (sent t bmdt (eventAt (now c) (now events) i))) ≤ length (now out) ⌝ }
-    ensures { λ r. ⌜ Wrote (now (out .entry)) at (encEvent (rows form) (sent t bmdt (eventAt (now (c .entry)) (now (events .entry)) i))) (now (out .exit)) r ⌝ }
+    requires { ⌜ sent t (bmdt .0) (eventAt (now c) (now events) i) .time < limit (rows form) ⌝ }
+    requires { ⌜ at + length (encEvent (rows form) (sent t (bmdt .0) (eventAt (now c) (now events) i))) ≤ length (now out) ⌝ }
+    ensures { λ r. ⌜ Wrote (now (out .entry)) at (encEvent (rows form) (sent t (bmdt .0) (eventAt (now (c .entry)) (now (events .entry)) i))) (now (out .exit)) r ⌝ }
 {
     let p = EVENT * i;
     let a = put_text(form, c, events[p], events[p + 1], out, at);
@@ -188,7 +200,7 @@ fn put_record(
 pub fn put_records(
     form: Form,
     t: Track,
-    bmdt: u64,
+    bmdt: TrackTicks,
     c: &[u8],
     events: &[u64],
     k: usize,
@@ -196,9 +208,9 @@ pub fn put_records(
     at: usize,
 ) -> usize
     requires { ⌜ AllWords (now events) k × AllIn (now c) (now events) k ⌝ }
-    requires { ⌜ timesFit (rows form) (allSent t bmdt (eventsOf (now c) (now events) k)) ≡ true ⌝ }
-    requires { ⌜ at + length (encEvents (rows form) (allSent t bmdt (eventsOf (now c) (now events) k))) ≤ length (now out) ⌝ }
-    ensures { λ r. ⌜ Wrote (now (out .entry)) at (encEvents (rows form) (allSent t bmdt (eventsOf (now (c .entry)) (now (events .entry)) k))) (now (out .exit)) r ⌝ }
+    requires { ⌜ timesFit (rows form) (allSent t (bmdt .0) (eventsOf (now c) (now events) k)) ≡ true ⌝ }
+    requires { ⌜ at + length (encEvents (rows form) (allSent t (bmdt .0) (eventsOf (now c) (now events) k))) ≤ length (now out) ⌝ }
+    ensures { λ r. ⌜ Wrote (now (out .entry)) at (encEvents (rows form) (allSent t (bmdt .0) (eventsOf (now (c .entry)) (now (events .entry)) k))) (now (out .exit)) r ⌝ }
 {
     let mut p = at;
     let mut i = 0;

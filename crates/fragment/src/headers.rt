@@ -3,6 +3,7 @@ ghost use mathlib.Core.Path.{_≡_};
 ghost use mathlib.Core.Bool.{true};
 ghost use Rattle.shape.specs.Parts.{Inside};
 ghost use Rattle.fragment.specs.Headers.{mfhdOk, tfdtOk, bmdtOf};
+use media::clocks::TrackTicks;
 use shape::parts::Part;
 use tree::numbers;
 
@@ -29,13 +30,13 @@ pub fn tfdt_ok(c: &[u8], b: Part) -> bool
     ((b.len == 16) & (word == 0)) | ((b.len == 20) & (word == 0x100_0000))
 }
 
-pub fn bmdt_of(c: &[u8], b: Part) -> u64
+pub fn bmdt_of(c: &[u8], b: Part) -> TrackTicks
     requires { ⌜ Inside (now c) b ⌝ }
     requires { ⌜ tfdtOk (now c) b ≡ true ⌝ }
-    ensures { λ r. ⌜ r ≡ bmdtOf (now (c .entry)) b ⌝ }
+    ensures { λ r. ⌜ r .0 ≡ bmdtOf (now (c .entry)) b ⌝ }
 {
     if numbers::u32_at(c, b.at + 8) == 0 {
-        return numbers::u32_at(c, b.at + 12);
+        return TrackTicks(numbers::u32_at(c, b.at + 12));
     }
-    numbers::u64_at(c, b.at + 12)
+    TrackTicks(numbers::u64_at(c, b.at + 12))
 }

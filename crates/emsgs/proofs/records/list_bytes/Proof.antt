@@ -7,7 +7,7 @@ use Rattle.emsgs.proofs.records.list_bytes.Statement.{statement}
 use Rattle.emsgs.proofs.records.list_bytes.Tie as tie
 
 abbrev Inv-loop : tie.InvT-loop
-Inv-loop form t bmdt events k sum₀ i₀ sum i = Adding (rows form) t bmdt events k sum i
+Inv-loop form t bmdt events k sum₀ i₀ sum i = Adding (rows form) t (bmdt .0) events k sum i
 
 abbrev μ-loop : tie.MeasureT-loop
 μ-loop form t bmdt events k sum₀ i₀ sum i = k - i

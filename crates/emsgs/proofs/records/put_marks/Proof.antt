@@ -64,7 +64,7 @@ scale-of-requires c κs = search needs
 begun : (c : tie.After-scale-of)
     → let b = c .before .before .before .before .before .before .before .before .before .before .before in
     let a = b .args in
-    Parts (a .out .now) (a .at) (encMarks (rows (a .form)) (sent (a .t) (a .bmdt) (eventAt [] (a .events .now) (a .i)))) (a .out .now) (a .at)
+    Parts (a .out .now) (a .at) (encMarks (rows (a .form)) (sent (a .t) (a .bmdt .0) (eventAt [] (a .events .now) (a .i)))) (a .out .now) (a .at)
     (markParts (rows (a .form)) (a .events .now) (a .i) (c .scale-of .result) (c .before .before .before .before .c .given .0 .0))
 begun c =
     let b₁ = c .before .before .before .before in
@@ -73,7 +73,7 @@ begun c =
     let a = b₃ .args in
     let z = fitted-inv _ _ (sym (b₂ .time-number .ensures) ∙ b₁ .c .given .1) in
     parts-all (a .out .now) (a .at) (markParts (rows (a .form)) (a .events .now) (a .i) (c .scale-of .result) (b₁ .c .given .0 .0))
-    (mark-parts (rows (a .form)) (a .t) (a .bmdt) (a .events .now) (a .i) _ _ (c .scale-of .ensures) (z .0))
+    (mark-parts (rows (a .form)) (a .t) (a .bmdt .0) (a .events .now) (a .i) _ _ (c .scale-of .ensures) (z .0))
     (b₃ .pre .1 .1)
 
 put-requires : tie.Need-put-requires
@@ -102,10 +102,10 @@ put-requires-3 c κs =
     parts-room (parts-then (parts-then (begun b₃) (b₂ .put .ensures)) (b₁ .put2 .ensures))
 
 add-put-2 : tie.Need-add-put-2
-add-put-2 c = search needs
+add-put-2 c = search (needs, c .before .before .before .before .before .before .before .before .before .before .before .before .before .before .before .before .before .before .before .before .before .before .before .before .good .1 .1 .1 .0)
 
 mul-put-2 : tie.Need-mul-put-2
-mul-put-2 c = search needs
+mul-put-2 c = search (needs, c .before .before .before .before .before .before .before .before .before .before .before .before .before .before .before .before .before .before .before .before .before .before .before .before .good .1 .1 .1 .0)
 
 shared-slice-read-put-2 : tie.Need-shared-slice-read-put-2
 shared-slice-read-put-2 c = search needs

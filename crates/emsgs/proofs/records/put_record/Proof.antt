@@ -30,13 +30,13 @@ shared-slice-read-put-text-2 c = search needs
 -- all its parts are left
 begun : (c : tie.Start)
     → let a = c .args in
-    let e = sent (a .t) (a .bmdt) (eventAt (a .c .now) (a .events .now) (a .i)) in
+    let e = sent (a .t) (a .bmdt .0) (eventAt (a .c .now) (a .events .now) (a .i)) in
     Parts (a .out .now) (a .at) (encEvent (rows (a .form)) e)
-    (a .out .now) (a .at) (recordParts (rows (a .form)) (a .t) (a .bmdt) (a .c .now) (a .events .now) (a .i))
+    (a .out .now) (a .at) (recordParts (rows (a .form)) (a .t) (a .bmdt .0) (a .c .now) (a .events .now) (a .i))
 begun c =
     let a = c .args in
-    parts-all (a .out .now) (a .at) (recordParts (rows (a .form)) (a .t) (a .bmdt) (a .c .now) (a .events .now) (a .i))
-    (record-parts (rows (a .form)) (a .t) (a .bmdt) (a .c .now) (a .events .now) (a .i))
+    parts-all (a .out .now) (a .at) (recordParts (rows (a .form)) (a .t) (a .bmdt .0) (a .c .now) (a .events .now) (a .i))
+    (record-parts (rows (a .form)) (a .t) (a .bmdt .0) (a .c .now) (a .events .now) (a .i))
     (c .pre .1 .1)
 
 put-text-requires : tie.Need-put-text-requires
@@ -87,10 +87,10 @@ shared-slice-read-put-text-5 : tie.Need-shared-slice-read-put-text-5
 shared-slice-read-put-text-5 c = search needs
 
 add-put-text-5 : tie.Need-add-put-text-5
-add-put-text-5 c = search needs
+add-put-text-5 c = search (needs, c .before .before .before .before .before .before .before .before .before .before .before .before .before .before .before .before .before .before .before .before .good .1 .1 .1 .1 .0)
 
 mul-put-text-6 : tie.Need-mul-put-text-6
-mul-put-text-6 c = search needs
+mul-put-text-6 c = search (needs, c .before .before .before .before .before .before .before .before .before .before .before .before .before .before .before .before .before .before .before .before .good .1 .1 .1 .1 .0)
 
 shared-slice-read-put-text-6 : tie.Need-shared-slice-read-put-text-6
 shared-slice-read-put-text-6 c = search needs

@@ -8,7 +8,7 @@ use Rattle.emsgs.proofs.records.put_records.Statement.{statement}
 use Rattle.emsgs.proofs.records.put_records.Tie as tie
 
 abbrev Inv-loop : tie.InvT-loop
-Inv-loop form t bmdt c events k out₀ at p₀ i₀ out p i = Writing (rows form) t bmdt c events k out₀ at out p i
+Inv-loop form t bmdt c events k out₀ at p₀ i₀ out p i = Writing (rows form) t (bmdt .0) c events k out₀ at out p i
 
 abbrev μ-loop : tie.MeasureT-loop
 μ-loop form t bmdt c events k out₀ at p₀ i₀ out p i = k - i

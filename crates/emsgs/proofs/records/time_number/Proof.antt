@@ -1,24 +1,32 @@
--- `emsgs::records::time_number` meets its contract: by the test. Assumes nothing.
-use mathlib.Core.Path.{_∙_}
+-- `emsgs::records::time_number` meets its contract: by the clock of the time. Assumes nothing.
+use mathlib.Core.Path.{sym, _∙_}
 use Rattle.emsgs.proofs.NumberLaws.{time-track, time-own}
 use borrow.Author.Needs.{needs}
 use Rattle.emsgs.proofs.records.time_number.Statement.{statement}
 use Rattle.emsgs.proofs.records.time_number.Tie as tie
 
-cast-if1 : tie.Need-cast-if1
-cast-if1 c = search needs
+time-of-requires : tie.Need-time-of-requires
+time-of-requires c κs = search needs
 
-distance-requires : tie.Need-distance-requires
-distance-requires c κs = search needs
-
-returns : tie.Need-returns
-returns c = c .distance .ensures ∙ time-track _ _ _ _ _ (c .before .if1 .taken)
+enum-known-at : tie.Need-enum-known-at
+enum-known-at c = search needs
 
 code-requires : tie.Need-code-requires
 code-requires c κs = search needs
 
+returns : tie.Need-returns
+returns c = c .code .ensures ∙ time-track _ _ _ _ _ _ (sym (c .before .before .at .given .1) ∙ c .before .before .before .before .time-of .ensures)
+
+enum-known-at-2 : tie.Need-enum-known-at-2
+enum-known-at-2 c = search needs
+
+code-requires-2 : tie.Need-code-requires-2
+code-requires-2 c κs = search needs
+
 returns-2 : tie.Need-returns-2
-returns-2 c = c .code .ensures ∙ time-own _ _ _ _ _ (c .before .if1 .left)
+returns-2 c = c .code2 .ensures ∙ time-own _ _ _ _ _ _ (sym (c .before .before .at2 .given .1) ∙ c .before .before .before .before .time-of .ensures)
 
 pub time-number-spec : {M : Type 1} → statement M
-time-number-spec = tie.close (tie.spec cast-if1 distance-requires returns code-requires returns-2)
+time-number-spec =
+    tie.close
+    (tie.spec time-of-requires enum-known-at code-requires enum-known-at-2 code-requires-2 returns returns-2)

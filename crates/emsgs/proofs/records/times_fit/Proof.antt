@@ -7,7 +7,7 @@ use Rattle.emsgs.proofs.records.times_fit.Statement.{statement}
 use Rattle.emsgs.proofs.records.times_fit.Tie as tie
 
 abbrev Inv-loop : tie.InvT-loop
-Inv-loop form t bmdt events k ok₀ i₀ ok i = Fitting (rows form) t bmdt events k ok i
+Inv-loop form t bmdt events k ok₀ i₀ ok i = Fitting (rows form) t (bmdt .0) events k ok i
 
 abbrev μ-loop : tie.MeasureT-loop
 μ-loop form t bmdt events k ok₀ i₀ ok i = k - i
