@@ -86,8 +86,8 @@ prft-in s =
 -- a `prft` that keeps its ranges, or none
 abbrev pub Ranged : Prft → Type 0
 Ranged p =
-    (p .stands ≡ false → (p .ntp ≡ 0) × (p .media ≡ 0) × (p .version ≡ 0) × (p .flags ≡ 0))
-    × (p .stands ≡ true → (p .version ≤ 1) × ((p .version ≡ 1) ⊎ (p .media ≤ 0xffff_ffff)) × (p .flags ≤ 0xff_ffff))
+    (p .stands ≡ false → (p .ntp .0 ≡ 0) × (p .media .0 ≡ 0) × (p .version ≡ 0) × (p .flags ≡ 0))
+    × (p .stands ≡ true → (p .version ≤ 1) × ((p .version ≡ 1) ⊎ (p .media .0 ≤ 0xffff_ffff)) × (p .flags ≤ 0xff_ffff))
 
 or-of : (a b : Bool) → (a ≡ true) ⊎ (b ≡ true) → (a || b) ≡ true
 or-of true b e = refl
@@ -98,11 +98,11 @@ words-ranged : (p : Prft) → Ranged p → prftIn (prftWords p) ≡ true
 unfolding prftIn prftWords allZero
 words-ranged p h = go (p .stands) refl
   where
-    media : (p .version ≡ 1) ⊎ (p .media ≤ 0xffff_ffff) → (eqb (p .version) 1 || leb (p .media) u32) ≡ true
-    media (inl e) = or-of (eqb (p .version) 1) (leb (p .media) u32) (inl (eq-eqb (p .version) 1 e))
-    media (inr e) = or-of (eqb (p .version) 1) (leb (p .media) u32) (inr (le-leb (p .media) u32 e))
+    media : (p .version ≡ 1) ⊎ (p .media .0 ≤ 0xffff_ffff) → (eqb (p .version) 1 || leb (p .media .0) u32) ≡ true
+    media (inl e) = or-of (eqb (p .version) 1) (leb (p .media .0) u32) (inl (eq-eqb (p .version) 1 e))
+    media (inr e) = or-of (eqb (p .version) 1) (leb (p .media .0) u32) (inr (le-leb (p .media .0) u32 e))
 
-    go : (b : Bool) → p .stands ≡ b → prftIn (cond b 1 0 ∷ p .ntp ∷ p .media ∷ p .version ∷ p .flags ∷ []) ≡ true
+    go : (b : Bool) → p .stands ≡ b → prftIn (cond b 1 0 ∷ p .ntp .0 ∷ p .media .0 ∷ p .version ∷ p .flags ∷ []) ≡ true
     go false q =
         let z = h .0 q in
         both _ _ (eq-eqb _ _ (z .0)) (both _ _ (eq-eqb _ _ (z .1)) (both _ _ (eq-eqb _ _ (z .2)) (both _ _ (eq-eqb _ _ (z .3)) refl)))

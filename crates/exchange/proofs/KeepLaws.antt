@@ -259,11 +259,11 @@ module _ (delta : Bool) (p : Prft) (q : ℕ) (x s₀ : List ℕ) (l : length s�
       }
 
   pub kept-full : not delta ≡ true → (m : ℕ) → m ≡ cond (p .stands) 1 0 → (s : List ℕ)
-      → s ≡ sets s₀ acceptedAt (q ∷ 1 ∷ m ∷ p .ntp ∷ p .media ∷ p .version ∷ p .flags ∷ []) → Kept delta p q x s₀ s
+      → s ≡ sets s₀ acceptedAt (q ∷ 1 ∷ m ∷ p .ntp .0 ∷ p .media .0 ∷ p .version ∷ p .flags ∷ []) → Kept delta p q x s₀ s
   unfolding prftWords
   kept-full d m k s e =
       let f : s ≡ sets s₀ acceptedAt (q ∷ 1 ∷ prftWords p) =
-      e ∙ ap (λ (z : ℕ). sets s₀ acceptedAt (q ∷ 1 ∷ z ∷ p .ntp ∷ p .media ∷ p .version ∷ p .flags ∷ [])) k in
+      e ∙ ap (λ (z : ℕ). sets s₀ acceptedAt (q ∷ 1 ∷ z ∷ p .ntp .0 ∷ p .media .0 ∷ p .version ∷ p .flags ∷ [])) k in
       record {
         long = ap length f ∙ length-sets s₀ acceptedAt (q ∷ 1 ∷ prftWords p);
         rest = ap (drop setAt) f ∙ rest-stays s₀ (q ∷ 1 ∷ prftWords p) acceptedAt setAt (omega arith) (omega arith);

@@ -9,7 +9,7 @@ use Rattle.chunk.specs.declared.outer.Prft.{Prft}
 
 -- the words of a `prft` that a full object leaves
 unfoldable pub prftWords : Prft → List ℕ
-prftWords p = cond (p .stands) 1 0 ∷ p .ntp ∷ p .media ∷ p .version ∷ p .flags ∷ []
+prftWords p = cond (p .stands) 1 0 ∷ p .ntp .0 ∷ p .media .0 ∷ p .version ∷ p .flags ∷ []
 
 -- the share s after an accepted object: the count, the reference, and with a full object its `prft`. 01: "The reference is the previous
 -- accepted chunk's set of moof fields, .. kept with the current full's `prft`."

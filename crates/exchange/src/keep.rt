@@ -41,8 +41,8 @@ pub fn keep(s: &mut [u64], delta: bool, prft: Prft, sequence: u64, x: &[u64])
     s[share::HELD] = 1;
     if !delta {
         s[share::PRFT] = if prft.stands { 1 } else { 0 };
-        s[share::NTP] = prft.ntp;
-        s[share::MEDIA_TIME] = prft.media;
+        s[share::NTP] = prft.ntp.0;
+        s[share::MEDIA_TIME] = prft.media.0;
         s[share::VERSION] = prft.version;
         s[share::PRFT_FLAGS] = prft.flags;
     }

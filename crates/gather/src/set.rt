@@ -71,7 +71,7 @@ pub fn put_set(t: Track, c: &[u8], f: Inner, x: &mut [u64])
     let r = rows::run_of(c, trun);
     let equal = sizes::all_equal(c, r, d.size);
     let first = SampleFlags(rows::first_flags(c, trun) as u32).five();
-    x[lines::BMDT] = headers::bmdt_of(c, tfdt);
+    x[lines::BMDT] = headers::bmdt_of(c, tfdt).0;
     x[lines::COUNT] = r.count;
     put_low(t, c, f, d, r, equal, &mut *x);
     put_high(t, c, f, d, r, equal, &mut *x);
