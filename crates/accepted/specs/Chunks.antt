@@ -7,6 +7,7 @@ use Rattle.laws.specs.Ladder.{ladder}
 use Rattle.wire.specs.declared.form.Row.{Row}
 use Rattle.track.specs.declared.Track.{Track}
 use Rattle.shape.specs.Parts.{bodyOf}
+use Rattle.chunk.specs.Front.{absentPrft}
 use Rattle.chunk.specs.Events.{eventsOf}
 use Rattle.emsgs.specs.Records.{AllWords, AllIn, listBytes}
 use Rattle.accepted.specs.declared.read.Chunk.{Chunk}
@@ -18,7 +19,7 @@ abbrev pub refusedWith : ℕ → Chunk
 refusedWith k =
     record {
       number = k;
-      prft = record { stands = false; ntp = 0; media = 0; version = 0; flags = 0 };
+      prft = absentPrft;
       events = 0;
       list = 0;
       brands = record { at = 0; len = 0 };

@@ -43,13 +43,7 @@ fn refused(number: u64) -> Chunk
 {
     Chunk {
         number,
-        prft: Prft {
-            stands: false,
-            ntp: 0,
-            media: 0,
-            version: 0,
-            flags: 0,
-        },
+        prft: Prft::none(),
         events: 0,
         list: 0,
         brands: Part { at: 0, len: 0 },
