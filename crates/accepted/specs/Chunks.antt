@@ -1,7 +1,6 @@
 -- What the code hands on of an accepted chunk.
 use Prim.Native.Nat.{ℕ, _≤_}
 use mathlib.Core.Path.{_≡_}
-use mathlib.Core.Bool.{false}
 use mathlib.Core.List.{List}
 use Rattle.laws.specs.Ladder.{ladder}
 use Rattle.wire.specs.declared.form.Row.{Row}

@@ -1,15 +1,14 @@
 -- The producer reference time as code has it: the numbers of its ids, and their tuples. Assumes nothing.
 use Prim.Native.Nat.{ℕ, _+_, _≤_}
 use mathlib.Core.Path.{_≡_, sym}
-use mathlib.Core.Bool.{Bool, true, false, not, _&&_}
+use mathlib.Core.Bool.{Bool, true, not, _&&_}
 use mathlib.Core.List.{List}
 use lib.Dec.{eqb}
 use lib.ListN.{length, getD}
 use Rattle.wire.specs.declared.form.Row.{Row}
 use Rattle.wire.specs.declared.zigzag.Coding.{Coding}
-use Rattle.wire.specs.declared.zigzag.Coding.the-variants.{Plain, Delta}
 use Rattle.wire.specs.declared.zigzag.Coded.{Coded}
-use Rattle.wire.specs.Zigzag.{wireOf, codeOf}
+use Rattle.wire.specs.Zigzag.{codeOf}
 use Rattle.block.specs.Entries.{isSome}
 use Rattle.slots.specs.Share.{ntpAt, mediaTimeAt, versionAt, prftFlagsAt}
 use Rattle.chunk.specs.declared.outer.Prft.{Prft}
@@ -19,15 +18,9 @@ use Rattle.writing.specs.Items.{_before_, itemsIf, numberItem, bytesOf}
 use Rattle.writing.specs.Prft.{timesItems, unlessItems, versionItems, flagsItems}
 use Rattle.writing.proofs.PutLaws.{Left, left-start, left-as}
 
--- a time in a delta, and in a full object
-pub time-delta : (F : List Row) (delta : Bool) (old new : ℕ) {c : Coded} → delta ≡ true → c ≡ codeOf F Delta old new
-    → c ≡ codeOf F (codingFor delta) old new
-time-delta F delta old new d e = rw d e
-
-pub time-full : (F : List Row) (delta : Bool) (old new : ℕ) {c : Coded} → delta ≡ false → c ≡ codeOf F Plain 0 new
-    → c ≡ codeOf F (codingFor delta) old new
-unfolding codeOf wireOf
-time-full F delta old new d e = rw d e
+-- a time by the kind of object
+pub time-as : (F : List Row) (old new : ℕ) {coding coding′ : Coding} {c : Coded} → coding ≡ coding′ → c ≡ codeOf F coding old new → c ≡ codeOf F coding′ old new
+time-as F old new d e = rw (← d) e
 
 -- what an absent id counts as
 pub kept-delta : (delta : Bool) (share usual : ℕ) → delta ≡ true → share ≡ keptFor delta share usual
@@ -35,15 +28,15 @@ kept-delta delta share usual d = rw d
 
 module _ (F : List Row) (delta : Bool) (s : List ℕ) (p : Prft) where
   -- the two times
-  pub times-are : {n m : Coded} → n ≡ codeOf F (codingFor delta) (getD s ntpAt 0) (p .ntp)
-      → m ≡ codeOf F (codingFor delta) (getD s mediaTimeAt 0) (p .media)
+  pub times-are : {n m : Coded} → n ≡ codeOf F (codingFor delta) (getD s ntpAt 0) (p .ntp .0)
+      → m ≡ codeOf F (codingFor delta) (getD s mediaTimeAt 0) (p .media .0)
       → (itemsIf (p .stands) (numberItem 18 n) before itemsIf (p .stands) (numberItem 20 m)) ≡ timesItems F delta s p
   unfolding timesItems
   times-are e f = rw (e, f)
 
   -- both are left to be written
-  pub times-left : {n m : Coded} → n ≡ codeOf F (codingFor delta) (getD s ntpAt 0) (p .ntp)
-      → m ≡ codeOf F (codingFor delta) (getD s mediaTimeAt 0) (p .media)
+  pub times-left : {n m : Coded} → n ≡ codeOf F (codingFor delta) (getD s ntpAt 0) (p .ntp .0)
+      → m ≡ codeOf F (codingFor delta) (getD s mediaTimeAt 0) (p .media .0)
       → (l : List ℕ) (at : ℕ) → isSome (timesItems F delta s p) ≡ true → at + length (bytesOf F (timesItems F delta s p)) ≤ length l
       → Left F (timesItems F delta s p) l at (itemsIf (p .stands) (numberItem 18 n) before itemsIf (p .stands) (numberItem 20 m)) l at
   times-left e f l at h k =

@@ -17,8 +17,8 @@ module _ (F : List Row) (delta : Bool) (s : List ℕ) (p : Prft) where
   -- the ids 18 and 20 stand together, with no distance too
   unfoldable pub timesItems : Items
   timesItems =
-      itemsIf (p .stands) (numberItem 18 (codeOf F (codingFor delta) (getD s ntpAt 0) (p .ntp)))
-      before itemsIf (p .stands) (numberItem 20 (codeOf F (codingFor delta) (getD s mediaTimeAt 0) (p .media)))
+      itemsIf (p .stands) (numberItem 18 (codeOf F (codingFor delta) (getD s ntpAt 0) (p .ntp .0)))
+      before itemsIf (p .stands) (numberItem 20 (codeOf F (codingFor delta) (getD s mediaTimeAt 0) (p .media .0)))
 
   -- an id that stands unless its value is what its absence means
   unfoldable pub unlessItems : ℕ → ℕ → ℕ → Items

@@ -22,7 +22,6 @@ use media::clocks::TrackTicks;
 use slots::share;
 use wire::form::Form;
 use wire::zigzag::Coded;
-use wire::zigzag::Coding;
 
 const NTP: u64 = 18;
 
@@ -40,24 +39,22 @@ const USUAL_FLAGS: u64 = 0;
 // Distances are taken on the time's own clock.
 fn ntp_number(form: Form, delta: bool, p: Prft, s: &[u64]) -> Coded
     requires { ⌜ length (now s) ≡ shareLen ⌝ }
-    ensures { λ c. ⌜ c ≡ codeOf (rows form) (codingFor delta) (getD (now (s .entry)) ntpAt 0) (p .ntp) ⌝ }
+    ensures { λ c. ⌜ c ≡ codeOf (rows form) (codingFor delta) (getD (now (s .entry)) ntpAt 0) (p .ntp .0) ⌝ }
 {
-    let time = NtpUnits(p.ntp);
-    if delta {
-        return time.distance(form, NtpUnits(s[share::NTP]));
-    }
-    wire::zigzag::code(form, Coding::Plain, 0, time.0)
+    let time = p.ntp;
+    time.code(form, cells::coding_of(delta), NtpUnits(s[share::NTP]))
 }
 
 fn media_number(form: Form, delta: bool, p: Prft, s: &[u64]) -> Coded
     requires { ⌜ length (now s) ≡ shareLen ⌝ }
-    ensures { λ c. ⌜ c ≡ codeOf (rows form) (codingFor delta) (getD (now (s .entry)) mediaTimeAt 0) (p .media) ⌝ }
+    ensures { λ c. ⌜ c ≡ codeOf (rows form) (codingFor delta) (getD (now (s .entry)) mediaTimeAt 0) (p .media .0) ⌝ }
 {
-    let time = TrackTicks(p.media);
-    if delta {
-        return time.distance(form, TrackTicks(s[share::MEDIA_TIME]));
-    }
-    wire::zigzag::code(form, Coding::Plain, 0, time.0)
+    let time = p.media;
+    time.code(
+        form,
+        cells::coding_of(delta),
+        TrackTicks(s[share::MEDIA_TIME]),
+    )
 }
 
 // What version and flags are without their ids.
