@@ -13,12 +13,12 @@ use Rattle.fieldset.specs.Lawful.{lawful as lawfulSet}
 use Rattle.slots.specs.declared.share.Side.the-variants.{Receiver}
 use Rattle.slots.specs.Share.{shareLen, isOpen, lawful}
 use Rattle.block.specs.Entries.{Tells}
+use Rattle.chunk.specs.Front.{absentPrft}
 use Rattle.chunk.specs.Events.{eventsOf}
 use Rattle.chunk.specs.Writable.{Writable}
 use Rattle.fields.specs.Said.{saysIn, Telling}
 use Rattle.object.specs.declared.head.Place.{Place}
 use Rattle.object.specs.Head.{placeOf}
-use Rattle.object.specs.Prft.{noPrft}
 use Rattle.object.specs.Values.{boxes}
 use Rattle.receiver.specs.declared.judge.Part.{Part}
 use Rattle.receiver.specs.declared.judge.Judged.{Judged}
@@ -33,7 +33,7 @@ partIn index id =
 
 -- nothing but a number
 abbrev pub noneJudged : ℕ → Judged
-noneJudged k = record { number = k; prft = noPrft true .prft; events = 0; brands = record { at = 0; len = 0 } }
+noneJudged k = record { number = k; prft = absentPrft; events = 0; brands = record { at = 0; len = 0 } }
 
 -- an object whose head was read, and the share that it is received on
 pub record Judgeable (F : List Row) (o s : List ℕ) (t : Track) (p : Place) : Type 0 where

@@ -55,13 +55,7 @@ fn refused(number: u64) -> Judged
 {
     Judged {
         number,
-        prft: Prft {
-            stands: false,
-            ntp: 0,
-            media: 0,
-            version: 0,
-            flags: 0,
-        },
+        prft: Prft::none(),
         events: 0,
         brands: Part { at: 0, len: 0 },
     }
@@ -144,13 +138,13 @@ fn judge_values(
     let k = index[77] as usize;
     let payload = o.len() - p.end;
     let most = (payload <= PAYLOAD) & ((brands.len <= 64) & ((k <= 16) & (index[76] <= 4096)));
-    if !((bmdt <= 0x3fff_ffff_ffff_ffff) & (told.ok & most)) {
+    if !((bmdt.0 <= 0x3fff_ffff_ffff_ffff) & (told.ok & most)) {
         return refused(15);
     }
     if !object::events::events_ok(t, bmdt, o, &mut *events, k) {
         return refused(15);
     }
-    x[lines::BMDT] = bmdt;
+    x[lines::BMDT] = bmdt.0;
     if !sums_ok(t, x, payload as u64) {
         return refused(16);
     }

@@ -80,7 +80,7 @@ judge-values-requires c κs =
     (j, (split-of j sa k, (set-holds j sa k rd n, set-words j sa k rd n)))
 
 same-length-6 : tie.Need-same-length-6
-same-length-6 c = search needs
+same-length-6 c = search (needs, c .before .before .before .before .before .before .before .before .before .before .before .before .before .before .before .before .before .before .before .before .split .kept .1 .1 .1 .1 .1 .0)
 
 same-length-7 : tie.Need-same-length-7
 same-length-7 c = search needs

@@ -9,32 +9,32 @@ use Rattle.receiver.proofs.judge.judge_values.Statement.{statement}
 use Rattle.receiver.proofs.judge.judge_values.Tie as tie
 
 -- what is known at the first test
-abbrev start : tie.After-struct-known3 → tie.Start
-start g = g .before .before .before .before .before .before .before .before .before .before .before .before .before .before
+abbrev start : tie.After-struct-known4 → tie.Start
+start g = g .before .before .before .before .before .before .before .before .before .before .before .before .before .before .before
 
-worked : (g : tie.After-struct-known3)
+worked : (g : tie.After-struct-known4)
     → let a = start g .args in
     Worked (rows (a .form)) (a .o .now) (a .s .now) (a .t) (a .p) (a .index .now) (a .events .now)
-    (g .before .before .before .before .before .before .before .bmdt-of .result)
-    (g .before .before .before .before .before .before .prft-of .result)
-    (g .before .before .before .before .before .part-of .result)
+    (g .before .before .before .before .before .before .before .before .bmdt-of .result .0)
+    (g .before .before .before .before .before .before .before .prft-of .result)
+    (g .before .before .before .before .before .before .part-of .result)
 worked g =
     record {
       head = start g .pre .0;
       split = start g .pre .1 .0;
-      start = g .before .before .before .before .before .before .before .bmdt-of .ensures;
-      told = g .before .before .before .before .before .before .prft-of .ensures;
-      named = g .before .before .before .before .before .part-of .ensures;
+      start = g .before .before .before .before .before .before .before .before .bmdt-of .ensures;
+      told = g .before .before .before .before .before .before .before .prft-of .ensures;
+      named = g .before .before .before .before .before .before .part-of .ensures;
     }
 
-gathered : (g : tie.After-struct-known3) → let a = start g .args in Gathered (rows (a .form)) (a .o .now) (a .s .now) (a .t) (a .x .now)
+gathered : (g : tie.After-struct-known4) → let a = start g .args in Gathered (rows (a .form)) (a .o .now) (a .s .now) (a .t) (a .x .now)
 gathered g =
     record {
       hold = start g .pre .1 .1 .0;
       words = start g .pre .1 .1 .1;
       bytes =
           all-bytes (start g .args .o .now)
-          (λ i. g .before .before .before .before .before .before .before .before .before .before .before .before .before .shared-slice-known .given i .fits);
+          (λ i. g .before .before .before .before .before .before .before .before .before .before .before .before .before .before .shared-slice-known .given i .fits);
     }
 
 sub-bmdt-of : tie.Need-sub-bmdt-of
@@ -66,7 +66,7 @@ sub-payload : tie.Need-sub-payload
 sub-payload c = end-inside (c .before .before .before .before .before .before .before .before .before .before .before .pre .0)
 
 shared-slice-read-most : tie.Need-shared-slice-read-most
-shared-slice-read-most c = search needs
+shared-slice-read-most c = search (needs, c .before .before .before .before .before .before .before .before .before .before .before .before .before .pre .1 .0 .telling .words)
 
 refused-requires : tie.Need-refused-requires
 refused-requires c κs = search needs
