@@ -56,10 +56,10 @@ module _ (F : List Row) (t : Track) (c : List ℕ) (h : Hold (acceptRungs F t c)
       let b : Part = top c .prft in
       let ok = boxes-held F t c h .prft-ok in
       let r = prft-ranges c b (bytes-are c low) (boxes-in c .prft-in) ok in
-      let none : prftOf c b .stands ≡ false → (prftOf c b .ntp ≡ 0) × (prftOf c b .media ≡ 0) × (prftOf c b .version ≡ 0) × (prftOf c b .flags ≡ 0) =
-      λ z. subst (λ (p : Prft). (p .ntp ≡ 0) × (p .media ≡ 0) × (p .version ≡ 0) × (p .flags ≡ 0)) (prft-lacks c b z) (refl, refl, refl, refl) in
-      let short : prftOf c b .version ≡ 0 → prftOf c b .media ≤ 0xffff_ffff = λ e. rw (eq-eqb _ 0 e) at (r .2) in
-      (none, (λ z. (r .0, version-or (prftOf c b .version) (prftOf c b .media) (r .0) short, prft-headed c b ok .flags)))
+      let none : prftOf c b .stands ≡ false → (prftOf c b .ntp .0 ≡ 0) × (prftOf c b .media .0 ≡ 0) × (prftOf c b .version ≡ 0) × (prftOf c b .flags ≡ 0) =
+      λ z. subst (λ (p : Prft). (p .ntp .0 ≡ 0) × (p .media .0 ≡ 0) × (p .version ≡ 0) × (p .flags ≡ 0)) (prft-lacks c b z) (refl, refl, refl, refl) in
+      let short : prftOf c b .version ≡ 0 → prftOf c b .media .0 ≤ 0xffff_ffff = λ e. rw (eq-eqb _ 0 e) at (r .2) in
+      (none, (λ z. (r .0, version-or (prftOf c b .version) (prftOf c b .media .0) (r .0) short, prft-headed c b ok .flags)))
 
 -- its payload, as it is lent
 pub payload-lent : (c : List ℕ) → take (endOf (bodyOf (top c .mdat)) - bodyOf (top c .mdat) .at) (drop (bodyOf (top c .mdat) .at) c) ≡ payload c

@@ -12,6 +12,7 @@ ghost use Rattle.encoder.specs.Object.{brandItems, eventItems, blockItem
 ghost use Rattle.encoder.specs.Planned.{Encodable, Held};
 use accepted::read::Chunk;
 use fieldset::lines;
+use media::clocks::TrackTicks;
 use slots::share;
 use track::Track;
 use wire::form::Form;
@@ -83,7 +84,7 @@ fn events_size(form: Form, t: Track, s: &[u64], c: &[u8], k: Chunk, ws: &[u64], 
         return tuples::whole(0);
     }
     Weight {
-        fits: emsgs::records::times_fit(form, t, x[lines::BMDT], ws, k.events),
+        fits: emsgs::records::times_fit(form, t, TrackTicks(x[lines::BMDT]), ws, k.events),
         bytes: tuples::body_size(form, EVENTS, k.list),
     }
 }
@@ -108,7 +109,7 @@ fn put_events(
         return at;
     }
     let a = tuples::put_head(form, EVENTS, k.list, out, at);
-    emsgs::records::put_records(form, t, x[lines::BMDT], c, ws, k.events, out, a)
+    emsgs::records::put_records(form, t, TrackTicks(x[lines::BMDT]), c, ws, k.events, out, a)
 }
 
 // ---- all of them

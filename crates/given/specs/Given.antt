@@ -16,11 +16,11 @@ use Rattle.fieldset.specs.Lines.{setLen, bmdtAt}
 use Rattle.fieldset.specs.Lawful.{has, lawful}
 use Rattle.protected.specs.Protected.{valueAt, countIn}
 use Rattle.chunk.specs.declared.outer.Prft.{Prft}
-use Rattle.chunk.specs.Front.{Event as Box, sizeOf}
+use Rattle.chunk.specs.Front.{absentPrft, Event as Box, sizeOf}
 use Rattle.fragment.specs.Samples.{eachFrom}
 use Rattle.gather.specs.Set.{allSame}
 use Rattle.emsgs.specs.Records.{allSent, listBytes}
-use Rattle.object.specs.Prft.{noPrft, mediaMost}
+use Rattle.object.specs.Prft.{mediaMost}
 use Rattle.object.specs.Sums.{sizesOk, protectedOk}
 use Rattle.accepted.specs.Accepted.{bmdt, prft, brands, boxes, payload, fields, acceptRungs}
 
@@ -30,9 +30,9 @@ F = rows Rfc9000
 
 -- a `prft` as its box has it; nothing is stored of one that doesn't stand
 pub record BoxedPrft (p : Prft) : Type 0 where
-  pub none : p .stands ≡ false → p ≡ noPrft true .prft
-  pub ntp : p .ntp ≤ 2 ^ 64 - 1
-  pub media : p .media ≤ mediaMost (p .version)
+  pub none : p .stands ≡ false → p ≡ absentPrft
+  pub ntp : p .ntp .0 ≤ 2 ^ 64 - 1
+  pub media : p .media .0 ≤ mediaMost (p .version)
   pub version : p .version ≤ 1
   pub flags : p .flags ≤ 2 ^ 24 - 1
 

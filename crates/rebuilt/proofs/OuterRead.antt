@@ -48,7 +48,7 @@ pub prft-box : (t : Track) (p : Prft) → Maybe B.prft (prftBox t p)
 unfolding prftBox container
 prft-box t p =
     when-box (p .stands)
-    (leaf-full B.prft (p .version) (p .flags) _ (simp (length-fullBox, length-append, length-be) (omega (arith, media-few (p .version) (p .media))))
+    (leaf-full B.prft (p .version) (p .flags) _ (simp (length-fullBox, length-append, length-be) (omega (arith, media-few (p .version) (p .media .0))))
     (omega arith) refl)
 
 pub emsg-box : (e : Event) → Short e → OneBox B.emsg (emsgBox e)

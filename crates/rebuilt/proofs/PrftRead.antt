@@ -37,10 +37,10 @@ module _ {c : List ℕ} {at end : ℕ} (t : Track) (p : Prft) (ys : List ℕ) (h
   b = part at (length (prftBox t p))
 
   abbrev media : List ℕ
-  media = mediaBytes (p .version) (p .media)
+  media = mediaBytes (p .version) (p .media .0)
 
   abbrev rest : List ℕ
-  rest = be 4 (t .id) ++ (be 8 (p .ntp) ++ media)
+  rest = be 4 (t .id) ++ (be 8 (p .ntp .0) ++ media)
 
   box-is : Left c at end (fullBox B.prft (p .version) (p .flags) rest ++ ys)
   unfolding prftBox
@@ -58,19 +58,19 @@ module _ {c : List ℕ} {at end : ℕ} (t : Track) (p : Prft) (ys : List ℕ) (h
   body : Left c (at + 12) (at + 12 + length rest) rest
   body = full-body B.prft (p .version) (p .flags) rest ys box-is
 
-  left-ntp : Left c (at + 16) (at + 12 + length rest) (be 8 (p .ntp) ++ media)
-  left-ntp = left-on 4 (t .id) (be 8 (p .ntp) ++ media) (omega arith) body
+  left-ntp : Left c (at + 16) (at + 12 + length rest) (be 8 (p .ntp .0) ++ media)
+  left-ntp = left-on 4 (t .id) (be 8 (p .ntp .0) ++ media) (omega arith) body
 
   left-media : Left c (at + 24) (at + 12 + length rest) media
-  left-media = left-on 8 (p .ntp) media (omega arith) left-ntp
+  left-media = left-on 8 (p .ntp .0) media (omega arith) left-ntp
 
-  media-is : mediaTime c b ≡ p .media
+  media-is : mediaTime c b ≡ p .media .0
   unfolding mediaTime
   media-is = rw version-is (by (eqb (p .version) 0) refl (k .media))
     where
-      by : (z : Bool) → eqb (p .version) 0 ≡ z → p .media ≤ cond z (2 ^ 32 - 1) (2 ^ 64 - 1) → cond z (u32 c (at + 24)) (u64 c (at + 24)) ≡ p .media
-      by true e low = last-number 4 (p .media) (omega arith) (rw (media-short (p .version) (p .media) (eqb-true _ _ e)) at left-media)
-      by false e low = last-number 8 (p .media) (omega arith) (rw (media-long (p .version) (p .media) (eqb-false _ _ e)) at left-media)
+      by : (z : Bool) → eqb (p .version) 0 ≡ z → p .media .0 ≤ cond z (2 ^ 32 - 1) (2 ^ 64 - 1) → cond z (u32 c (at + 24)) (u64 c (at + 24)) ≡ p .media .0
+      by true e low = last-number 4 (p .media .0) (omega arith) (rw (media-short (p .version) (p .media .0) (eqb-true _ _ e)) at left-media)
+      by false e low = last-number 8 (p .media .0) (omega arith) (rw (media-long (p .version) (p .media .0) (eqb-false _ _ e)) at left-media)
 
   here : eqb (length (prftBox t p)) 0 ≡ false
   here = ne-eqb (length (prftBox t p)) 0 (λ q. omega (arith, prft-length t p stands))
@@ -83,11 +83,11 @@ module _ {c : List ℕ} {at end : ℕ} (t : Track) (p : Prft) (ys : List ℕ) (h
       by : (z : Bool) → eqb (p .version) 0 ≡ z
           → (eqb (24 + length media) 0 || ((eqb (p .version) 0 && eqb (24 + length media) 28) || (eqb (p .version) 1 && eqb (24 + length media) 32))) ≡ true
       by true e =
-          let v : p .version ≡ 0 = eqb-true _ _ e in rw (media-short (p .version) (p .media) v, length-be 4 (p .media), v)
+          let v : p .version ≡ 0 = eqb-true _ _ e in rw (media-short (p .version) (p .media .0) v, length-be 4 (p .media .0), v)
       by false e =
           let v : p .version ≡ 0 → ⊥ = eqb-false _ _ e in
           let o : p .version ≡ 1 = omega (arith, k .version) in
-          rw (media-long (p .version) (p .media) v, length-be 8 (p .media), o)
+          rw (media-long (p .version) (p .media .0) v, length-be 8 (p .media .0), o)
 
   -- all that it says where it stands
   stands-says : PrftSays t c b p
@@ -95,10 +95,10 @@ module _ {c : List ℕ} {at end : ℕ} (t : Track) (p : Prft) (ys : List ℕ) (h
   stands-says =
       record {
         read =
-            rw (here, left-number 8 (p .ntp) media (omega (arith, k .ntp)) left-ntp, media-is, version-is, flags-is)
+            rw (here, left-number 8 (p .ntp .0) media (omega (arith, k .ntp)) left-ntp, media-is, version-is, flags-is)
             (ap (λ (o : Bool). record { stands = o; ntp = p .ntp; media = p .media; version = p .version; flags = p .flags }) (sym stands));
         right = right-is;
-        track = rw (here, left-number 4 (t .id) (be 8 (p .ntp) ++ media) track body);
+        track = rw (here, left-number 4 (t .id) (be 8 (p .ntp .0) ++ media) track body);
       }
 
 -- the `prft` of a chunk, where it stands and where it doesn't

@@ -18,13 +18,13 @@ use Rattle.wire.proofs.SizeLaws.{limit-62}
 use Rattle.wire.proofs.ZigzagLaws.{back}
 use Rattle.block.specs.Events.{Event, AllSayable}
 use Rattle.block.proofs.EventsWritten.{events-written}
-use Rattle.media.specs.Clocks.{countAt, trackAt}
+use Rattle.media.specs.Clocks.{trackAt}
 use Rattle.track.specs.declared.Track.{Track}
 use Rattle.track.specs.Track.{u32}
 use Rattle.chunk.specs.Front.{Event as Box}
 use Rattle.fields.specs.Said.{numbers}
 use Rattle.object.specs.Values.{listed, onTime, fits, allFit, withTime, boxed, boxes}
-use Rattle.emsgs.specs.Records.{scaleFor, clockOf, timeFor, sent, allSent, textBytes, recordBytes, listBytes, timesFit}
+use Rattle.emsgs.specs.Records.{scaleFor, clockOf, wireTime, timeFor, sent, allSent, textBytes, recordBytes, listBytes, timesFit}
 use Rattle.emsgs.proofs.NumberLaws.{scale-most}
 use Rattle.emsgs.proofs.ListLaws.{all-bytes, fit-first, fit-rest}
 use Rattle.given.specs.Given.{F, BoxedEvent, AllBoxed}
@@ -72,7 +72,7 @@ listed-bytes (e ∷ es) h = all-bytes F (e ∷ es) h
 module _ (t : Track) (bmdt : ℕ) where
   -- the time of an event, on the track's clock and on its own
   on-time : {A : Type 0} (e : Box) → BoxedEvent e → (g : ℕ → ℕ → A) (z : A) → onTime t bmdt (sent t bmdt e) g z ≡ g (e .timescale) (e .time)
-  unfolding sent scaleFor timeFor clockOf wireOf trackAt countAt
+  unfolding sent scaleFor timeFor wireTime clockOf wireOf trackAt
   on-time e k g z =
       cases (eqb (e .timescale) (t .timescale))
       (λ q. rw (q, back Delta bmdt (e .time) (2 ^ 64 - 1) (k .time)) (ap (λ (n : ℕ). g n (e .time)) (sym (eqb-true _ _ q))))

@@ -78,12 +78,12 @@ module _ {s c : List ℕ} {delta : Bool} (k : Known s c delta) where
         unless-back (codingFor delta) (keptFor delta (getD s prftFlagsAt 0) 0) (p .flags) (2 ^ 24 - 1) (boxed .flags),
         same 2,
         e,
-        time-back delta (getD s ntpAt 0) (p .ntp) (2 ^ 64 - 1) (boxed .ntp),
+        time-back delta (getD s ntpAt 0) (p .ntp .0) (2 ^ 64 - 1) (boxed .ntp),
         same 3,
-        time-back delta (getD s mediaTimeAt 0) (p .media) (mediaMost (p .version)) (boxed .media),
+        time-back delta (getD s mediaTimeAt 0) (p .media .0) (mediaMost (p .version)) (boxed .media),
       ))
       (λ e.
-      let z : f 18 ≡ none = ap (λ (a : Bool). saidIf a (wireOf (codingFor delta) (getD s ntpAt 0) (p .ntp) ∷ [])) e in
+      let z : f 18 ≡ none = ap (λ (a : Bool). saidIf a (wireOf (codingFor delta) (getD s ntpAt 0) (p .ntp .0) ∷ [])) e in
       rw z (ap (λ (q : Prft). record { ok = true; prft = q }) (sym (boxed .none e))))
 
   -- the ids stand as they must

@@ -52,8 +52,8 @@ module _ (s c : List ℕ) (delta : Bool) where
       (cond (ltb 27 id) none
       (cond (eqb id 10) (saidIf (bmdtStands t delta r x) (getD x bmdtAt 0 ∷ []))
       (cond (eqb id 14) (saidIf (countStands t delta r x) (against (getD r countAt 0) (getD x countAt 0)))
-      (cond (eqb id 18) (saidIf (prft c .stands) (against (getD s ntpAt 0) (prft c .ntp)))
-      (cond (eqb id 20) (saidIf (prft c .stands) (against (getD s mediaTimeAt 0) (prft c .media)))
+      (cond (eqb id 18) (saidIf (prft c .stands) (against (getD s ntpAt 0) (prft c .ntp .0)))
+      (cond (eqb id 20) (saidIf (prft c .stands) (against (getD s mediaTimeAt 0) (prft c .media .0)))
       (cond (eqb id 22) (unless (keptFor delta (getD s versionAt 0) 1) (prft c .version))
       (cond (eqb id 23) (saidIf (not delta && not (eqb (length (brands c)) 0)) (brands c))
       (cond (eqb id 24) (unless (keptFor delta (getD s prftFlagsAt 0) 0) (prft c .flags))

@@ -15,8 +15,8 @@ returns c =
     let b = c .before .before .before .before .before .before .before in
     weighed-as (sym (events-none (b .args .form) (b .pre) (c .before .if1 .taken))) (weighed-nothing (c .whole .ensures))
 
-shared-slice-read-times-fit : tie.Need-shared-slice-read-times-fit
-shared-slice-read-times-fit c = search needs
+shared-slice-read-t10 : tie.Need-shared-slice-read-t10
+shared-slice-read-t10 c = search needs
 
 times-fit-requires : tie.Need-times-fit-requires
 times-fit-requires c κs = let b = c .before .before .before .before .before .before .before in all-words (b .args .form) (b .pre)
@@ -35,7 +35,7 @@ events-size-spec =
     (tie.spec
     whole-requires
     returns
-    shared-slice-read-times-fit
+    shared-slice-read-t10
     times-fit-requires
     body-size-requires
     returns-2)

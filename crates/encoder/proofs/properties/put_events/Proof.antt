@@ -30,8 +30,8 @@ returns c =
 put-head-requires : tie.Need-put-head-requires
 put-head-requires c κs = parts-room (begun (c .before))
 
-shared-slice-read-put-records : tie.Need-shared-slice-read-put-records
-shared-slice-read-put-records c = search needs
+shared-slice-read-t15 : tie.Need-shared-slice-read-t15
+shared-slice-read-t15 c = search needs
 
 put-records-requires : tie.Need-put-records-requires
 put-records-requires c κs =
@@ -61,7 +61,7 @@ put-events-spec =
     (tie.spec
     returns
     put-head-requires
-    shared-slice-read-put-records
+    shared-slice-read-t15
     put-records-requires
     same-length
     returns-2)
