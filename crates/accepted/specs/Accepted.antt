@@ -1,4 +1,5 @@
 -- A chunk for a track, by 01's order of answers: "Then the encoder: 5, 6, 8, 7". Each step looks at the whole chunk before the next.
+-- ==== The rules
 use Prim.Native.Nat.{ℕ}
 use mathlib.Core.Bool.{Bool, _&&_}
 use mathlib.Core.List.{List, [], _∷_, _++_}

@@ -1,5 +1,6 @@
 -- The chunk written, up to and with the `mdat` header, from the words of a lawful set. 01: "Same box order, `senc saiz saio` last; `tfdt`
 -- and `trun` version 1; `tfhd` flags 0x020000 plus ids 2, 4, 8; `trun` with data offset, ids 3, 5, 7, 12, and sizes if there are samples."
+-- ==== The rules
 use Prim.Native.Nat.{ℕ, zero, suc, _+_, _-_, _%_, _^_}
 use mathlib.Core.Bool.{cond}
 use mathlib.Core.List.{List, [], _∷_, _++_}

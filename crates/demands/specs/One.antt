@@ -1,6 +1,7 @@
 -- Demand 1: "Any bytes, any table, any slot number are taken. Every call ends and answers with a number from the rules' table, each given exactly when its rule
 -- says. A refusal writes nothing to the output and leaves the slot as that table states." That every call ends, and takes any input, its contract says: none has a
 -- `requires`. All is said of whole tables: of any words, any number of them, and any slot number.
+-- ==== What is shown of the rules
 use Prim.Native.Nat.{ℕ, _+_, _-_, _≤_, _<_}
 use mathlib.Core.Path.{_≡_}
 use mathlib.Core.Bool.{Bool, true}

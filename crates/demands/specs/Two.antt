@@ -2,6 +2,7 @@
 -- encoder's object, read with room under the same parameters and reference, gives a head with the same meaning, the same payload bytes, and a reference equal to the
 -- encoder's. Each chunk so rebuilt, encoded again from the starting reference with the same wish, gives the same object."
 -- What the rules define is said by their definitions alone, and the codec is held to it.
+-- ==== What is shown of the rules
 use Prim.Native.Nat.{ℕ, _≤_, _<_}
 use mathlib.Core.Path.{_≡_}
 use mathlib.Core.Bool.{Bool, true, false, cond, _&&_}

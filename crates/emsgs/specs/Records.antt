@@ -15,6 +15,8 @@ use Rattle.track.specs.declared.Track.{Track}
 use Rattle.block.specs.Events.{Event}
 use Rattle.chunk.specs.Front.{Event as Box}
 
+-- ==== The rules
+
 -- 01: "Timescale 0 means the track's; the encoder writes 0 exactly for that one."
 unfoldable pub scaleFor : Track → ℕ → ℕ
 scaleFor t scale = cond (eqb scale (t .timescale)) 0 scale
@@ -42,10 +44,6 @@ sent t bmdt e =
 abbrev pub allSent : Track → ℕ → List Box → List Event
 allSent t bmdt es = map (sent t bmdt) es
 
--- the four numbers in the middle of a record
-unfoldable pub encMarks : List Row → Event → List ℕ
-encMarks F e = encode F (e .timescale) ++ (encode F (e .time) ++ (encode F (e .duration) ++ encode F (e .id)))
-
 -- ---- list bytes
 
 -- a length and so many bytes
@@ -68,6 +66,12 @@ listBytes F (e ∷ es) = recordBytes F e + listBytes F es
 unfoldable pub timesFit : List Row → List Event → Bool
 timesFit F [] = true
 timesFit F (e ∷ es) = ltb (e .time) (limit F) and timesFit F es
+
+-- ==== What only mirrors the code
+
+-- the four numbers in the middle of a record
+unfoldable pub encMarks : List Row → Event → List ℕ
+encMarks F e = encode F (e .timescale) ++ (encode F (e .time) ++ (encode F (e .duration) ++ encode F (e .id)))
 
 -- ---- events as words (`eventAt` of crate `chunk`)
 

@@ -1,4 +1,5 @@
 -- One chunk, by 01's order of answers.
+-- ==== The rules
 use Prim.Native.Nat.{ℕ}
 use mathlib.Core.Bool.{Bool, not}
 use mathlib.Core.List.{List, [], _∷_, _++_}

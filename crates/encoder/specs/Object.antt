@@ -1,4 +1,5 @@
 -- The object that a chunk becomes. 01, "Full objects", "Delta objects", "Events".
+-- ==== The rules
 use Prim.Native.Nat.{ℕ, _-_, _^_}
 use mathlib.Core.Bool.{Bool, true, false, cond, not, _&&_, _||_}
 use mathlib.Core.List.{List, [], _∷_, _++_}

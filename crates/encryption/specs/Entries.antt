@@ -1,4 +1,5 @@
 -- `senc` as it is read.
+-- ==== The rules
 use Prim.Native.Nat.{ℕ, zero, suc, _+_, _*_}
 use mathlib.Core.Bool.{Bool, true, false, cond, _||_}
 use mathlib.Core.List.{List}

@@ -1,4 +1,5 @@
 -- `saiz` and `saio` as they are read.
+-- ==== The rules
 use Prim.Native.Nat.{ℕ, _+_, _*_}
 use mathlib.Core.Bool.{Bool, cond, _&&_}
 use mathlib.Core.List.{List}

@@ -30,6 +30,8 @@ use Rattle.fields.specs.declared.said.Word.the-variants.{Omitted, Delete
 use Rattle.fields.specs.declared.cells.Cell.{Cell}
 use Rattle.fields.specs.Said.{Saying, omitted, deleted, sent, numbers}
 
+-- ==== The rules
+
 abbrev pub Held : Type 0
 Held = Option (List ℕ)
 
@@ -146,6 +148,8 @@ module _ (t : Track) (coding : Coding) (held : Bool) (r : List ℕ) (was : Measu
       cond (eqb (l .room) 1)
       (sentOne coded (first base olds) (l .bound) (first 0 zs))
       (sentList coded base (l .bound) (l .want) (wanted (l .want) m) olds zs)
+
+-- ==== What only mirrors the code
 
 -- the words of a field: its mark and its values
 abbrev pub wordsOf : Held → List ℕ

@@ -14,6 +14,8 @@ use Rattle.fieldset.specs.declared.lines.Measure.{Measure}
 use Rattle.fieldset.specs.declared.lawful.Tally.{Tally}
 use Rattle.fieldset.specs.Lines.{lines, placeOf, lineFor, lineNumber, wanted, bmdtAt, countAt}
 
+-- ==== The rules
+
 -- the field of an id stands
 unfoldable pub has : ℕ → List ℕ → Bool
 has id w = not (eqb (getD w (lineFor id lines .place) 0) 0)
@@ -89,6 +91,8 @@ lawful t w =
     and regionsOk (measureOf t w) lines w
     and setRules t n (marksOf w)
     and sameIvSize t w
+
+-- ==== What only mirrors the code
 
 -- what a tally says of a list of words, of which there are at most 64
 pub record TallyOf (r : Tally) (most : ℕ) (s : List ℕ) : Type 0 where

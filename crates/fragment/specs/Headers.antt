@@ -1,4 +1,5 @@
 -- `mfhd` and `tfdt`.
+-- ==== The rules
 use Prim.Native.Nat.{ℕ, _+_}
 use mathlib.Core.Bool.{Bool, cond, _||_}
 use mathlib.Core.List.{List}

@@ -1,4 +1,5 @@
 -- The set of moof fields of a chunk: which ids stand, and their values. 01, "Full objects".
+-- ==== The rules
 use Prim.Native.Nat.{ℕ, _+_, _-_, _%_}
 use mathlib.Core.Bool.{Bool, true, cond, not, _&&_}
 use mathlib.Core.List.{List, [], _∷_, map}

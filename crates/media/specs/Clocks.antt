@@ -6,6 +6,8 @@ use Rattle.wire.specs.Zigzag.{reached, onReached}
 use Rattle.media.specs.declared.clocks.TrackTime.{TrackTime}
 use Rattle.media.specs.declared.clocks.NtpTime.{NtpTime}
 
+-- ==== The rules
+
 -- the count, from 0 to 2^64-1, at a zigzag distance from another
 unfoldable pub countAt : ℕ → ℕ → Reached
 countAt from z = reached Delta from (2 ^ 64 - 1) z
@@ -13,6 +15,8 @@ countAt from z = reached Delta from (2 ^ 64 - 1) z
 -- 01: "the time is a zigzag distance from BMDT in track ticks", "A rebuilt time below 0: 15."
 unfoldable pub trackAt : ℕ → ℕ → TrackTime
 trackAt from z = onReached (countAt from z) (λ v. TrackTime.At (record { 0 = v })) TrackTime.Outside
+
+-- ==== What only mirrors the code
 
 -- 01: "`prft` in a delta: both 18 and 20, zigzag, against the group's current full object"
 unfoldable pub ntpAt : ℕ → ℕ → NtpTime

@@ -16,9 +16,13 @@ use Rattle.media.specs.declared.clocks.TrackTime.the-variants.{At, Outside}
 use Rattle.media.specs.Clocks.{trackAt}
 use Rattle.chunk.specs.Events.{part, EventsFit}
 
+-- ==== The rules
+
 abbrev pub onTrack : {A : Type 0} → TrackTime → (ℕ → A) → A → A
 onTrack (At ticks) f z = f (ticks .0)
 onTrack Outside f z = z
+
+-- ==== What only mirrors the code
 
 -- 01: "Timescale 0 means the track's .. Then the time is a zigzag distance from BMDT in track ticks; otherwise an absolute count on the
 -- event's own clock."

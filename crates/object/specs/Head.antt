@@ -1,5 +1,6 @@
 -- What stands before the property block of an object. 01: "The receiver: 12 (header id), 10, 12 (block length cut or past the object), 15
 -- (block over its maximum)".
+-- ==== What only mirrors the code
 use Prim.Native.Nat.{ℕ, _+_, _-_}
 use mathlib.Core.Bool.{Bool, true, false, cond}
 use mathlib.Core.List.{List}

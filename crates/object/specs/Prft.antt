@@ -1,5 +1,6 @@
 -- The producer reference time of an object. 01: "Id 23 from `styp`, 18 and 20 from `prft`, 22 unless 1, 24 unless 0", and in a delta "both 18 and
 -- 20, zigzag, against the group's current full object, 22 and 24 if they differ from it; without the two, no box."
+-- ==== The rules
 use Prim.Native.Nat.{ℕ, _-_, _^_}
 use mathlib.Core.Bool.{Bool, true, false, cond}
 use mathlib.Core.List.{List, [], _∷_}

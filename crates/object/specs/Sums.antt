@@ -13,6 +13,8 @@ use Rattle.fieldset.specs.Lines.{lines, lineFor, setLen}
 use Rattle.fieldset.specs.Lawful.{has, valuesOf}
 use Rattle.chunk.specs.Front.{valueAt, countIn, sizeOf}
 
+-- ==== The rules
+
 -- with no samples the payload is empty; one sample has all of it; with id 1 the last size is what is left
 unfoldable pub sizesOk : Track → List ℕ → ℕ → Bool
 sizesOk t w payload =
@@ -35,6 +37,8 @@ samplesOk t w payload (suc k) i j =
 
 unfoldable pub protectedOk : Track → List ℕ → ℕ → Bool
 protectedOk t w payload = cond (has 11 w) (samplesOk t w payload (countIn w) 0 0) true
+
+-- ==== What only mirrors the code
 
 -- all words that a field has room for keep its bound
 abbrev pub Bounded : ℕ → List ℕ → Type 0

@@ -1,4 +1,5 @@
 -- The events of an object as it says them, and as the boxes of its chunk have them.
+-- ==== The rules
 use Prim.Native.Nat.{ℕ}
 use mathlib.Core.Bool.{Bool, true, false, cond}
 use mathlib.Core.List.{List, [], _∷_, map}

@@ -11,6 +11,8 @@ use Rattle.shape.specs.declared.parts.Part.{Part}
 use Rattle.shape.specs.Parts.{endOf, boxAt}
 use Rattle.tree.specs.Numbers.{u32, u64}
 
+-- ==== The rules
+
 -- how many bytes stand before the first zero byte; all, where there is none
 unfoldable pub beforeZero : List ℕ → ℕ
 beforeZero [] = 0
@@ -62,6 +64,8 @@ eventWords c b =
 unfoldable pub emsgWords : List ℕ → ℕ → ℕ → List ℕ
 emsgWords c zero at = []
 emsgWords c (suc k) at = eventWords c (emsgAt c at) ++ emsgWords c k (endOf (emsgAt c at))
+
+-- ==== What only mirrors the code
 
 -- words that these are stored in, from the first on: those of the event with the number i stand at 10 * i
 unfoldable pub keptEvents : List ℕ → ℕ → ℕ → List ℕ → List ℕ

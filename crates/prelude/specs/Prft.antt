@@ -1,4 +1,5 @@
 -- The `prft` of a chunk, or its absence: a box of no bytes. 01: "`prft`: version 0 or 1, any flags, its track ours."
+-- ==== The rules
 use Prim.Native.Nat.{ℕ, _+_}
 use mathlib.Core.Bool.{Bool, true, false, cond, _&&_, _||_}
 use mathlib.Core.List.{List}

@@ -1,4 +1,5 @@
 -- The `styp` of a chunk, or its absence: a box of no bytes.
+-- ==== The rules
 use Prim.Native.Nat.{ℕ, _+_, _-_, _/_, _%_}
 use mathlib.Core.Bool.{Bool, cond, _&&_, _||_}
 use mathlib.Core.List.{List}

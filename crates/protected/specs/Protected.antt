@@ -1,4 +1,5 @@
 -- The boxes of protected samples, written from the words of a lawful set, and how a field is read from those words.
+-- ==== The rules
 use Prim.Native.Nat.{ℕ, zero, suc, _+_, _*_, _/_}
 use mathlib.Core.Bool.{Bool, true, false, cond, _||_}
 use mathlib.Core.List.{List, [], _∷_, _++_}

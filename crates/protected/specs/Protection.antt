@@ -1,4 +1,5 @@
 -- What words must keep so that the boxes of protected samples can be written from them: a part of what `lawful` says.
+-- ==== What only mirrors the code
 use Prim.Native.Nat.{ℕ, _≤_}
 use mathlib.Core.Path.{_≡_}
 use mathlib.Core.Bool.{true, _||_}

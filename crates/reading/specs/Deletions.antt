@@ -10,6 +10,8 @@ use Rattle.laws.specs.Tests.{_and_}
 use Rattle.fieldset.specs.Lawful.{has}
 use Rattle.fields.specs.Said.{Says, numbers, among, Gone}
 
+-- ==== The rules
+
 -- an id of the moof fields that can be deleted. 01: "Ids 10 and 14 can't be deleted"
 unfoldable pub moofField : ℕ → Bool
 moofField id = leb 1 id && (leb id 16 && (not (eqb id 10) && not (eqb id 14)))
@@ -24,7 +26,7 @@ unfoldable pub deletionsOk : List ℕ → Says → List ℕ → List ℕ → Boo
 deletionsOk r says seen [] = true
 deletionsOk r says seen (d ∷ ds) = (moofField d && (has d r && (isNone (says d) && not (among d seen)))) and deletionsOk r says (d ∷ seen) ds
 
--- ---- what the code does
+-- ==== What only mirrors the code
 
 -- an id may be deleted, by the words of the index and the marks of those before it
 unfoldable pub strikable : List ℕ → List ℕ → ℕ → List ℕ → Bool

@@ -27,6 +27,8 @@ use Rattle.reading.specs.Deletions.{deletionsOk}
 use Rattle.fields.specs.Cells.{Came, Held, codingFor, cellOf, stood}
 use Rattle.fields.specs.Words.{setWords, measure, wasOf, storeAll}
 
+-- ==== The rules
+
 -- 01: "Id 14 absent means same count."
 unfoldable pub countFrom : Coding → Option (List ℕ) → ℕ → Reached
 countFrom coding none old = To old
@@ -90,7 +92,7 @@ module _ (t : Track) (delta : Bool) (r : List ℕ) (says : Says) where
   unfoldable pub setRungs : List Rung
   setRungs = (deletionsOk r says [] (numbers (says 27)) else 14) ∷ (onReached countReached (λ _. true) false else 15) ∷ fieldRungs
 
--- ---- what the code does
+-- ==== What only mirrors the code
 
 abbrev pub brandsIn : List ℕ → Bool
 brandsIn index = eqb (getD index 69 0) 0 || (not (eqb (getD index 70 0) 0) && eqb (getD index 70 0 % 4) 0)

@@ -1,4 +1,5 @@
 -- An object taken apart. Where a number is cut, 0 stands for it: the object is refused before anything goes by it.
+-- ==== The rules
 use Prim.Native.Nat.{ℕ, _+_, _-_}
 use mathlib.Core.Bool.{Bool, true, false, _||_}
 use mathlib.Core.List.{List, [], _∷_}

@@ -1,4 +1,5 @@
 -- One object, by 01's order of answers.
+-- ==== The rules
 use Prim.Native.Nat.{ℕ, _+_, _-_, _%_, _^_}
 use mathlib.Core.Bool.{Bool, cond, not, _&&_, _||_}
 use mathlib.Core.List.{List, [], _∷_, _++_}

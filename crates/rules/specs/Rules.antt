@@ -26,6 +26,8 @@ use Rattle.encryption.specs.declared.entries.Entries.{Entries}
 use Rattle.encryption.specs.Entries.{entriesOf, pairsAt, lengthAt, sencOk, subsamples}
 use Rattle.encryption.specs.Sizes.{saizOk, saizCount, infoSize, saioOk, leadsTo}
 
+-- ==== The rules
+
 -- 01: "`emsg`: .. timescale not 0."
 unfoldable pub clocksOk : List Event → Bool
 clocksOk [] = true
@@ -115,6 +117,8 @@ module _ (t : Track) (c : List ℕ) (top : Top) (f : Inner) where
       and offsetsOk
       and sizesOk
       and cond (eqb (f .senc .len) 0) unprotectedOk protectedOk
+
+-- ==== What only mirrors the code
 
 -- ---- what the rules are asked of
 

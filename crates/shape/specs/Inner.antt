@@ -1,5 +1,6 @@
 -- The boxes inside the `moof`. 01: "`moof` has `mfhd`, then one `traf`: `tfhd`, `tfdt` (version 0 or 1), `trun` (0 or 1), then `senc`, `saiz`,
 -- `saio` in any order, all three or none."
+-- ==== The rules
 use Prim.Native.Nat.{ℕ, _+_}
 use mathlib.Core.Bool.{Bool, cond, not, _&&_, _||_}
 use mathlib.Core.List.{List}

@@ -1,4 +1,5 @@
 -- The boxes at the top of a chunk. 01: "Order: `styp`? `prft`? `emsg`* `moof` `mdat`, nothing after."
+-- ==== The rules
 use Prim.Native.Nat.{ℕ, suc, _+_, _-_}
 use mathlib.Core.Bool.{Bool, cond, not, _&&_}
 use mathlib.Core.List.{List}

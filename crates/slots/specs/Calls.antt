@@ -1,4 +1,5 @@
 -- What the three calls make of a share. 01: "Order: 18 for length, 1, 18 for the share, 2 or 3, 4."
+-- ==== The rules
 use Prim.Native.Nat.{ℕ}
 use mathlib.Core.Bool.{not}
 use mathlib.Core.List.{List, [], _∷_}

@@ -1,5 +1,6 @@
 -- The words of a slot's share, and when they are lawful. From word 0 on: the eight parameters, the count of accepted objects, the mark of
 -- the reference, the mark of the current full object's `prft` with its four fields, and the set of moof fields.
+-- ==== The rules
 use Prim.Native.Nat.{ℕ}
 use mathlib.Core.Bool.{Bool, cond, not, _&&_, _||_}
 use mathlib.Core.List.{List, [], _∷_, _++_}

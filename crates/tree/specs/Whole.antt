@@ -10,6 +10,8 @@ use Rattle.laws.specs.ByLength.{byLength}
 use Rattle.laws.specs.Tests.{_and_}
 use Rattle.boxes.specs.Box.{moof, traf}
 
+-- ==== The rules
+
 -- the first box of a list: its size, its type, what stands inside it; and the boxes after it
 unfoldable pub sizeOf : List ℕ → ℕ
 sizeOf l = de (slice 0 4 l)
@@ -37,6 +39,8 @@ wholeBy whole l = eqb (length l) 0 || (sized l and ((not (container (kindOf l)) 
 
 unfoldable pub whole : List ℕ → Bool
 whole l = byLength true wholeBy l
+
+-- ==== What only mirrors the code
 
 -- a box past its size field, from its type on
 unfoldable pub wholeBox : List ℕ → Bool

@@ -23,16 +23,14 @@ use Rattle.writing.specs.declared.cells.Change.the-variants.{Omitted, De
 use Rattle.writing.specs.declared.cells.Basis.{Basis}
 use Rattle.writing.specs.Items.{Items, nothing, numberItem, runItem, wideBytes}
 
+-- ==== The rules
+
 -- two lists are equal
 unfoldable pub same : List ℕ → List ℕ → Bool
 same [] [] = true
 same [] (y ∷ ys) = false
 same (x ∷ xs) [] = false
 same (x ∷ xs) (y ∷ ys) = eqb x y and same xs ys
-
--- the lengths that the fields go by
-abbrev pub basisOf : Track → Bool → List ℕ → List ℕ → Basis
-basisOf t delta r x = record { delta = delta; was = wasOf t delta r; now = measureOf t x }
 
 abbrev pub onChange : {A : Type 0} → Change → A → A → A
 onChange Omitted f z = z
@@ -71,6 +69,12 @@ module _ (t : Track) (delta : Bool) (r x : List ℕ) (l : Line) where
 
   unfoldable pub lineItems : List Row → Items
   lineItems F = onChange changeOf (sentItems F) nothing
+
+-- ==== What only mirrors the code
+
+-- the lengths that the fields go by
+abbrev pub basisOf : Track → Bool → List ℕ → List ℕ → Basis
+basisOf t delta r x = record { delta = delta; was = wasOf t delta r; now = measureOf t x }
 
 -- what is lent: lawful sets
 pub record Writable (t : Track) (delta : Bool) (r x : List ℕ) : Type 0 where

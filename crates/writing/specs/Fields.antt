@@ -1,4 +1,5 @@
 -- The set of moof fields in an object. 01: "The encoder writes them ascending".
+-- ==== The rules
 use Prim.Native.Nat.{ℕ, _+_}
 use mathlib.Core.Bool.{Bool, true, false, cond, not, _||_}
 use mathlib.Core.List.{List, [], _∷_}

@@ -1,5 +1,6 @@
 -- The producer reference time in an object. 01: "18 and 20 from `prft`, 22 unless 1, 24 unless 0"; in a delta "both 18 and 20, zigzag, against the group's current
 -- full object, 22 and 24 if they differ from it; without the two, no box." The share s keeps that object's.
+-- ==== The rules
 use Prim.Native.Nat.{ℕ}
 use mathlib.Core.Bool.{Bool, not, _&&_}
 use mathlib.Core.List.{List}
