@@ -59,7 +59,7 @@ unfoldable pub member : ℕ → List Entry → Bool
 member id [] = false
 member id (e ∷ es) = eqb (e .id) id || member id es
 
--- 13: "id unknown, twice"
+-- 13: "id unknown, twice" (D84)
 unfoldable pub lawful : List Entry → Bool
 lawful [] = true
 lawful (e ∷ es) = known (e .id) and not (member (e .id) es) and lawful es

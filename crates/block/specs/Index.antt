@@ -22,7 +22,7 @@ use Rattle.block.specs.Records.{recordsRun, wordsOf}
 
 -- ==== The rules
 
--- 01: "The ids are document 004 section 8's."
+-- 01: "The ids are document 004 section 8's." (D83)
 unfoldable pub known : ℕ → Bool
 known id = leb 1 id && leb id 16 || eqb id 18 || eqb id 20 || leb 22 id && leb id 25 || eqb id 27
 

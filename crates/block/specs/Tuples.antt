@@ -22,7 +22,7 @@ use Rattle.block.specs.Front.{Front, off, cut, Series, taken, wholly}
 abbrev pub part : ℕ → ℕ → Part
 part at len = record { at = at; len = len }
 
--- the kind of an id, whether the id is known or not
+-- the kind of an id, whether the id is known or not (D81)
 unfoldable pub kindOf : ℕ → Part → Kind
 kindOf id p =
     cond (eqb (id % 2) 0) (Scalar p)

@@ -85,7 +85,7 @@ rules a slot t = tableRungs t slot ++ shareRules a (shareAt t slot)
 -- their numbers. 01: "Order: 18 for length, 1, 18 for the share, 2 or 3, 4. Then the encoder: 5, 6, 8, 7, 9, 17. The receiver: 12 (header id), 10, 12 (block
 -- length cut or past the object), 15 (block over its maximum), 11, 12 (tuples, varints, emsg records), 13, 14 (deletions), 15 (sample count), 14 (lengths but 13
 -- and 15), 15 (id 11's values and sum), 14 (lengths of 13 and 15, set), 15 (all other values, ..), 16, 17." The last 15 is two rules here: the values of the set,
--- and all others
+-- and all others (D3)
 abbrev pub order : Call → List ℕ
 order (opens side a) = 18 ∷ 1 ∷ 18 ∷ 3 ∷ 4 ∷ []
 order (closes side) = 18 ∷ 1 ∷ 18 ∷ 2 ∷ []

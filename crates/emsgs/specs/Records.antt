@@ -17,11 +17,11 @@ use Rattle.chunk.specs.Front.{Event as Box}
 
 -- ==== The rules
 
--- 01: "Timescale 0 means the track's; the encoder writes 0 exactly for that one."
+-- 01: "Timescale 0 means the track's; the encoder writes 0 exactly for that one." (D43, D59)
 unfoldable pub scaleFor : Track → ℕ → ℕ
 scaleFor t scale = cond (eqb scale (t .timescale)) 0 scale
 
--- 01: "Then the time is a zigzag distance from BMDT in track ticks; otherwise an absolute count on the event's own clock."
+-- 01: "Then the time is a zigzag distance from BMDT in track ticks; otherwise an absolute count on the event's own clock." (D75)
 unfoldable pub clockOf : Track → ℕ → Coding
 clockOf t scale = cond (eqb scale (t .timescale)) Delta Plain
 
@@ -50,7 +50,7 @@ allSent t bmdt es = map (sent t bmdt) es
 unfoldable pub textBytes : List Row → ℕ → ℕ
 textBytes F n = sizeOf F n + n
 
--- 8: "in list bytes a number too wide counts as the longest varint", which `sizeOf` says of it
+-- 8: "in list bytes a number too wide counts as the longest varint", which `sizeOf` says of it (D42)
 unfoldable pub recordBytes : List Row → Event → ℕ
 recordBytes F e =
     textBytes F (length (e .scheme))

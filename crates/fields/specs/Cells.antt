@@ -111,12 +111,12 @@ filledAs Outside vs = beyond
 abbrev pub stood : Bool → List ℕ → Line → Bool
 stood held r l = held && not (eqb (getD r (l .place) 0) 0)
 
--- its values there, by the length that they had
+-- its values there, by the length that they had (D90)
 unfoldable pub oldValues : Bool → List ℕ → Measure → Line → List ℕ
 oldValues held r was l = cond (stood held r l) (slice (l .place + 1) (l .place + 1 + wanted (l .want) was) r) []
 
 -- 01: "An omitted list is carried only if its required length is unchanged, else 14." "Id 9, where the track is cenc and there are samples,
--- always stands in the object; else 14."
+-- always stands in the object; else 14." (D92, D102)
 unfoldable pub carried : Want → ℕ → ℕ → List ℕ → Came
 carried want j k olds = cond (isIvs want) (came missing none) (cond (eqb j k) (well (some olds)) (misfit want))
 

@@ -29,6 +29,7 @@ setWords bmdt n f = bmdt ∷ n ∷ regionsOf f lines
 
 -- ---- the lengths that the fields go by
 
+-- IVs go by the parameter's size, whatever id 16 says (D93)
 abbrev pub measure : Track → ℕ → ℕ → Measure
 measure t n k = record { count = n; ivs = t .«iv_size» / 8; sum = k }
 

@@ -36,7 +36,7 @@ u64 = 0xffff_ffff_ffff_ffff
 
 -- Place, room, length, bound and absent value of each id. 01: "64 samples and 256 subsamples a chunk"; "Required: id 1, count less one; 3, 5,
 -- 7, 11, the count; 13, 15, the sum of 11."; "A value's range is that of its box field, after deltas; flags end at 31"; "if absent then, ids
--- 2, 4, 6, 8 count as trex, 12 as 0 and 16 as the parameter. List elements count as 0 where the reference has none."
+-- 2, 4, 6, 8 count as trex, 12 as 0 and 16 as the parameter. List elements count as 0 where the reference has none." (D49, D110)
 unfoldable pub lines : List Line
 lines =
     lineOf 1 2 63 LessOne u32 Zero

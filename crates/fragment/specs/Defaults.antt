@@ -17,7 +17,7 @@ use Rattle.fragment.specs.declared.defaults.Defaults.{Defaults}
 unfoldable pub fieldsIn : ℕ → ℕ
 fieldsIn word = bitOf word 0x2 + (bitOf word 0x8 + (bitOf word 0x10 + bitOf word 0x20))
 
--- 01: "flag 0x020000 set, otherwise only 0x2, 0x8, 0x10, 0x20"; "Versions and flags not named are 0."
+-- 01: "flag 0x020000 set, otherwise only 0x2, 0x8, 0x10, 0x20"; "Versions and flags not named are 0." (D41)
 unfoldable pub tfhdFlagsOk : ℕ → Bool
 tfhdFlagsOk word =
     eqb word (0x2_0000 + (0x2 * bitOf word 0x2 + (0x8 * bitOf word 0x8 + (0x10 * bitOf word 0x10 + 0x20 * bitOf word 0x20))))

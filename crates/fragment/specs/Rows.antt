@@ -34,7 +34,7 @@ unfoldable pub columnsIn : ℕ → ℕ
 columnsIn word = bitOf word durations + (bitOf word sizes + (bitOf word sampleFlags + bitOf word offsets))
 
 -- 01: "`trun` (flags within 0xF05): data offset present ..; not both first-sample and per-sample flags." The data offset's flag is 0x1.
--- The version: "`trun` (0 or 1)"
+-- The version: "`trun` (0 or 1)" (D26, D28)
 unfoldable pub runFlagsOk : ℕ → Bool
 runFlagsOk word =
     leb (word / 0x100_0000) 1
@@ -55,7 +55,7 @@ runWidth word = 4 * columnsIn word
 abbrev pub countOf : List ℕ → Part → ℕ
 countOf c b = u32 c (b .at + 12)
 
--- the length is what flags and count say
+-- the length is what flags and count say (D22)
 unfoldable pub trunOk : List ℕ → Part → Bool
 trunOk c b = runFlagsOk (wordOf c b) and eqb (b .len) (runHead (wordOf c b) + runWidth (wordOf c b) * countOf c b)
 
@@ -84,7 +84,7 @@ hasColumn r column = eqb (bitOf (r .word) column) 1
 unfoldable pub cell : List ℕ → Run → ℕ → ℕ → ℕ
 cell c r column i = u32 c (r .rows + r .width * i + 4 * columnsIn (r .word % column))
 
--- the size of a sample: of the column, or the default where there is none
+-- the size of a sample: of the column, or the default where there is none (D50)
 unfoldable pub sizeAt : List ℕ → Run → ℕ → ℕ → ℕ
 sizeAt c r default i = cond (hasColumn r sizes) (cell c r sizes i) default
 

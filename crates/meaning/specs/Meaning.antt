@@ -145,6 +145,7 @@ stypOf c b = cond (eqb (b .len) 0) none (some (slice (bodyOf b .at) (endOf (body
 
 -- ---- the chunk
 
+-- all of it: neither the number of the `mfhd` nor the choice of boxes is in it (D133)
 unfoldable pub meaningOf : Track → List ℕ → Meaning
 meaningOf t c =
     let top = topOf c in

@@ -14,7 +14,7 @@ use Rattle.object.specs.Sums.{Bounded}
 
 -- ==== The rules
 
--- the sum of the effective durations of a set: each sample's own, or one for all, or trex's
+-- the sum of the effective durations of a set: each sample's own, or one for all, or trex's (D68)
 unfoldable pub durationsOf : Track → List ℕ → ℕ
 durationsOf t r =
     cond (has 3 r) (sum (valuesOf 3 (countIn r) r))

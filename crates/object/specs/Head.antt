@@ -25,7 +25,7 @@ blockF F o p delta =
     (Refused 12))
     (Refused 12)
 
--- 01: "Full objects (23)", "Delta objects (25)", "10 header id neither 23 nor 25: skipped"
+-- 01: "Full objects (23)", "Delta objects (25)", 10: "header id neither 23 nor 25: skipped"
 unfoldable pub headOf : List Row → List ℕ → Head
 headOf F o =
     number F 0 o

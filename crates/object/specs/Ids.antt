@@ -9,7 +9,7 @@ use lib.ListN.{getD}
 -- ==== The rules
 
 -- `at` says which ids stand, and `kept` that the current full object had a `prft`. Id 23 is forbidden in a delta ("Id 23 never"), and id 27 in
--- a full object, which deletes nothing.
+-- a full object, which deletes nothing (D82, D85, D86).
 unfoldable pub idsOk : Bool → Bool → (ℕ → Bool) → Bool
 idsOk delta kept at =
     Bool·beq (at 18) (at 20)

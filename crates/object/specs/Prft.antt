@@ -29,11 +29,11 @@ told ok stands ntp media version flags =
 abbrev pub noPrft : Bool → Told
 noPrft ok = told ok false 0 0 0 0
 
--- 01: "A value's range is that of its box field, after deltas": the media time has 32 bits in version 0
+-- 01: "A value's range is that of its box field, after deltas": the media time has 32 bits in version 0 (D108)
 abbrev pub mediaMost : ℕ → ℕ
 mediaMost version = cond (eqb version 0) (2 ^ 32 - 1) (2 ^ 64 - 1)
 
--- what is kept of an id: in a delta the current full object's, in a full object what its absence means
+-- what is kept of an id: in a delta the current full object's, in a full object what its absence means (D64)
 abbrev pub keptFor : Bool → ℕ → ℕ → ℕ
 keptFor delta share plain = cond delta share plain
 
@@ -41,7 +41,7 @@ keptFor delta share plain = cond delta share plain
 unfoldable pub numberFor : Bool → Says → ℕ → ℕ → ℕ → ℕ → Reached
 numberFor delta says id share plain bound = numberOf (codingFor delta) (says id) (keptFor delta share plain) bound
 
--- the two times, once version and flags are known
+-- the two times, once version and flags are known (D57)
 unfoldable pub timesOf : Bool → Says → List ℕ → ℕ → ℕ → Told
 timesOf delta says s version flags =
     onReached (numberFor delta says 18 (getD s ntpAt 0) 0 (2 ^ 64 - 1))
@@ -49,6 +49,7 @@ timesOf delta says s version flags =
     onReached (numberFor delta says 20 (getD s mediaTimeAt 0) 0 (mediaMost version)) (λ media. told true true ntp media version flags) (noPrft false))
     (noPrft false)
 
+-- 01: "id 22 is 0 or 1"; id 24 has the 24 bits of its box field (D109)
 unfoldable pub prftOf : Bool → Says → List ℕ → Told
 prftOf delta says s = whole (says 18)
   where

@@ -15,7 +15,7 @@ use Rattle.chunk.specs.Front.{valueAt, countIn, sizeOf}
 
 -- ==== The rules
 
--- with no samples the payload is empty; one sample has all of it; with id 1 the last size is what is left
+-- with no samples the payload is empty; one sample has all of it; with id 1 the last size is what is left (D115, D116, D117)
 unfoldable pub sizesOk : Track → List ℕ → ℕ → Bool
 sizesOk t w payload =
     let n = countIn w in
@@ -28,7 +28,7 @@ sizesOk t w payload =
 unfoldable pub bytesOf : ℕ → List ℕ → ℕ → ℕ → ℕ
 bytesOf id w j k = let at = lineFor id lines .place + 1 + j in sum (slice at (at + k) w)
 
--- of k samples from the number i on, the first of whose subsamples has the number j
+-- of k samples from the number i on, the first of whose subsamples has the number j (D118)
 unfoldable pub samplesOk : Track → List ℕ → ℕ → ℕ → ℕ → ℕ → Bool
 samplesOk t w payload zero i j = true
 samplesOk t w payload (suc k) i j =

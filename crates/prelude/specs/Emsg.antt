@@ -32,7 +32,7 @@ schemeEnd c b = zeroFrom c (schemeAt b) (endOf b)
 unfoldable pub valueEnd : List ℕ → Part → ℕ
 valueEnd c b = zeroFrom c (schemeEnd c b + 1) (endOf b)
 
--- 01: "`emsg`: version 1, flags 0", a word; "box lengths, an `emsg` string without its end zero .. are 6". The message may be empty.
+-- 01: "`emsg`: version 1, flags 0", a word; "box lengths, an `emsg` string without its end zero .. are 6". The message may be empty (D36).
 unfoldable pub emsgOk : List ℕ → Part → Bool
 emsgOk c b = leb 32 (b .len) and ltb (schemeEnd c b) (endOf b) and ltb (valueEnd c b) (endOf b) and eqb (u32 c (b .at + 8)) 0x100_0000
 

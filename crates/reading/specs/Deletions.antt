@@ -12,7 +12,7 @@ use Rattle.fields.specs.Said.{Says, numbers, among, Gone}
 
 -- ==== The rules
 
--- an id of the moof fields that can be deleted. 01: "Ids 10 and 14 can't be deleted"
+-- an id of the moof fields that can be deleted. 01: "Ids 10 and 14 can't be deleted" (D89, D91)
 unfoldable pub moofField : ℕ → Bool
 moofField id = leb 1 id && (leb id 16 && (not (eqb id 10) && not (eqb id 14)))
 
@@ -21,7 +21,7 @@ isNone none = true
 isNone (some zs) = false
 
 -- 01: "an id deleted stands once, was in the reference's moof fields and isn't sent again": of each id that id 27 lists, those of `seen` being
--- before it
+-- before it (D89)
 unfoldable pub deletionsOk : List ℕ → Says → List ℕ → List ℕ → Bool
 deletionsOk r says seen [] = true
 deletionsOk r says seen (d ∷ ds) = (moofField d && (has d r && (isNone (says d) && not (among d seen)))) and deletionsOk r says (d ∷ seen) ds

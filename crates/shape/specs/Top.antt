@@ -47,6 +47,6 @@ topOf c =
       mdat = mdat;
     }
 
--- `moof` and `mdat` stand, "nothing after"
+-- `moof` and `mdat` stand, "nothing after" (D16)
 unfoldable pub topOk : List ℕ → Top → Bool
 topOk c top = not (eqb (top .moof .len) 0) && (not (eqb (top .mdat .len) 0) && eqb (endOf (top .mdat)) (length c))

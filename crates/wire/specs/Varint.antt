@@ -17,7 +17,7 @@ use Rattle.wire.specs.Form.{byFirst, byValue, longest, onFound}
 abbrev pub encodeIn : Row → ℕ → List ℕ
 encodeIn r v = (r .mark + v / 256 ^ r .tail) ∷ be (r .tail) v
 
--- 01: "The encoder writes the shortest". A number past the form's limit has none.
+-- 01: "The encoder writes the shortest" (D76). A number past the form's limit has none.
 unfoldable pub encode : List Row → ℕ → List ℕ
 encode F v = onFound (byValue F v) (λ r. encodeIn r v) []
 

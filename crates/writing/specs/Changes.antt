@@ -50,7 +50,7 @@ module _ (t : Track) (delta : Bool) (r x : List ℕ) (l : Line) where
   olds = oldValues delta r (wasOf t delta r) l
 
   -- 01: "A present field equal to the reference's is omitted; a vanished one is listed in id 27". "Id 9, where the track is cenc and there are samples, always
-  -- stands in the object".
+  -- stands in the object" (D66, D105).
   unfoldable pub changeOf : Change
   changeOf =
       cond stands
