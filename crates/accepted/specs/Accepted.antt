@@ -1,4 +1,5 @@
 -- A chunk for a track, by 01's order of answers: "Then the encoder: 5, 6, 8, 7". Each step looks at the whole chunk before the next.
+-- ==== The rules
 use Prim.Native.Nat.{ℕ}
 use mathlib.Core.Bool.{Bool, _&&_}
 use mathlib.Core.List.{List, [], _∷_, _++_}
@@ -76,7 +77,7 @@ fields t c = chunkSet t c (inner c)
 
 -- ---- its number
 
--- 01: "Order, own version and flags .., box lengths, an `emsg` string without its end zero and three-or-none are 6"
+-- 01: "Order, own version and flags .., box lengths, an `emsg` string without its end zero and three-or-none are 6" (D17)
 unfoldable pub boxesOk : Track → List ℕ → Bool
 boxesOk t c =
     topOk c (top c)
@@ -86,7 +87,7 @@ boxesOk t c =
     and (sencOk t c (inner c .senc) && (saizOk c (inner c .saiz) && saioOk c (inner c .saio)))
 
 -- 01: "Maxima: 64 samples and 256 subsamples a chunk; 16 brands; 16 emsg records in 4,096 list bytes; .. payload 16,777,216 bytes". 8: "a count or length past
--- its maximum", of every box that counts, whatever else is wrong with it
+-- its maximum", of every box that counts, whatever else is wrong with it (D23, D24, D31, D44)
 unfoldable pub countsOk : Track → List ℕ → Bool
 countsOk t c =
     (leb (countOf c (inner c .trun)) 64 && (leb (sencCount c (inner c .senc)) 64 && leb (saizCount c (inner c .saiz)) 64))
@@ -100,6 +101,6 @@ maximaOk F t c = countsOk t c and leb (listBytes F (events t c)) 4096
 unfoldable pub lateRungs : List Row → Track → List ℕ → List Rung
 lateRungs F t c = (maximaOk F t c else 8) ∷ (rulesOk t c (top c) (inner c) (boxes c) else 7) ∷ []
 
--- 5: "chunk: the tree of boxes is broken"; 6: "chunk: wrong box, order, version, flags or box length"
+-- 5: "chunk: the tree of boxes is broken"; 6: "chunk: wrong box, order, version, flags or box length" (D21, D54)
 unfoldable pub acceptRungs : List Row → Track → List ℕ → List Rung
 acceptRungs F t c = (whole c else 5) ∷ (boxesOk t c else 6) ∷ lateRungs F t c

@@ -1,4 +1,5 @@
 -- What the code hands on of an accepted chunk.
+-- ==== What only mirrors the code
 use Prim.Native.Nat.{ℕ, _≤_}
 use mathlib.Core.Path.{_≡_}
 use mathlib.Core.List.{List}

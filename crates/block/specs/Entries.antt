@@ -18,6 +18,8 @@ use Rattle.block.specs.Numbers.{numbersF}
 use Rattle.block.specs.Records.{recordsF, wordsOf}
 use Rattle.block.specs.Index.{known, bytesOf, told}
 
+-- ==== The rules
+
 -- an id with the bytes of its number, its list or its records
 pub record Entry : Type 0 where
   pub id : ℕ
@@ -57,15 +59,10 @@ unfoldable pub member : ℕ → List Entry → Bool
 member id [] = false
 member id (e ∷ es) = eqb (e .id) id || member id es
 
--- 13: "id unknown, twice"
+-- 13: "id unknown, twice" (D84)
 unfoldable pub lawful : List Entry → Bool
 lawful [] = true
 lawful (e ∷ es) = known (e .id) and not (member (e .id) es) and lawful es
-
--- what is answered of a block's entries
-unfoldable pub answerOf : List Row → Option (List Entry) → Indexed
-answerOf F none = Cut
-answerOf F (some es) = cond (readable F es) (told (lawful es)) Cut
 
 -- the first entry of an id
 unfoldable pub entry : ℕ → List Entry → Option (List ℕ)
@@ -75,6 +72,8 @@ entry id (e ∷ es) = cond (eqb (e .id) id) (some (e .bytes)) (entry id es)
 -- what a block's entries say of an id: its numbers
 unfoldable pub says : List Row → List Entry → ℕ → Option (List ℕ)
 says F es id = onOption (entry id es) (body F id) none
+
+-- ==== What only mirrors the code
 
 -- what the three words of an id tell, where the entries say the numbers zs of it: one more than the place of its part, a scalar's value or the
 -- length of the part, and how many numbers there are; and of id 25 how many records, whose words the events hold
@@ -95,3 +94,10 @@ pub record HeldAs (F : List Row) (s : List ℕ) (end : ℕ) (words before events
 abbrev pub Tells : List Row → List ℕ → ℕ → List ℕ → List ℕ → List ℕ → ℕ → Option (List ℕ) → Type 0
 Tells F s end words before events id none = (i : ℕ) → i < 3 → getD words (id * 3 + i) 0 ≡ 0
 Tells F s end words before events id (some zs) = HeldAs F s end words before events id zs
+
+-- ==== What only proofs need
+
+-- what is answered of a block's entries
+unfoldable pub answerOf : List Row → Option (List Entry) → Indexed
+answerOf F none = Cut
+answerOf F (some es) = cond (readable F es) (told (lawful es)) Cut

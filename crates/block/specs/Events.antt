@@ -10,6 +10,8 @@ use Rattle.block.specs.declared.records.Record.{Record}
 use Rattle.block.specs.Records.{recordsF}
 use Rattle.block.specs.Index.{bytesOf}
 
+-- ==== The rules
+
 -- an event as it stands on the wire: its strings, numbers and message
 pub record Event : Type 0 where
   pub scheme : List ℕ
@@ -51,6 +53,8 @@ module _ (F : List Row) where
   unfoldable pub encEvents : List Event → List ℕ
   encEvents [] = []
   encEvents (e ∷ es) = encEvent e ++ encEvents es
+
+  -- ==== What only proofs need
 
   -- an event that the form can hold
   pub record Sayable (e : Event) : Type 0 where

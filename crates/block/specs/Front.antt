@@ -1,5 +1,6 @@
 -- Things that stand one behind the other in a list, each taken off the front: varints, tuples and records alike.
 -- 01: "Records are taken off the front until no bytes remain."
+-- ==== The rules
 use Prim.Native.Nat.{ℕ, zero, suc, _-_}
 use mathlib.Core.Bool.{Bool, true, false, cond}
 use mathlib.Core.List.{List, [], _∷_}

@@ -20,13 +20,17 @@ use Rattle.block.specs.Tuples.{partOf, tuplesRun}
 use Rattle.block.specs.Numbers.{counted, countAt, onCounted}
 use Rattle.block.specs.Records.{recordsRun, wordsOf}
 
--- 01: "The ids are document 004 section 8's."
+-- ==== The rules
+
+-- 01: "The ids are document 004 section 8's." (D83)
 unfoldable pub known : ℕ → Bool
 known id = leb 1 id && leb id 16 || eqb id 18 || eqb id 20 || leb 22 id && leb id 25 || eqb id 27
 
 -- the bytes of a part
 abbrev pub bytesOf : List ℕ → Part → List ℕ
 bytesOf s p = slice (p .at) (p .at + p .len) s
+
+-- ==== What only mirrors the code
 
 -- how many numbers stand in a tuple of the block s: one, a list's varints, bytes, or records; a list can be cut
 unfoldable pub weighed : List Row → List ℕ → Kind → Counted

@@ -16,6 +16,8 @@ use Rattle.block.specs.declared.numbers.Counted.{Counted}
 use Rattle.block.specs.declared.numbers.Counted.the-variants.{Whole, Cut}
 use Rattle.block.specs.Front.{Front, off, cut, Series, taken, wholly}
 
+-- ==== The rules
+
 -- the varint at the front, wherever it stands
 unfoldable pub numberFront : List Row → ℕ → List ℕ → Front ℕ
 numberFront F at s = onGot (readF F s) off cut
@@ -27,6 +29,14 @@ numbersRun F s = taken (numberFront F) 0 0 s
 -- the varints that fill s, none where the last is cut
 unfoldable pub numbersF : List Row → List ℕ → Option (List ℕ)
 numbersF F s = wholly (numbersRun F s)
+
+-- the values that the numbers zs on the wire stand for, up to one that is out of range
+unfoldable pub stepsF : Coding → ℕ → ℕ → List ℕ → List ℕ → Filled
+stepsF coding base bound old [] = stop Done
+stepsF coding base bound old (z ∷ zs) =
+    onReached (reached coding (first base old) bound z) (λ v. more v (stepsF coding base bound (rest old) zs)) (stop Outside)
+
+-- ==== What only mirrors the code
 
 -- how many things fill a list
 unfoldable pub counted : {A : Type 0} → Series A → Counted
@@ -44,9 +54,3 @@ plus n Cut = Cut
 abbrev pub onCounted : {A : Type 0} → Counted → (ℕ → A) → A → A
 onCounted (Whole n) f z = f n
 onCounted Cut f z = z
-
--- the values that the numbers zs on the wire stand for, up to one that is out of range
-unfoldable pub stepsF : Coding → ℕ → ℕ → List ℕ → List ℕ → Filled
-stepsF coding base bound old [] = stop Done
-stepsF coding base bound old (z ∷ zs) =
-    onReached (reached coding (first base old) bound z) (λ v. more v (stepsF coding base bound (rest old) zs)) (stop Outside)

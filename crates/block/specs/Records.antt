@@ -26,6 +26,8 @@ use Rattle.block.specs.Front.{Front, off, cut, Series, taken, wholly}
 use Rattle.block.specs.Tuples.{part}
 use Rattle.block.specs.Numbers.{counted, plus}
 
+-- ==== The rules
+
 abbrev pub onText : {A : Type 0} → Text → (Part → ℕ → A) → A → A
 onText (At p next) f z = f p next
 onText NoText f z = z
@@ -98,21 +100,7 @@ recordsRun F base s = taken (recordFront F) 0 base s
 unfoldable pub recordsF : List Row → ℕ → List ℕ → Option (List Record)
 recordsF F base s = wholly (recordsRun F base s)
 
--- the same record in a list that stands d places further on
-abbrev pub movedPart : ℕ → Part → Part
-movedPart d p = part (d + p .at) (p .len)
-
-unfoldable pub moved : ℕ → Record → Record
-moved d r =
-    record {
-      scheme = movedPart d (r .scheme);
-      value = movedPart d (r .value);
-      timescale = r .timescale;
-      time = r .time;
-      duration = r .duration;
-      id = r .id;
-      message = movedPart d (r .message);
-    }
+-- ==== What only mirrors the code
 
 -- the ten words that a record is kept in
 abbrev pub recordWords : Record → List ℕ
@@ -137,3 +125,21 @@ pub record Listable (s : List ℕ) (base n : ℕ) (out : List ℕ) : Type 0 wher
 pub record ListedAs (rs : Series Record) (n : ℕ) (before : List ℕ) (r : Counted) (after : List ℕ) : Type 0 where
   pub answered : r ≡ plus n (counted rs)
   pub stored : after ≡ sets before (10 * n) (wordsOf (take (16 - n) (rs .items)))
+
+-- ==== What only proofs need
+
+-- the same record in a list that stands d places further on
+abbrev pub movedPart : ℕ → Part → Part
+movedPart d p = part (d + p .at) (p .len)
+
+unfoldable pub moved : ℕ → Record → Record
+moved d r =
+    record {
+      scheme = movedPart d (r .scheme);
+      value = movedPart d (r .value);
+      timescale = r .timescale;
+      time = r .time;
+      duration = r .duration;
+      id = r .id;
+      message = movedPart d (r .message);
+    }

@@ -17,10 +17,12 @@ use Rattle.block.specs.declared.tuples.Taken.{Taken}
 use Rattle.block.specs.declared.tuples.Taken.the-variants.{One, Cut}
 use Rattle.block.specs.Front.{Front, off, cut, Series, taken, wholly}
 
+-- ==== The rules
+
 abbrev pub part : ℕ → ℕ → Part
 part at len = record { at = at; len = len }
 
--- the kind of an id, whether the id is known or not
+-- the kind of an id, whether the id is known or not (D81)
 unfoldable pub kindOf : ℕ → Part → Kind
 kindOf id p =
     cond (eqb (id % 2) 0) (Scalar p)
@@ -50,10 +52,6 @@ bodyF F id p s =
 unfoldable pub tupleF : List Row → ℕ → List ℕ → Taken
 tupleF F at s = onGot (readF F s) (λ id k. bodyF F id (at + k) (drop k s)) Cut
 
--- the tuple from the place at, that ends before the place end
-unfoldable pub tupleAt : List Row → List ℕ → ℕ → ℕ → Taken
-tupleAt F s at end = cond (leb end (length s)) (tupleF F at (slice at end s)) Cut
-
 abbrev pub onTaken : {A : Type 0} → Taken → (Tuple → ℕ → A) → A → A
 onTaken (One t next) f z = f t next
 onTaken Cut f z = z
@@ -68,3 +66,9 @@ tuplesRun F at s = taken (tupleFront F) 0 at s
 -- the tuples that fill s, none where the last is cut
 unfoldable pub tuplesF : List Row → ℕ → List ℕ → Option (List Tuple)
 tuplesF F at s = wholly (tuplesRun F at s)
+
+-- ==== What only mirrors the code
+
+-- the tuple from the place at, that ends before the place end
+unfoldable pub tupleAt : List Row → List ℕ → ℕ → ℕ → Taken
+tupleAt F s at end = cond (leb end (length s)) (tupleF F at (slice at end s)) Cut

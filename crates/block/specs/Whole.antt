@@ -1,4 +1,5 @@
 -- Bytes that are one whole tuple.
+-- ==== What is shown of the rules
 use Prim.Native.Nat.{ℕ}
 use mathlib.Core.Path.{_≡_}
 use mathlib.Core.List.{List}

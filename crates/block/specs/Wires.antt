@@ -1,4 +1,5 @@
 -- A run of numbers as it stands on the wire.
+-- ==== What only proofs need
 use Prim.Native.Nat.{ℕ}
 use mathlib.Core.List.{List, [], _∷_}
 use Rattle.wire.specs.declared.zigzag.Coding.{Coding}

@@ -10,12 +10,24 @@ use Rattle.block.specs.declared.tuples.Tuple.{Tuple}
 use Rattle.block.specs.Tuples.{part, tuple}
 use Rattle.block.specs.Entries.{Entry}
 
+-- ==== The rules
+
 -- what a tuple is to hold
 pub data Item : Type 0 where
   num : ℕ → ℕ → Item
   run : ℕ → List ℕ → Item
 
 module _ (F : List Row) where
+  unfoldable pub encItem : Item → List ℕ
+  encItem (num id v) = encode F id ++ encode F v
+  encItem (run id bs) = encode F id ++ (encode F (length bs) ++ bs)
+
+  unfoldable pub encBlock : List Item → List ℕ
+  encBlock [] = []
+  encBlock (i ∷ is) = encItem i ++ encBlock is
+
+  -- ==== What only proofs need
+
   -- an item that the form can hold: its number or length and its id, which is even for a number and odd for bytes
   abbrev pub Writable : Item → Type 0
   Writable (num id v) = (id % 2 ≡ 0) × (id < limit F) × (v < limit F)
@@ -24,14 +36,6 @@ module _ (F : List Row) where
   abbrev pub AllWritable : List Item → Type 0
   AllWritable [] = Unit {0}
   AllWritable (i ∷ is) = Writable i × AllWritable is
-
-  unfoldable pub encItem : Item → List ℕ
-  encItem (num id v) = encode F id ++ encode F v
-  encItem (run id bs) = encode F id ++ (encode F (length bs) ++ bs)
-
-  unfoldable pub encBlock : List Item → List ℕ
-  encBlock [] = []
-  encBlock (i ∷ is) = encItem i ++ encBlock is
 
   -- numbers that the form can hold, and their bytes
   abbrev pub AllFit : List ℕ → Type 0

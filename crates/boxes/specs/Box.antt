@@ -4,10 +4,7 @@ use mathlib.Core.List.{List, [], _∷_, _++_}
 use lib.ListN.{length}
 use Rattle.laws.specs.Bytes.{be}
 
--- numbers one after another, four bytes each
-unfoldable pub words : List ℕ → List ℕ
-words [] = []
-words (w ∷ ws) = be 4 w ++ words ws
+-- ==== The rules
 
 -- a box: its size, its type, its body
 unfoldable pub box : ℕ → List ℕ → List ℕ
@@ -56,3 +53,10 @@ saio = 0x7361_696f
 
 abbrev pub mdat : ℕ
 mdat = 0x6d64_6174
+
+-- ==== What only mirrors the code
+
+-- numbers one after another, four bytes each
+unfoldable pub words : List ℕ → List ℕ
+words [] = []
+words (w ∷ ws) = be 4 w ++ words ws

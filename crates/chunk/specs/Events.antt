@@ -4,6 +4,8 @@ use mathlib.Core.List.{List, [], _∷_}
 use lib.ListN.{length, getD, take, drop}
 use Rattle.chunk.specs.Front.{Event}
 
+-- ==== The rules
+
 -- some of the object's bytes, from a place on
 abbrev pub part : List ℕ → ℕ → ℕ → List ℕ
 part o place size = take size (drop place o)
@@ -28,6 +30,8 @@ eventsFrom o ws (suc k) i = eventAt o ws i ∷ eventsFrom o ws k (suc i)
 
 abbrev pub eventsOf : List ℕ → List ℕ → ℕ → List Event
 eventsOf o ws k = eventsFrom o ws k 0
+
+-- ==== What only mirrors the code
 
 -- a part lies in the object, and is short enough for lengths to be added up
 pub record Inside (o : List ℕ) (place size : ℕ) : Type 0 where

@@ -1,5 +1,6 @@
 -- The chunk written, up to and with the `mdat` header, from the words of a lawful set. 01: "Same box order, `senc saiz saio` last; `tfdt`
 -- and `trun` version 1; `tfhd` flags 0x020000 plus ids 2, 4, 8; `trun` with data offset, ids 3, 5, 7, 12, and sizes if there are samples."
+-- ==== The rules
 use Prim.Native.Nat.{ℕ, zero, suc, _+_, _-_, _%_, _^_}
 use mathlib.Core.Bool.{false, cond}
 use mathlib.Core.List.{List, [], _∷_, _++_}
@@ -75,6 +76,7 @@ emsgBoxes (e ∷ es) = emsgBox e ++ emsgBoxes es
 unfoldable pub mfhdBox : ℕ → List ℕ
 mfhdBox sequence = fullBox B.mfhd 0 0 (be 4 sequence)
 
+-- 01: "`tfhd` flags 0x020000 plus ids 2, 4, 8" (D122)
 unfoldable pub tfhdFlags : List ℕ → ℕ
 tfhdFlags w = 0x020000 + (flagWhen (has 2 w) 0x2 + (flagWhen (has 4 w) 0x8 + flagWhen (has 8 w) 0x20))
 
@@ -91,7 +93,7 @@ tfdtBox w = fullBox B.tfdt 1 0 (be 8 (getD w bmdtAt 0))
 abbrev pub offsetField : ℕ → ℕ
 offsetField v = (v + 2 ^ 31) % 2 ^ 32
 
--- the columns of the sample with the number i: duration, size, flags and composition offset
+-- the columns of the sample with the number i: duration, size, flags and composition offset (D121)
 unfoldable pub trunRow : List ℕ → ℕ → ℕ → List ℕ
 trunRow w size i =
     when (has 3 w) (be 4 (valueAt 3 i w))
@@ -103,6 +105,7 @@ unfoldable pub trunRows : Track → List ℕ → ℕ → ℕ → ℕ → List �
 trunRows t w payload zero i = []
 trunRows t w payload (suc k) i = trunRow w (sizeOf t w payload i) i ++ trunRows t w payload k (suc i)
 
+-- 01: "`trun` with data offset, ids 3, 5, 7, 12, and sizes if there are samples" (D125)
 unfoldable pub trunFlags : List ℕ → ℕ
 trunFlags w =
     0x1

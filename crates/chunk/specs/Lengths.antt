@@ -1,4 +1,5 @@
 -- The lengths of the boxes of a moof, by arithmetic.
+-- ==== What only mirrors the code
 use Prim.Native.Nat.{ℕ, _+_, _*_}
 use mathlib.Core.List.{List}
 use Rattle.fieldset.specs.Lawful.{has}

@@ -1,4 +1,5 @@
 -- The size of a sample where that of the last one is known: only id 1 tells samples apart.
+-- ==== What only mirrors the code
 use Prim.Native.Nat.{ℕ, _-_}
 use mathlib.Core.Bool.{cond}
 use mathlib.Core.List.{List}

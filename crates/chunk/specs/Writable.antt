@@ -1,4 +1,5 @@
 -- What a front can be written from.
+-- ==== What only mirrors the code
 use Prim.Native.Nat.{ℕ, _-_, _%_, _≤_}
 use mathlib.Core.Path.{_≡_}
 use mathlib.Core.List.{List}

@@ -1,4 +1,5 @@
 -- The command at a place of a list: a letter, the slot, a number and a length of eight bytes each, and as many bytes as the length says.
+-- ==== What only mirrors the code
 use Prim.Native.Nat.{ℕ, _+_, _≤_, _<_}
 use mathlib.Core.Bool.{true, false}
 use mathlib.Core.List.{List}

@@ -1,4 +1,5 @@
 -- Any codec, and ours.
+-- ==== What is shown of the rules
 use Prim.Native.Nat.{ℕ}
 use mathlib.Core.Bool.{Bool}
 use mathlib.Core.List.{List, _++_}

@@ -1,6 +1,7 @@
 -- Demand 1: "Any bytes, any table, any slot number are taken. Every call ends and answers with a number from the rules' table, each given exactly when its rule
 -- says. A refusal writes nothing to the output and leaves the slot as that table states." That every call ends, and takes any input, its contract says: none has a
 -- `requires`. All is said of whole tables: of any words, any number of them, and any slot number.
+-- ==== What is shown of the rules
 use Prim.Native.Nat.{ℕ, _+_, _-_, _≤_, _<_}
 use mathlib.Core.Path.{_≡_}
 use mathlib.Core.Bool.{Bool, true}
@@ -84,7 +85,7 @@ rules a slot t = tableRungs t slot ++ shareRules a (shareAt t slot)
 -- their numbers. 01: "Order: 18 for length, 1, 18 for the share, 2 or 3, 4. Then the encoder: 5, 6, 8, 7, 9, 17. The receiver: 12 (header id), 10, 12 (block
 -- length cut or past the object), 15 (block over its maximum), 11, 12 (tuples, varints, emsg records), 13, 14 (deletions), 15 (sample count), 14 (lengths but 13
 -- and 15), 15 (id 11's values and sum), 14 (lengths of 13 and 15, set), 15 (all other values, ..), 16, 17." The last 15 is two rules here: the values of the set,
--- and all others
+-- and all others (D3)
 abbrev pub order : Call → List ℕ
 order (opens side a) = 18 ∷ 1 ∷ 18 ∷ 3 ∷ 4 ∷ []
 order (closes side) = 18 ∷ 1 ∷ 18 ∷ 2 ∷ []

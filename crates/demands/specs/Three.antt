@@ -2,6 +2,7 @@
 -- splits into whole tuples; make as many such changes as you like. With the same room lent to each call, every call keeps its answer and the head and payload that
 -- demand 2's definition gives, and the whole table at the end is the same."
 -- It is said of any table, and of a fresh one.
+-- ==== What is shown of the rules
 use Prim.Native.Nat.{ℕ, suc}
 use mathlib.Core.Path.{_≡_}
 use mathlib.Core.Bool.{true}

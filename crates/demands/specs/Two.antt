@@ -2,6 +2,7 @@
 -- encoder's object, read with room under the same parameters and reference, gives a head with the same meaning, the same payload bytes, and a reference equal to the
 -- encoder's. Each chunk so rebuilt, encoded again from the starting reference with the same wish, gives the same object."
 -- What the rules define is said by their definitions alone, and the codec is held to it.
+-- ==== What is shown of the rules
 use Prim.Native.Nat.{ℕ, _≤_, _<_}
 use mathlib.Core.Path.{_≡_}
 use mathlib.Core.Bool.{Bool, true, false, cond, _&&_}
@@ -49,7 +50,7 @@ module _ (p : Send) (s : List ℕ) where
   abbrev pub rules : List Rung
   rules = openedRungs Encoder s ++ (acceptRungs F (trackOf s) (p .chunk) ++ ((fitsOk F s (p .chunk) (p .wish) else 9) ∷ []))
 
-  -- "Every chunk that no rule refuses .., given room"
+  -- "Every chunk that no rule refuses .., given room" (D131)
   pub record Sends : Type 0 where
     pub hold : Hold rules
     pub room : length objectFront ≤ length (p .room)
@@ -69,11 +70,11 @@ module _ (p : Send) (s : List ℕ) where
     pub nothing : gave (a .answer) ≡ []
     pub words : a .words ≡ s
 
-  -- 01: "Same meaning: .. but for that number, box choice, and `styp` on a delta". A meaning has neither that number nor a choice of boxes
+  -- 01: "Same meaning: .. but for that number, box choice, and `styp` on a delta". A meaning has neither that number nor a choice of boxes (D133)
   abbrev pub carried : Meaning → Meaning
   carried m = cond isDelta (unbranded m) m
 
-  -- "read with room": room for the front of the chunk, on the share s′ of a receiver
+  -- "read with room": room for the front of the chunk, on the share s′ of a receiver (D131)
   abbrev pub Roomy : List ℕ → List ℕ → Type 0
   Roomy s′ room = length (chunk F object s′) ≤ length room
 
@@ -85,12 +86,12 @@ pub record Beside (s s′ : List ℕ) : Type 0 where
   pub receiver-lawful : lawful Receiver s′ ≡ true
   pub parameters : take acceptedAt s ≡ take acceptedAt s′
 
--- "under the same parameters and reference"
+-- "under the same parameters and reference" (D132)
 pub record Paired (s s′ : List ℕ) : Type 0 where
   pub beside : Beside s s′
   pub reference : drop heldAt s ≡ drop heldAt s′
 
--- without room: 17, nothing is handed out, and the share s′ stays, so that the object can be given again
+-- without room: 17, nothing is handed out, and the share s′ stays, so that the object can be given again (D135)
 pub record Short (s′ : List ℕ) (a : Out Took) : Type 0 where
   pub number : a .answer .number ≡ 17
   pub nothing : gave (a .answer) ≡ []
@@ -123,7 +124,7 @@ module _ (C : Codec) where
     pub part : got p s s′ room .answer .payload ≡ payload (p .chunk)
     -- "and a reference equal to the encoder's."
     pub reference : drop heldAt (got p s s′ room .words) ≡ drop heldAt (sent p s .words)
-    -- "Each chunk so rebuilt, encoded again from the starting reference with the same wish, gives the same object."
+    -- "Each chunk so rebuilt, encoded again from the starting reference with the same wish, gives the same object." (D136)
     pub again : C .encode (p .wish) (gave (got p s s′ room .answer)) (p .room) s .answer ≡ sent p s .answer
 
   -- the object of a chunk given with each room in turn: too short, and nothing changes; or long enough, and then it goes on from the share that the receiver has
@@ -134,7 +135,7 @@ module _ (C : Codec) where
       × ((Roomy p s s′ room → ⊥) → Short s′ (got p s s′ room) × Tried p s (got p s s′ room .words) rooms then lost)
 
   -- any calls, each on the shares that the one before it left. Behind is a receiver that lost an object: it may have taken any calls since, so that its share is any
-  -- lawful one with the same parameters, and no more is said of it up to the next full object or the next start of a group
+  -- lawful one with the same parameters, and no more is said of it up to the next full object or the next start of a group (D134, D135)
   abbrev pub AllMet : Bool → List Call → List ℕ → List ℕ → Type 0
   AllMet behind [] s s′ = Unit {0}
   AllMet behind (start ∷ calls) s s′ = AllMet false calls (grouping Encoder s .words) (grouping Receiver s′ .words)

@@ -15,11 +15,13 @@ use Rattle.track.specs.declared.Track.{Track}
 use Rattle.block.specs.Events.{Event}
 use Rattle.chunk.specs.Front.{Event as Box}
 
--- 01: "Timescale 0 means the track's; the encoder writes 0 exactly for that one."
+-- ==== The rules
+
+-- 01: "Timescale 0 means the track's; the encoder writes 0 exactly for that one." (D43, D59)
 unfoldable pub scaleFor : Track → ℕ → ℕ
 scaleFor t scale = cond (eqb scale (t .timescale)) 0 scale
 
--- 01: "Then the time is a zigzag distance from BMDT in track ticks; otherwise an absolute count on the event's own clock."
+-- 01: "Then the time is a zigzag distance from BMDT in track ticks; otherwise an absolute count on the event's own clock." (D75)
 unfoldable pub clockOf : Track → ℕ → ℕ → EventTime
 clockOf t scale time = cond (eqb scale (t .timescale)) (EventTime.Track (record { 0 = time })) (EventTime.Own (record { 0 = time }))
 
@@ -46,17 +48,13 @@ sent t bmdt e =
 abbrev pub allSent : Track → ℕ → List Box → List Event
 allSent t bmdt es = map (sent t bmdt) es
 
--- the four numbers in the middle of a record
-unfoldable pub encMarks : List Row → Event → List ℕ
-encMarks F e = encode F (e .timescale) ++ (encode F (e .time) ++ (encode F (e .duration) ++ encode F (e .id)))
-
 -- ---- list bytes
 
 -- a length and so many bytes
 unfoldable pub textBytes : List Row → ℕ → ℕ
 textBytes F n = sizeOf F n + n
 
--- 8: "in list bytes a number too wide counts as the longest varint", which `sizeOf` says of it
+-- 8: "in list bytes a number too wide counts as the longest varint", which `sizeOf` says of it (D42)
 unfoldable pub recordBytes : List Row → Event → ℕ
 recordBytes F e =
     textBytes F (length (e .scheme))
@@ -72,6 +70,12 @@ listBytes F (e ∷ es) = recordBytes F e + listBytes F es
 unfoldable pub timesFit : List Row → List Event → Bool
 timesFit F [] = true
 timesFit F (e ∷ es) = ltb (e .time) (limit F) and timesFit F es
+
+-- ==== What only mirrors the code
+
+-- the four numbers in the middle of a record
+unfoldable pub encMarks : List Row → Event → List ℕ
+encMarks F e = encode F (e .timescale) ++ (encode F (e .time) ++ (encode F (e .duration) ++ encode F (e .id)))
 
 -- ---- events as words (`eventAt` of crate `chunk`)
 

@@ -1,4 +1,5 @@
 -- One chunk, by 01's order of answers.
+-- ==== The rules
 use Prim.Native.Nat.{ℕ}
 use mathlib.Core.Bool.{Bool, not}
 use mathlib.Core.List.{List, [], _∷_, _++_}
@@ -15,16 +16,16 @@ use Rattle.exchange.specs.Kept.{keptWords}
 use Rattle.accepted.specs.Accepted.{prft, payload, fields, acceptRungs}
 use Rattle.encoder.specs.Object.{track, givesDelta, fitsOk, front}
 
--- the wish 0 is for a full object, any other for a delta
+-- the wish 0 is for a full object, any other for a delta (D55)
 abbrev pub wished : ℕ → Bool
 wished wish = not (eqb wish 0)
 
--- 01: "every other refusal changes nothing, in the encoder too"
+-- 01: "every other refusal changes nothing, in the encoder too" (D74)
 abbrev pub refusing : List ℕ → List ℕ → ℕ → Out Took
 refusing output s k = out (refused output k) s
 
 module _ (F : List Row) (wish : Bool) (c output s : List ℕ) where
-  -- 01: "9, 17"; 17: "output shorter than the front"
+  -- 01: "9, 17"; 17: "output shorter than the front" (D63, D119)
   unfoldable pub lastRungs : List Rung
   lastRungs = (fitsOk F s c wish else 9) ∷ (leb (length (front F s c wish)) (length output) else 17) ∷ []
 
@@ -36,7 +37,7 @@ module _ (F : List Row) (wish : Bool) (c output s : List ℕ) where
   unfoldable pub encodeRungs : List Rung
   encodeRungs = openedRungs Encoder s ++ chunkRungs
 
-  -- 01: "The reference is the previous accepted chunk's set of moof fields, .. kept with the current full's `prft`."
+  -- 01: "The reference is the previous accepted chunk's set of moof fields, .. kept with the current full's `prft`." (D73)
   unfoldable pub kept : List ℕ
   kept = keptWords (givesDelta F s c wish) (getD s acceptedAt 0) (prft c) (fields (track F s c) c) s
 

@@ -1,4 +1,5 @@
 -- What is to be shown of encoding a chunk.
+-- ==== What is shown of the rules
 use Prim.Native.Nat.{ℕ, _≤_}
 use mathlib.Core.Path.{_≡_}
 use mathlib.Core.Bool.{Bool, true}
@@ -56,7 +57,7 @@ EncodeRefuses = (F : List Row) (wish : Bool) (c output s : List ℕ) → (encodi
 abbrev pub EncodePast : Type 0
 EncodePast = (F : List Row) (wish : Bool) (c output s : List ℕ) → PastStays output (encoding F wish c output s .answer)
 
--- 01: "property block 16,384 bytes": no number is given for it, since no block of a chunk that keeps the other maxima is longer
+-- 01: "property block 16,384 bytes": no number is given for it, since no block of a chunk that keeps the other maxima is longer (D45, D128)
 abbrev pub BlockFits : Type 0
 BlockFits = (form : Form) (wish : Bool) (c output s : List ℕ) → allLe 255 c ≡ true → length s ≡ shareLen
     → encoding (rows form) wish c output s .answer .number ≡ 0

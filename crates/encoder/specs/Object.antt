@@ -1,4 +1,5 @@
 -- The object that a chunk becomes. 01, "Full objects", "Delta objects", "Events".
+-- ==== The rules
 use Prim.Native.Nat.{ℕ, _-_, _^_}
 use mathlib.Core.Bool.{Bool, true, false, cond, not, _&&_, _||_}
 use mathlib.Core.List.{List, [], _∷_, _++_}
@@ -19,7 +20,7 @@ use Rattle.writing.specs.Items.{Items, nothing, _before_, itemsIf, bytesOf}
 use Rattle.writing.specs.Fields.{fieldItems, deletionItems}
 use Rattle.writing.specs.Prft.{timesItems, versionItems, flagsItems}
 
--- 01: "Id 23 from `styp`", in a full object; in a delta "Id 23 never"
+-- 01: "Id 23 from `styp`", in a full object; in a delta "Id 23 never" (D61)
 unfoldable pub brandItems : Bool → List ℕ → Items
 brandItems delta names = itemsIf (not delta && not (eqb (length names) 0)) (some (run 23 names ∷ []))
 
@@ -41,7 +42,7 @@ module _ (F : List Row) (s c : List ℕ) where
   abbrev pub reference : List ℕ
   reference = drop setAt s
 
-  -- 01: "The encoder writes them ascending": ids 1 to 16, 18 and 20, 22, 23, 24, 25, 27
+  -- 01: "The encoder writes them ascending": ids 1 to 16, 18 and 20, 22, 23, 24, 25, 27 (D72)
   unfoldable pub blockItems : Bool → Items
   blockItems delta =
       fieldItems F track delta reference (fields track c)
@@ -59,14 +60,15 @@ module _ (F : List Row) (s c : List ℕ) where
       encode F (headerOf delta) ++ (encode F (length block) ++ block)
 
   -- 01: "A wish for delta gives a delta exactly when a reference is held, a `prft` has one in that full object, and every number in it fits; otherwise a full
-  -- object."
+  -- object." (D62)
   unfoldable pub mayDelta : Bool → Bool
   mayDelta wish = wish && (not (eqb (getD s heldAt 0) 0) && (not (prft c .stands) || not (eqb (getD s prftAt 0) 0)))
 
+  -- any number that is too wide in the delta makes it a full object (D60)
   unfoldable pub givesDelta : Bool → Bool
   givesDelta wish = mayDelta wish and isSome (blockItems true)
 
-  -- 9: "chunk: BMDT past its maximum, whatever the wish; or, where no delta is given, a number too wide in the full object"
+  -- 9: "chunk: BMDT past its maximum, whatever the wish; or, where no delta is given, a number too wide in the full object" (D56, D58)
   unfoldable pub fitsOk : Bool → Bool
   fitsOk wish = leb (bmdt c) (2 ^ 62 - 1) and (givesDelta wish || isSome (blockItems false))
 

@@ -1,4 +1,5 @@
 -- What the code works out before it writes.
+-- ==== What only mirrors the code
 use Prim.Native.Nat.{ℕ, _≤_}
 use mathlib.Core.Path.{_≡_}
 use mathlib.Core.Bool.{Bool, true}

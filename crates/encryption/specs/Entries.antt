@@ -1,4 +1,5 @@
 -- `senc` as it is read.
+-- ==== The rules
 use Prim.Native.Nat.{ℕ, zero, suc, _+_, _*_}
 use mathlib.Core.Bool.{Bool, true, false, cond, _||_}
 use mathlib.Core.List.{List}
@@ -16,7 +17,7 @@ use Rattle.encryption.specs.declared.entries.Filled.the-variants.{With, 
 
 -- ---- an entry
 
--- 01: "IV size plus, with subsamples, 2 + 6 x count". "With subsamples" is flag 2. The parameter's IV size cuts the entries, whatever the track.
+-- 01: "IV size plus, with subsamples, 2 + 6 x count". "With subsamples" is flag 2. The parameter's IV size cuts the entries, whatever the track (D25, D30, D52).
 unfoldable pub entriesOf : Track → List ℕ → Part → Entries
 entriesOf t c b = record { map = eqb (u32 c (b .at + 8)) 2; count = u32 c (b .at + 12); iv = t .«iv_size»; at = b .at + 16 }
 
@@ -62,7 +63,7 @@ abbrev pub isWith : Filled → Bool
 isWith (With n) = true
 isWith Wrong = false
 
--- 01: "own version and flags .., box lengths .. are 6"; a box of no bytes doesn't stand
+-- 01: "own version and flags .., box lengths .. are 6"; a box of no bytes doesn't stand (D25)
 unfoldable pub sencOk : Track → List ℕ → Part → Bool
 sencOk t c b = cond (ltb (b .len) 16) (eqb (b .len) 0) (isWith (sencFilled t c b))
 

@@ -1,4 +1,5 @@
 -- The words of the reference that is kept in a share.
+-- ==== The rules
 use Prim.Native.Nat.{ℕ}
 use mathlib.Core.Bool.{Bool, cond}
 use mathlib.Core.List.{List, [], _∷_, _++_}
@@ -12,7 +13,7 @@ unfoldable pub prftWords : Prft → List ℕ
 prftWords p = cond (p .stands) 1 0 ∷ p .ntp .0 ∷ p .media .0 ∷ p .version ∷ p .flags ∷ []
 
 -- the share s after an accepted object: the count, the reference, and with a full object its `prft`. 01: "The reference is the previous
--- accepted chunk's set of moof fields, .. kept with the current full's `prft`."
+-- accepted chunk's set of moof fields, .. kept with the current full's `prft`." (D73, D87)
 unfoldable pub keptWords : Bool → ℕ → Prft → List ℕ → List ℕ → List ℕ
 keptWords delta sequence prft newSet s =
     take acceptedAt s ++ (sequence ∷ 1 ∷ (cond delta (slice prftAt setAt s) (prftWords prft) ++ newSet))

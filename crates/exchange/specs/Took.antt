@@ -4,6 +4,8 @@ use mathlib.Core.Path.{_≡_}
 use mathlib.Core.List.{List, []}
 use lib.ListN.{length, drop}
 
+-- ==== The rules
+
 -- what a call hands back beside the table: the number, the front's length, the payload, and the output
 pub record Took : Type 0 where
   pub number : ℕ
@@ -17,6 +19,8 @@ took number front payload output = record { number = number; front = front; payl
 -- 01: "All but 0 write nothing to the output and hand back length 0 and an empty payload part"
 abbrev pub refused : List ℕ → ℕ → Took
 refused output k = took k 0 [] output
+
+-- ==== What is shown of the rules
 
 -- 01: "Done reports the front's length; bytes past it stay."
 pub record PastStays (output : List ℕ) (a : Took) : Type 0 where

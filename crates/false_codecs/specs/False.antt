@@ -1,5 +1,6 @@
 -- Five false codecs. 01: "a codec that refuses everything, one that returns one fixed object, one that does nothing, one that decodes the group's first object and
 -- repeats it, one that reports an invented length". Where it can be, each is right in all else.
+-- ==== What is shown of the rules
 use Prim.Native.Nat.{ℕ, suc}
 use mathlib.Core.Bool.{cond}
 use mathlib.Core.List.{List, []}

@@ -30,6 +30,8 @@ use Rattle.fields.specs.declared.said.Word.the-variants.{Omitted, Delete
 use Rattle.fields.specs.declared.cells.Cell.{Cell}
 use Rattle.fields.specs.Said.{Saying, omitted, deleted, sent, numbers}
 
+-- ==== The rules
+
 abbrev pub Held : Type 0
 Held = Option (List ℕ)
 
@@ -109,12 +111,12 @@ filledAs Outside vs = beyond
 abbrev pub stood : Bool → List ℕ → Line → Bool
 stood held r l = held && not (eqb (getD r (l .place) 0) 0)
 
--- its values there, by the length that they had
+-- its values there, by the length that they had (D90)
 unfoldable pub oldValues : Bool → List ℕ → Measure → Line → List ℕ
 oldValues held r was l = cond (stood held r l) (slice (l .place + 1) (l .place + 1 + wanted (l .want) was) r) []
 
 -- 01: "An omitted list is carried only if its required length is unchanged, else 14." "Id 9, where the track is cenc and there are samples,
--- always stands in the object; else 14."
+-- always stands in the object; else 14." (D92, D102)
 unfoldable pub carried : Want → ℕ → ℕ → List ℕ → Came
 carried want j k olds = cond (isIvs want) (came missing none) (cond (eqb j k) (well (some olds)) (misfit want))
 
@@ -146,6 +148,8 @@ module _ (t : Track) (coding : Coding) (held : Bool) (r : List ℕ) (was : Measu
       cond (eqb (l .room) 1)
       (sentOne coded (first base olds) (l .bound) (first 0 zs))
       (sentList coded base (l .bound) (l .want) (wanted (l .want) m) olds zs)
+
+-- ==== What only mirrors the code
 
 -- the words of a field: its mark and its values
 abbrev pub wordsOf : Held → List ℕ

@@ -13,6 +13,8 @@ use Rattle.fields.specs.declared.said.Span.{Span}
 use Rattle.fields.specs.declared.said.Word.{Word}
 use Rattle.fields.specs.declared.said.Word.the-variants.{Omitted, Deleted, Sent}
 
+-- ==== The rules
+
 -- the numbers that stand for an id, or that it has no tuple
 abbrev pub Says : Type 0
 Says = ℕ → Option (List ℕ)
@@ -42,6 +44,8 @@ saying none b = unsent b
 -- 01: "a vanished one is listed in id 27"
 unfoldable pub sayingOf : Says → ℕ → Saying
 sayingOf says id = saying (says id) (among id (numbers (says 27)))
+
+-- ==== What only mirrors the code
 
 abbrev pub span : ℕ → ℕ → ℕ → Span
 span at number count = record { at = at; number = number; count = count }

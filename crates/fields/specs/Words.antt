@@ -12,6 +12,8 @@ use Rattle.fieldset.specs.Lines.{lines}
 use Rattle.fieldset.specs.Lawful.{measureOf}
 use Rattle.fields.specs.Cells.{Held, wordsOf}
 
+-- ==== The rules
+
 -- a field's region: its mark, its values, and zeros up to its room
 unfoldable pub regionOf : Line → Held → List ℕ
 regionOf l none = replicate (1 + l .room) 0
@@ -25,6 +27,18 @@ regionsOf f (l ∷ ls) = regionOf l (f l) ++ regionsOf f ls
 unfoldable pub setWords : ℕ → ℕ → (Line → Held) → List ℕ
 setWords bmdt n f = bmdt ∷ n ∷ regionsOf f lines
 
+-- ---- the lengths that the fields go by
+
+-- IVs go by the parameter's size, whatever id 16 says (D93)
+abbrev pub measure : Track → ℕ → ℕ → Measure
+measure t n k = record { count = n; ivs = t .«iv_size» / 8; sum = k }
+
+-- what an object is read and written against: a delta against the reference, a full object against nothing
+abbrev pub wasOf : Track → Bool → List ℕ → Measure
+wasOf t delta r = cond delta (measureOf t r) (record { count = 0; ivs = 0; sum = 0 })
+
+-- ==== What only mirrors the code
+
 -- no field stands
 abbrev pub noFields : Line → Held
 noFields l = none
@@ -33,12 +47,3 @@ noFields l = none
 unfoldable pub storeAll : (Line → Held) → List Line → List ℕ → List ℕ
 storeAll f [] x = x
 storeAll f (l ∷ ls) x = storeAll f ls (sets x (l .place) (wordsOf (f l)))
-
--- ---- the lengths that the fields go by
-
-abbrev pub measure : Track → ℕ → ℕ → Measure
-measure t n k = record { count = n; ivs = t .«iv_size» / 8; sum = k }
-
--- what an object is read and written against: a delta against the reference, a full object against nothing
-abbrev pub wasOf : Track → Bool → List ℕ → Measure
-wasOf t delta r = cond delta (measureOf t r) (record { count = 0; ivs = 0; sum = 0 })

@@ -14,6 +14,8 @@ use Rattle.fieldset.specs.declared.lines.Measure.{Measure}
 use Rattle.fieldset.specs.declared.lawful.Tally.{Tally}
 use Rattle.fieldset.specs.Lines.{lines, placeOf, lineFor, lineNumber, wanted, bmdtAt, countAt}
 
+-- ==== The rules
+
 -- the field of an id stands
 unfoldable pub has : ℕ → List ℕ → Bool
 has id w = not (eqb (getD w (lineFor id lines .place) 0) 0)
@@ -42,7 +44,7 @@ module _ (m : Measure) where
   regionsOk [] w = true
   regionsOk (l ∷ ls) w = regionOk l w and regionsOk ls w
 
--- 01: "`saiz` gives IV size plus, with subsamples, 2 + 6 x count, at most 255"
+-- 01: "`saiz` .. gives IV size plus, with subsamples, 2 + 6 x count, at most 255"
 unfoldable pub saizOk : ℕ → List ℕ → Bool
 saizOk iv [] = true
 saizOk iv (c ∷ cs) = leb (iv + (2 + 6 * c)) 255 and saizOk iv cs
@@ -52,7 +54,7 @@ unfoldable pub marksOf : List ℕ → List ℕ
 marksOf w = map (λ l. getD w (l .place) 0) lines
 
 -- 01: "Resulting set, full or delta: with no samples no lists, 9 or 12; with one, neither 1 nor 6; never 1 with 6 or 7 with 12; 11, 13 and
--- 15 together, only on protected tracks; 9 exactly on cenc with samples; with several and neither 1 nor 6, trex size not 0."
+-- 15 together, only on protected tracks; 9 exactly on cenc with samples; with several and neither 1 nor 6, trex size not 0." (D97, D99, D100, D101, D106)
 unfoldable pub setRules : Track → ℕ → List ℕ → Bool
 setRules t n marks =
     (not (eqb n 0) || not (lists || (at 9 || at 12)))
@@ -71,14 +73,14 @@ setRules t n marks =
     lists : Bool
     lists = at 1 || (at 3 || (at 5 || (at 7 || (at 11 || (at 13 || at 15)))))
 
--- 01: "Id 16 if the IV size differs from the parameter; the receiver refuses a differing one, 15."
+-- 01: "Id 16 if the IV size differs from the parameter; the receiver refuses a differing one, 15." (D94)
 unfoldable pub sameIvSize : Track → List ℕ → Bool
 sameIvSize t w = not (has 16 w) || eqb (getD w (lineFor 16 lines .place + 1) 0) (t .«iv_size»)
 
 abbrev pub measureOf : Track → List ℕ → Measure
 measureOf t w = record { count = getD w countAt 0; ivs = t .«iv_size» / 8; sum = sum (valuesOf 11 (getD w countAt 0) w) }
 
--- 01: "Maxima: 64 samples and 256 subsamples a chunk", "BMDT, and any number on the wire, 2^62-1."
+-- 01: "Maxima: 64 samples and 256 subsamples a chunk", "BMDT, and any number on the wire, 2^62-1." (D9, D10)
 unfoldable pub lawful : Track → List ℕ → Bool
 lawful t w =
     let n = getD w countAt 0 in
@@ -89,6 +91,8 @@ lawful t w =
     and regionsOk (measureOf t w) lines w
     and setRules t n (marksOf w)
     and sameIvSize t w
+
+-- ==== What only mirrors the code
 
 -- what a tally says of a list of words, of which there are at most 64
 pub record TallyOf (r : Tally) (most : ℕ) (s : List ℕ) : Type 0 where

@@ -16,6 +16,8 @@ use Rattle.fieldset.specs.declared.lines.Absent.the-variants.{Zero, Midd
 use Rattle.fieldset.specs.declared.lines.Line.{Line}
 use Rattle.fieldset.specs.declared.lines.Measure.{Measure}
 
+-- ==== The rules
+
 abbrev pub lineOf : ℕ → ℕ → ℕ → Want → ℕ → Absent → Line
 lineOf id place room want bound absent =
     record { id = id; place = place; room = room; want = want; bound = bound; absent = absent }
@@ -34,7 +36,7 @@ u64 = 0xffff_ffff_ffff_ffff
 
 -- Place, room, length, bound and absent value of each id. 01: "64 samples and 256 subsamples a chunk"; "Required: id 1, count less one; 3, 5,
 -- 7, 11, the count; 13, 15, the sum of 11."; "A value's range is that of its box field, after deltas; flags end at 31"; "if absent then, ids
--- 2, 4, 6, 8 count as trex, 12 as 0 and 16 as the parameter. List elements count as 0 where the reference has none."
+-- 2, 4, 6, 8 count as trex, 12 as 0 and 16 as the parameter. List elements count as 0 where the reference has none." (D49, D110)
 unfoldable pub lines : List Line
 lines =
     lineOf 1 2 63 LessOne u32 Zero
@@ -60,10 +62,6 @@ spare = lineOf 0 0 0 One 0 Zero
 -- the words of a set
 abbrev pub setLen : ℕ
 setLen = 981
-
--- where the region of the line with the number i begins, and past the last line where the words end
-unfoldable pub placeOf : ℕ → ℕ
-placeOf i = getD (map (λ l. l .place) lines) i setLen
 
 -- where BMDT and the sample count stand
 abbrev pub bmdtAt : ℕ
@@ -95,12 +93,6 @@ wanted Count m = m .count
 wanted Ivs m = m .count * m .ivs
 wanted Sum m = m .sum
 
--- numbers that no product or sum of them passes 64 bits
-pub record Small (m : Measure) : Type 0 where
-  pub count : m .count ≤ 64
-  pub ivs : m .ivs ≤ 2
-  pub sum : m .sum ≤ 65536
-
 -- what an absent value counts as: 01: "if absent then, ids 2, 4, 6, 8 count as trex, 12 as 0 and 16 as the parameter"
 unfoldable pub absentValue : Track → Absent → ℕ
 absentValue t Zero = 0
@@ -110,3 +102,15 @@ absentValue t Duration = t .duration
 absentValue t Size = t .size
 absentValue t Flags = t .flags
 absentValue t IvSize = t .«iv_size»
+
+-- ==== What only mirrors the code
+
+-- where the region of the line with the number i begins, and past the last line where the words end
+unfoldable pub placeOf : ℕ → ℕ
+placeOf i = getD (map (λ l. l .place) lines) i setLen
+
+-- numbers that no product or sum of them passes 64 bits
+pub record Small (m : Measure) : Type 0 where
+  pub count : m .count ≤ 64
+  pub ivs : m .ivs ≤ 2
+  pub sum : m .sum ≤ 65536

@@ -11,11 +11,13 @@ use Rattle.fragment.specs.Words.{wordOf, bitOf}
 use Rattle.tree.specs.Numbers.{u32}
 use Rattle.fragment.specs.declared.defaults.Defaults.{Defaults}
 
+-- ==== The rules
+
 -- how many fields a word's flags bring, one each: 0x2 the description index, 0x8 the duration, 0x10 the size, 0x20 the sample flags
 unfoldable pub fieldsIn : ℕ → ℕ
 fieldsIn word = bitOf word 0x2 + (bitOf word 0x8 + (bitOf word 0x10 + bitOf word 0x20))
 
--- 01: "flag 0x020000 set, otherwise only 0x2, 0x8, 0x10, 0x20"; "Versions and flags not named are 0."
+-- 01: "flag 0x020000 set, otherwise only 0x2, 0x8, 0x10, 0x20"; "Versions and flags not named are 0." (D41)
 unfoldable pub tfhdFlagsOk : ℕ → Bool
 tfhdFlagsOk word =
     eqb word (0x2_0000 + (0x2 * bitOf word 0x2 + (0x8 * bitOf word 0x8 + (0x10 * bitOf word 0x10 + 0x20 * bitOf word 0x20))))
@@ -23,10 +25,6 @@ tfhdFlagsOk word =
 -- head, word and track_ID are 16 bytes, and each field is four
 unfoldable pub tfhdOk : List ℕ → Part → Bool
 tfhdOk c b = tfhdFlagsOk (wordOf c b) and eqb (b .len) (16 + 4 * fieldsIn (wordOf c b))
-
--- one of the four flags
-unfoldable pub isField : ℕ → Bool
-isField flag = eqb flag 0x2 || (eqb flag 0x8 || (eqb flag 0x10 || eqb flag 0x20))
 
 -- the field of a flag, or another value where the flag isn't set. The fields stand in the order of their flags: before it are those of the
 -- flags below.
@@ -45,6 +43,12 @@ defaultsOf t c b =
       size = fieldOf c b 0x10 (t .size);
       flags = fieldOf c b 0x20 (wideOf (t .flags));
     }
+
+-- ==== What only mirrors the code
+
+-- one of the four flags
+unfoldable pub isField : ℕ → Bool
+isField flag = eqb flag 0x2 || (eqb flag 0x8 || (eqb flag 0x10 || eqb flag 0x20))
 
 -- each has 32 bits
 pub record Narrow (d : Defaults) : Type 0 where

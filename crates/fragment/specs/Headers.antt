@@ -1,4 +1,5 @@
 -- `mfhd` and `tfdt`.
+-- ==== The rules
 use Prim.Native.Nat.{ℕ, _+_}
 use mathlib.Core.Bool.{Bool, cond, _||_}
 use mathlib.Core.List.{List}
@@ -8,7 +9,7 @@ use Rattle.shape.specs.declared.parts.Part.{Part}
 use Rattle.fragment.specs.Words.{wordOf}
 use Rattle.tree.specs.Numbers.{u32, u64}
 
--- 01: "Versions and flags not named are 0." The sequence number may be any.
+-- 01: "Versions and flags not named are 0." The sequence number may be any (D40).
 unfoldable pub mfhdOk : List ℕ → Part → Bool
 mfhdOk c b = eqb (b .len) 16 and eqb (wordOf c b) 0
 

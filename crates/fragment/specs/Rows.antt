@@ -11,6 +11,8 @@ use Rattle.fragment.specs.Words.{wordOf, bitOf}
 use Rattle.tree.specs.Numbers.{u32}
 use Rattle.fragment.specs.declared.rows.Run.{Run}
 
+-- ==== The rules
+
 -- the flags of the columns, and of the first sample's own flags
 abbrev pub durations : ℕ
 durations = 0x100
@@ -32,7 +34,7 @@ unfoldable pub columnsIn : ℕ → ℕ
 columnsIn word = bitOf word durations + (bitOf word sizes + (bitOf word sampleFlags + bitOf word offsets))
 
 -- 01: "`trun` (flags within 0xF05): data offset present ..; not both first-sample and per-sample flags." The data offset's flag is 0x1.
--- The version: "`trun` (0 or 1)"
+-- The version: "`trun` (0 or 1)" (D26, D28)
 unfoldable pub runFlagsOk : ℕ → Bool
 runFlagsOk word =
     leb (word / 0x100_0000) 1
@@ -53,7 +55,7 @@ runWidth word = 4 * columnsIn word
 abbrev pub countOf : List ℕ → Part → ℕ
 countOf c b = u32 c (b .at + 12)
 
--- the length is what flags and count say
+-- the length is what flags and count say (D22)
 unfoldable pub trunOk : List ℕ → Part → Bool
 trunOk c b = runFlagsOk (wordOf c b) and eqb (b .len) (runHead (wordOf c b) + runWidth (wordOf c b) * countOf c b)
 
@@ -66,11 +68,6 @@ runOf c b =
       width = runWidth (wordOf c b);
     }
 
--- the rows of a run lie in the chunk
-pub record RowsIn (c : List ℕ) (r : Run) : Type 0 where
-  pub wide : r .width ≡ runWidth (r .word)
-  pub within : r .rows + r .width * r .count ≤ length c
-
 -- the offset of the payload from the start of the `moof`, as 32 bits
 abbrev pub dataOffset : List ℕ → Part → ℕ
 dataOffset c b = u32 c (b .at + 16)
@@ -78,10 +75,6 @@ dataOffset c b = u32 c (b .at + 16)
 -- the first sample's flags; none set where they don't stand
 unfoldable pub firstFlags : List ℕ → Part → ℕ
 firstFlags c b = cond (eqb (bitOf (wordOf c b) first) 0) 0 (u32 c (b .at + 20))
-
--- one of the four columns
-unfoldable pub isColumn : ℕ → Bool
-isColumn column = eqb column durations || (eqb column sizes || (eqb column sampleFlags || eqb column offsets))
 
 unfoldable pub hasColumn : Run → ℕ → Bool
 hasColumn r column = eqb (bitOf (r .word) column) 1
@@ -91,6 +84,17 @@ hasColumn r column = eqb (bitOf (r .word) column) 1
 unfoldable pub cell : List ℕ → Run → ℕ → ℕ → ℕ
 cell c r column i = u32 c (r .rows + r .width * i + 4 * columnsIn (r .word % column))
 
--- the size of a sample: of the column, or the default where there is none
+-- the size of a sample: of the column, or the default where there is none (D50)
 unfoldable pub sizeAt : List ℕ → Run → ℕ → ℕ → ℕ
 sizeAt c r default i = cond (hasColumn r sizes) (cell c r sizes i) default
+
+-- ==== What only mirrors the code
+
+-- the rows of a run lie in the chunk
+pub record RowsIn (c : List ℕ) (r : Run) : Type 0 where
+  pub wide : r .width ≡ runWidth (r .word)
+  pub within : r .rows + r .width * r .count ≤ length c
+
+-- one of the four columns
+unfoldable pub isColumn : ℕ → Bool
+isColumn column = eqb column durations || (eqb column sizes || (eqb column sampleFlags || eqb column offsets))

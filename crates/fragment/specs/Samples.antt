@@ -1,4 +1,5 @@
 -- What each sample of a run has, in the order of the samples.
+-- ==== The rules
 use Prim.Native.Nat.{ℕ, zero, suc}
 use mathlib.Core.Bool.{cond}
 use mathlib.Core.List.{List, [], _∷_}

@@ -1,4 +1,5 @@
 -- Numbers of a box in the chunk c, and its version and flags as one word.
+-- ==== The rules
 use Prim.Native.Nat.{ℕ, _+_, _/_, _%_}
 use mathlib.Core.List.{List}
 use Rattle.tree.specs.Numbers.{u32}

@@ -1,4 +1,5 @@
 -- What the entries of a `senc` say, one after another: k of them from a place on. 01: "Ids 9, 11, 13, 15 as `senc` has them."
+-- ==== The rules
 use Prim.Native.Nat.{ℕ, zero, suc, _+_, _*_, _/_}
 use mathlib.Core.List.{List, [], _∷_, _++_}
 use Rattle.tree.specs.Numbers.{u16, u32, u64}

@@ -1,4 +1,5 @@
 -- What a set is gathered from.
+-- ==== What only mirrors the code
 use Prim.Native.Nat.{ℕ, _≤_, _<_}
 use mathlib.Core.Path.{_≡_}
 use mathlib.Core.Bool.{true}

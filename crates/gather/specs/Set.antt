@@ -1,4 +1,5 @@
 -- The set of moof fields of a chunk: which ids stand, and their values. 01, "Full objects".
+-- ==== The rules
 use Prim.Native.Nat.{ℕ, _+_, _-_, _%_}
 use mathlib.Core.Bool.{Bool, true, cond, not, _&&_}
 use mathlib.Core.List.{List, [], _∷_, map}
@@ -68,7 +69,7 @@ module _ (t : Track) (c : List ℕ) (f : Inner) where
 
   -- 01: "Id 2, 4, 8: `tfhd` has it and it differs from trex. Id 3, 5, 7, 12: `trun` has it. Samples above 1: sizes unequal, id 1 with all but the last;
   -- equal, id 6, unless trex is that size and not 0 .. Ids 9, 11, 13, 15 as `senc` has them. Id 16 if the IV size differs from the parameter", which cuts
-  -- the entries, so that it doesn't.
+  -- the entries, so that it doesn't (D51, D69, D70, D71).
   unfoldable pub heldFor : ℕ → Held
   heldFor id =
       cond (eqb id 1) (heldIf (several && not equal) (take (run .count - 1) sizes))

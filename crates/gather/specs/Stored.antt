@@ -1,4 +1,5 @@
 -- What the code does with the entries of a `senc`: the words x with what they say stored at its place, one entry after another.
+-- ==== What only mirrors the code
 use Prim.Native.Nat.{ℕ, zero, suc, _+_, _*_, _/_}
 use mathlib.Core.Bool.{cond}
 use mathlib.Core.List.{List, [], _∷_}

@@ -1,4 +1,5 @@
 -- How a column's value stands in the set.
+-- ==== What only mirrors the code
 use Prim.Native.Nat.{ℕ}
 use Rattle.media.specs.Flags.{fiveOf}
 use Rattle.gather.specs.declared.cells.Way.{Way}

@@ -24,9 +24,13 @@ use Rattle.object.specs.Prft.{mediaMost}
 use Rattle.object.specs.Sums.{sizesOk, protectedOk}
 use Rattle.accepted.specs.Accepted.{bmdt, prft, brands, boxes, payload, fields, acceptRungs}
 
+-- ==== The rules
+
 -- the form of numbers on the wire
 abbrev pub F : List Row
 F = rows Rfc9000
+
+-- ==== What only proofs need
 
 -- a `prft` as its box has it; nothing is stored of one that doesn't stand
 pub record BoxedPrft (p : Prft) : Type 0 where

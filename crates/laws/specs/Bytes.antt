@@ -3,6 +3,8 @@ use Prim.Native.Nat.{ℕ, zero, suc, _+_, _*_, _/_, _%_, _^_, _<_}
 use mathlib.Core.List.{List, [], _∷_}
 use lib.ListN.{length}
 
+-- ==== The rules
+
 -- the k low bytes of v, the highest first
 unfoldable pub be : ℕ → ℕ → List ℕ
 be zero v = []
@@ -12,6 +14,8 @@ be (suc k) v = (v / 256 ^ k % 256) ∷ be k v
 unfoldable pub de : List ℕ → ℕ
 de [] = 0
 de (b ∷ bs) = b * 256 ^ length bs + de bs
+
+-- ==== What only proofs need
 
 -- every number of the list is a byte
 abbrev pub Bytes : List ℕ → Type 0

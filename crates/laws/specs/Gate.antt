@@ -1,4 +1,5 @@
 -- A row of refusals, read from top to bottom: `gate test refusal rest`.
+-- ==== The rules
 use mathlib.Core.Bool.{Bool, cond}
 
 -- the rest where the test passes, else the refusal

@@ -6,6 +6,8 @@ use mathlib.Core.Logic.{_⊎_}
 use mathlib.Core.List.{List, [], _∷_}
 use Rattle.laws.specs.Gate.{gate}
 
+-- ==== The rules
+
 pub record Rung : Type 0 where
   pub test : Bool
   pub number : ℕ
@@ -19,6 +21,8 @@ module _ {A : Type 0} where
   unfoldable pub ladder : List Rung → (ℕ → A) → A → A
   ladder [] refuse done = done
   ladder (r ∷ rs) refuse done = gate (r .test) (refuse (r .number)) (ladder rs refuse done)
+
+-- ==== What is shown of the rules
 
 -- the number k is given exactly so: a rung of that number is broken and none before it; or no rung is broken and k is 0
 abbrev pub Given : ℕ → List Rung → Type 0

@@ -5,6 +5,8 @@ use mathlib.Core.List.{List, [], _∷_}
 use lib.Dec.{eqb, leb}
 use lib.Bits.{bitOr}
 
+-- ==== The rules
+
 -- both tests hold: a conjunction that stays shut, so that a law can take a long row of tests apart
 infixr 40 _and_
 unfoldable pub _and_ : Bool → Bool → Bool
@@ -26,11 +28,13 @@ unfoldable pub allLe : ℕ → List ℕ → Bool
 allLe bound [] = true
 allLe bound (x ∷ xs) = leb x bound and allLe bound xs
 
+unfoldable pub sum : List ℕ → ℕ
+sum [] = 0
+sum (x ∷ xs) = x + sum xs
+
+-- ==== What only mirrors the code
+
 -- the bits that are set in one number or another
 unfoldable pub allBits : List ℕ → ℕ
 allBits [] = 0
 allBits (x ∷ xs) = bitOr x (allBits xs)
-
-unfoldable pub sum : List ℕ → ℕ
-sum [] = 0
-sum (x ∷ xs) = x + sum xs

@@ -1,4 +1,5 @@
 -- Going through a list in steps of several elements with a state, as through a run of varints, of tuples or of records.
+-- ==== What only proofs need
 use Prim.Native.Nat.{ℕ, zero, suc}
 use mathlib.Core.List.{List, [], _∷_}
 

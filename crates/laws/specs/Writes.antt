@@ -1,4 +1,5 @@
 -- What it is to have written some numbers at a place of a list.
+-- ==== What only mirrors the code
 use Prim.Native.Nat.{ℕ, _+_, _≤_}
 use mathlib.Core.Path.{_≡_}
 use mathlib.Core.List.{List, _++_}

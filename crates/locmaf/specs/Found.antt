@@ -1,5 +1,6 @@
 -- What C finds by what it is told, in the words of include/locmaf.h: "the answer is the length of the payload: the last so many bytes of the chunk", or of the object;
 -- "Otherwise *front and the answer are 0."
+-- ==== What is shown of the rules
 use Prim.Native.Nat.{ℕ, _-_}
 use mathlib.Core.Path.{_≡_}
 use mathlib.Core.Bool.{Bool}

@@ -1,4 +1,5 @@
 -- What a call hands to C: of the payload its length alone.
+-- ==== The rules
 use Prim.Native.Nat.{ℕ}
 use mathlib.Core.List.{List}
 use lib.ListN.{length}

@@ -1,5 +1,6 @@
 -- The meaning of a chunk: what its boxes say by their own rules (ISO/IEC 14496-12, 23001-7, 23009-1), not by way of the set of moof fields. 01: "Same meaning: equal
 -- effective values, events and payload, but for that number, box choice, and `styp` on a delta."
+-- ==== The rules
 use Prim.Native.Nat.{ℕ, zero, suc, _+_, _/_}
 use mathlib.Core.Bool.{cond, _&&_}
 use mathlib.Core.List.{List, [], _∷_}
@@ -144,6 +145,7 @@ stypOf c b = cond (eqb (b .len) 0) none (some (slice (bodyOf b .at) (endOf (body
 
 -- ---- the chunk
 
+-- all of it: neither the number of the `mfhd` nor the choice of boxes is in it (D133)
 unfoldable pub meaningOf : Track → List ℕ → Meaning
 meaningOf t c =
     let top = topOf c in

@@ -1,5 +1,6 @@
 -- The meaning of a chunk by what an object says of it: its set, `prft`, events, brands and payload. That this is the meaning of every chunk that no rule
 -- refuses is a theorem.
+-- ==== What only proofs need
 use Prim.Native.Nat.{ℕ, zero, suc, _+_, _*_, _/_}
 use mathlib.Core.Path.{_≡_}
 use mathlib.Core.Bool.{true, cond, _&&_, _||_}

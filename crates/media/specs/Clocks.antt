@@ -9,6 +9,8 @@ use Rattle.media.specs.declared.clocks.TrackTime.{TrackTime}
 use Rattle.media.specs.declared.clocks.NtpUnits.{NtpUnits}
 use Rattle.media.specs.declared.clocks.NtpTime.{NtpTime}
 
+-- ==== The rules
+
 -- ---- the track's clock
 
 -- a count that was reached, as a time
@@ -34,6 +36,8 @@ asNtp Outside = NtpTime.Outside
 abbrev pub onNtp : {A : Type 0} → NtpTime → (NtpUnits → A) → A → A
 onNtp (NtpTime.At units) f z = f units
 onNtp NtpTime.Outside f z = z
+
+-- ==== What only mirrors the code
 
 -- 01: "`prft` in a delta: both 18 and 20, zigzag, against the group's current full object"; the box field has 64 bits
 unfoldable pub ntpAt : Coding → ℕ → ℕ → NtpTime

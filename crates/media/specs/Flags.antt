@@ -1,4 +1,5 @@
 -- Sample flags (ISO/IEC 14496-12, 8.8.3.1) as a number of 32 bits, and their five-bit form.
+-- ==== The rules
 use Prim.Native.Nat.{ℕ, _+_, _*_, _/_, _%_, _^_}
 use mathlib.Core.Bool.{Bool}
 use lib.Dec.{eqb}

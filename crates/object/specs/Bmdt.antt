@@ -12,7 +12,9 @@ use Rattle.fieldset.specs.Lawful.{has, valuesOf}
 use Rattle.chunk.specs.Front.{valueAt, countIn}
 use Rattle.object.specs.Sums.{Bounded}
 
--- the sum of the effective durations of a set: each sample's own, or one for all, or trex's
+-- ==== The rules
+
+-- the sum of the effective durations of a set: each sample's own, or one for all, or trex's (D68)
 unfoldable pub durationsOf : Track → List ℕ → ℕ
 durationsOf t r =
     cond (has 3 r) (sum (valuesOf 3 (countIn r) r))
@@ -23,6 +25,8 @@ unfoldable pub bmdtOf : Track → Option (List ℕ) → List ℕ → ℕ
 bmdtOf t none r = getD r bmdtAt 0 + durationsOf t r
 bmdtOf t (some []) r = getD r bmdtAt 0 + durationsOf t r
 bmdtOf t (some (z ∷ zs)) r = z
+
+-- ==== What only mirrors the code
 
 -- what keeps a time that follows from r within 64 bits
 pub record Timed (r : List ℕ) : Type 0 where

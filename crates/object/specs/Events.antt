@@ -17,9 +17,13 @@ use Rattle.media.specs.declared.clocks.TrackTime.{TrackTime}
 use Rattle.media.specs.Clocks.{onTrack, trackAt}
 use Rattle.chunk.specs.Events.{part, EventsFit}
 
+-- ==== The rules
+
 -- the time at a distance from BMDT; the box field has 64 bits
 abbrev pub fromBmdt : ℕ → ℕ → TrackTime
 fromBmdt bmdt z = trackAt Delta bmdt (2 ^ 64 - 1) z
+
+-- ==== What only mirrors the code
 
 -- 01: "Timescale 0 means the track's .. Then the time is a zigzag distance from BMDT in track ticks; otherwise an absolute count on the
 -- event's own clock."

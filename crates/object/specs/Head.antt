@@ -1,5 +1,6 @@
 -- What stands before the property block of an object. 01: "The receiver: 12 (header id), 10, 12 (block length cut or past the object), 15
 -- (block over its maximum)".
+-- ==== What only mirrors the code
 use Prim.Native.Nat.{ℕ, _+_, _-_}
 use mathlib.Core.Bool.{Bool, true, false, cond}
 use mathlib.Core.List.{List}
@@ -24,7 +25,7 @@ blockF F o p delta =
     (Refused 12))
     (Refused 12)
 
--- 01: "Full objects (23)", "Delta objects (25)", "10 header id neither 23 nor 25: skipped"
+-- 01: "Full objects (23)", "Delta objects (25)", 10: "header id neither 23 nor 25: skipped"
 unfoldable pub headOf : List Row → List ℕ → Head
 headOf F o =
     number F 0 o

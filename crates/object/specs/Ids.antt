@@ -6,13 +6,17 @@ use mathlib.Core.List.{List}
 use lib.Dec.{eqb}
 use lib.ListN.{getD}
 
+-- ==== The rules
+
 -- `at` says which ids stand, and `kept` that the current full object had a `prft`. Id 23 is forbidden in a delta ("Id 23 never"), and id 27 in
--- a full object, which deletes nothing.
+-- a full object, which deletes nothing (D82, D85, D86).
 unfoldable pub idsOk : Bool → Bool → (ℕ → Bool) → Bool
 idsOk delta kept at =
     Bool·beq (at 18) (at 20)
     && ((at 18 || not (at 22 || at 24))
     && cond delta (not (at 23) && (not (at 18) || kept)) (not (at 27) && (at 10 && at 14)))
+
+-- ==== What only mirrors the code
 
 -- an id stands, by the index of the block
 abbrev pub standsIn : List ℕ → ℕ → Bool

@@ -1,5 +1,6 @@
 -- The producer reference time of an object. 01: "Id 23 from `styp`, 18 and 20 from `prft`, 22 unless 1, 24 unless 0", and in a delta "both 18 and
 -- 20, zigzag, against the group's current full object, 22 and 24 if they differ from it; without the two, no box."
+-- ==== The rules
 use Prim.Native.Nat.{ℕ, _-_, _^_}
 use mathlib.Core.Bool.{Bool, true, false, cond}
 use mathlib.Core.List.{List, [], _∷_}
@@ -32,11 +33,11 @@ told ntp media version flags =
 abbrev pub noPrft : Bool → Told
 noPrft ok = record { ok = ok; prft = absentPrft }
 
--- 01: "A value's range is that of its box field, after deltas": the media time has 32 bits in version 0
+-- 01: "A value's range is that of its box field, after deltas": the media time has 32 bits in version 0 (D108)
 abbrev pub mediaMost : ℕ → ℕ
 mediaMost version = cond (eqb version 0) (2 ^ 32 - 1) (2 ^ 64 - 1)
 
--- what is kept of an id: in a delta the current full object's, in a full object what its absence means
+-- what is kept of an id: in a delta the current full object's, in a full object what its absence means (D64)
 abbrev pub keptFor : Bool → ℕ → ℕ → ℕ
 keptFor delta share plain = cond delta share plain
 
@@ -44,7 +45,7 @@ keptFor delta share plain = cond delta share plain
 unfoldable pub numberFor : Bool → Says → ℕ → ℕ → ℕ → ℕ → Reached
 numberFor delta says id share plain bound = numberOf (codingFor delta) (says id) (keptFor delta share plain) bound
 
--- the two times, each on its own clock, once version and flags are known
+-- the two times, each on its own clock, once version and flags are known (D57)
 unfoldable pub timesOf : Bool → Says → List ℕ → ℕ → ℕ → Told
 timesOf delta says s version flags =
     onNtp (asNtp (numberFor delta says 18 (getD s ntpAt 0) 0 (2 ^ 64 - 1)))
@@ -52,6 +53,7 @@ timesOf delta says s version flags =
     onTrack (asTrack (numberFor delta says 20 (getD s mediaTimeAt 0) 0 (mediaMost version))) (λ media. told ntp media version flags) (noPrft false))
     (noPrft false)
 
+-- 01: "id 22 is 0 or 1"; id 24 has the 24 bits of its box field (D109)
 unfoldable pub prftOf : Bool → Says → List ℕ → Told
 prftOf delta says s = whole (says 18)
   where

@@ -13,7 +13,9 @@ use Rattle.fieldset.specs.Lines.{lines, lineFor, setLen}
 use Rattle.fieldset.specs.Lawful.{has, valuesOf}
 use Rattle.chunk.specs.Front.{valueAt, countIn, sizeOf}
 
--- with no samples the payload is empty; one sample has all of it; with id 1 the last size is what is left
+-- ==== The rules
+
+-- with no samples the payload is empty; one sample has all of it; with id 1 the last size is what is left (D115, D116, D117)
 unfoldable pub sizesOk : Track → List ℕ → ℕ → Bool
 sizesOk t w payload =
     let n = countIn w in
@@ -26,7 +28,7 @@ sizesOk t w payload =
 unfoldable pub bytesOf : ℕ → List ℕ → ℕ → ℕ → ℕ
 bytesOf id w j k = let at = lineFor id lines .place + 1 + j in sum (slice at (at + k) w)
 
--- of k samples from the number i on, the first of whose subsamples has the number j
+-- of k samples from the number i on, the first of whose subsamples has the number j (D118)
 unfoldable pub samplesOk : Track → List ℕ → ℕ → ℕ → ℕ → ℕ → Bool
 samplesOk t w payload zero i j = true
 samplesOk t w payload (suc k) i j =
@@ -35,6 +37,8 @@ samplesOk t w payload (suc k) i j =
 
 unfoldable pub protectedOk : Track → List ℕ → ℕ → Bool
 protectedOk t w payload = cond (has 11 w) (samplesOk t w payload (countIn w) 0 0) true
+
+-- ==== What only mirrors the code
 
 -- all words that a field has room for keep its bound
 abbrev pub Bounded : ℕ → List ℕ → Type 0

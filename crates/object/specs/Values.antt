@@ -1,4 +1,5 @@
 -- The events of an object as it says them, and as the boxes of its chunk have them.
+-- ==== The rules
 use Prim.Native.Nat.{ℕ}
 use mathlib.Core.Bool.{Bool, true, false, cond}
 use mathlib.Core.List.{List, [], _∷_, map}
@@ -13,7 +14,7 @@ use Rattle.block.specs.Events.{Event, eventsF}
 use Rattle.chunk.specs.Front.{Event as Box}
 use Rattle.object.specs.Events.{fromBmdt}
 
--- the events that id 25 lists
+-- the events that id 25 lists (D88)
 unfoldable pub listed : List Row → Option (List ℕ) → List Event
 listed F none = []
 listed F (some bs) = onEvents (eventsF F bs)
@@ -23,11 +24,11 @@ listed F (some bs) = onEvents (eventsF F bs)
     onEvents (some es) = es
 
 -- 01: "Timescale 0 means the track's .. Then the time is a zigzag distance from BMDT in track ticks; otherwise an absolute count on the
--- event's own clock."
+-- event's own clock." (D111, D112)
 abbrev pub onTime : {A : Type 0} → Track → ℕ → Event → (ℕ → ℕ → A) → A → A
 onTime t bmdt e f outside = cond (eqb (e .timescale) 0) (onTrack (fromBmdt bmdt (e .time)) (λ time. f (t .timescale) (time .0)) outside) (f (e .timescale) (e .time))
 
--- 01: "A rebuilt time below 0: 15. Strings hold no zero byte (15)"; timescale, duration and id have 32 bits
+-- 01: "A rebuilt time below 0: 15. Strings hold no zero byte (15)"; timescale, duration and id have 32 bits (D113)
 unfoldable pub fits : Track → ℕ → Event → Bool
 fits t bmdt e =
     onTime t bmdt e (λ scale time. true) false

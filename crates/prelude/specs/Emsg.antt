@@ -11,6 +11,8 @@ use Rattle.shape.specs.declared.parts.Part.{Part}
 use Rattle.shape.specs.Parts.{endOf, boxAt}
 use Rattle.tree.specs.Numbers.{u32, u64}
 
+-- ==== The rules
+
 -- how many bytes stand before the first zero byte; all, where there is none
 unfoldable pub beforeZero : List ℕ → ℕ
 beforeZero [] = 0
@@ -30,7 +32,7 @@ schemeEnd c b = zeroFrom c (schemeAt b) (endOf b)
 unfoldable pub valueEnd : List ℕ → Part → ℕ
 valueEnd c b = zeroFrom c (schemeEnd c b + 1) (endOf b)
 
--- 01: "`emsg`: version 1, flags 0", a word; "box lengths, an `emsg` string without its end zero .. are 6". The message may be empty.
+-- 01: "`emsg`: version 1, flags 0", a word; "box lengths, an `emsg` string without its end zero .. are 6". The message may be empty (D36).
 unfoldable pub emsgOk : List ℕ → Part → Bool
 emsgOk c b = leb 32 (b .len) and ltb (schemeEnd c b) (endOf b) and ltb (valueEnd c b) (endOf b) and eqb (u32 c (b .at + 8)) 0x100_0000
 
@@ -62,6 +64,8 @@ eventWords c b =
 unfoldable pub emsgWords : List ℕ → ℕ → ℕ → List ℕ
 emsgWords c zero at = []
 emsgWords c (suc k) at = eventWords c (emsgAt c at) ++ emsgWords c k (endOf (emsgAt c at))
+
+-- ==== What only mirrors the code
 
 -- words that these are stored in, from the first on: those of the event with the number i stand at 10 * i
 unfoldable pub keptEvents : List ℕ → ℕ → ℕ → List ℕ → List ℕ

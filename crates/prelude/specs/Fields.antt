@@ -1,4 +1,5 @@
 -- Version and flags of a box in the chunk c.
+-- ==== The rules
 use Prim.Native.Nat.{ℕ, _+_, _/_, _%_}
 use mathlib.Core.List.{List}
 use Rattle.tree.specs.Numbers.{u32}

@@ -1,4 +1,5 @@
 -- The boxes of protected samples, written from the words of a lawful set, and how a field is read from those words.
+-- ==== The rules
 use Prim.Native.Nat.{ℕ, zero, suc, _+_, _*_, _/_}
 use mathlib.Core.Bool.{Bool, true, false, cond, _||_}
 use mathlib.Core.List.{List, [], _∷_, _++_}
@@ -46,7 +47,7 @@ sencEntries t w (suc k) i j =
 unfoldable pub sencBox : Track → List ℕ → List ℕ
 sencBox t w = fullBox B.senc 0 (flagWhen (has 11 w) 2) (be 4 (countIn w) ++ sencEntries t w (countIn w) 0 0)
 
--- 01: "`saiz` gives IV size plus, with subsamples, 2 + 6 x count"
+-- 01: "`saiz` .. gives IV size plus, with subsamples, 2 + 6 x count"
 unfoldable pub infoSize : Track → List ℕ → ℕ → ℕ
 infoSize t w i = t .«iv_size» + flagWhen (has 11 w) (2 + 6 * valueAt 11 i w)
 
@@ -59,7 +60,7 @@ unfoldable pub allSized : Track → List ℕ → ℕ → ℕ → ℕ → Bool
 allSized t w v zero i = true
 allSized t w v (suc k) i = cond (eqb (infoSize t w i) v) (allSized t w v k (suc i)) false
 
--- 01: "`saiz` uses its default size if all are equal."
+-- 01: "`saiz` uses its default size if all are equal." (D123)
 unfoldable pub saizBox : Track → List ℕ → List ℕ
 saizBox t w =
     let n = countIn w in
@@ -70,6 +71,6 @@ saizBox t w =
 unfoldable pub saioBox : ℕ → List ℕ
 saioBox offset = fullBox B.saio 0 0 (be 4 1 ++ be 4 offset)
 
--- where the set has IVs or subsamples; `place` is where the `senc` stands, from the `moof` start
+-- where the set has IVs or subsamples; `place` is where the `senc` stands, from the `moof` start (D124)
 unfoldable pub protection : Track → List ℕ → ℕ → List ℕ
 protection t w place = when (has 9 w || has 11 w) (sencBox t w ++ (saizBox t w ++ saioBox (place + 16)))

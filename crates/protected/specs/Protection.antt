@@ -1,4 +1,5 @@
 -- What words must keep so that the boxes of protected samples can be written from them: a part of what `lawful` says.
+-- ==== What only mirrors the code
 use Prim.Native.Nat.{ℕ, _≤_}
 use mathlib.Core.Path.{_≡_}
 use mathlib.Core.Bool.{true, _||_}
@@ -10,7 +11,7 @@ use Rattle.fieldset.specs.Lines.{setLen}
 use Rattle.fieldset.specs.Lawful.{has, valuesOf, saizOk}
 use Rattle.protected.specs.Protected.{countIn}
 
--- 01: "Maxima: 64 samples and 256 subsamples a chunk"; "IV size 8 or 16 for cenc, else 0"; "`saiz` gives IV size plus, with subsamples,
+-- 01: "Maxima: 64 samples and 256 subsamples a chunk"; "IV size 8 or 16 for cenc, else 0"; "`saiz` .. gives IV size plus, with subsamples,
 -- 2 + 6 x count, at most 255"; "with no samples no lists, 9 or 12"
 pub record Protectable (t : Track) (w : List ℕ) : Type 0 where
   pub long : length w ≡ setLen

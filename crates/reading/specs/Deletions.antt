@@ -10,7 +10,9 @@ use Rattle.laws.specs.Tests.{_and_}
 use Rattle.fieldset.specs.Lawful.{has}
 use Rattle.fields.specs.Said.{Says, numbers, among, Gone}
 
--- an id of the moof fields that can be deleted. 01: "Ids 10 and 14 can't be deleted"
+-- ==== The rules
+
+-- an id of the moof fields that can be deleted. 01: "Ids 10 and 14 can't be deleted" (D89, D91)
 unfoldable pub moofField : ℕ → Bool
 moofField id = leb 1 id && (leb id 16 && (not (eqb id 10) && not (eqb id 14)))
 
@@ -19,12 +21,12 @@ isNone none = true
 isNone (some zs) = false
 
 -- 01: "an id deleted stands once, was in the reference's moof fields and isn't sent again": of each id that id 27 lists, those of `seen` being
--- before it
+-- before it (D89)
 unfoldable pub deletionsOk : List ℕ → Says → List ℕ → List ℕ → Bool
 deletionsOk r says seen [] = true
 deletionsOk r says seen (d ∷ ds) = (moofField d && (has d r && (isNone (says d) && not (among d seen)))) and deletionsOk r says (d ∷ seen) ds
 
--- ---- what the code does
+-- ==== What only mirrors the code
 
 -- an id may be deleted, by the words of the index and the marks of those before it
 unfoldable pub strikable : List ℕ → List ℕ → ℕ → List ℕ → Bool

@@ -27,13 +27,15 @@ use Rattle.reading.specs.Deletions.{deletionsOk}
 use Rattle.fields.specs.Cells.{Came, Held, codingFor, cellOf, stood}
 use Rattle.fields.specs.Words.{setWords, measure, wasOf, storeAll}
 
--- 01: "Id 14 absent means same count."
+-- ==== The rules
+
+-- 01: "Id 14 absent means same count." (D104)
 unfoldable pub countFrom : Coding → Option (List ℕ) → ℕ → Reached
 countFrom coding none old = To old
 countFrom coding (some []) old = To old
 countFrom coding (some (z ∷ zs)) old = reached coding old 64 z
 
--- 01: "list length (ids 9 and 23 too)": brands have four bytes each, and there is one at least
+-- 01: "list length (ids 9 and 23 too)": brands have four bytes each, and there is one at least (D98)
 unfoldable pub brandsFit : Option (List ℕ) → Bool
 brandsFit none = true
 brandsFit (some bs) = not (eqb (length bs) 0) && eqb (length bs % 4) 0
@@ -60,6 +62,7 @@ module _ (t : Track) (delta : Bool) (r : List ℕ) (says : Says) where
   unfoldable pub subsamples : List ℕ
   subsamples = numbers (cameOf (measure t countOf 0) (lineFor 11 lines) .field)
 
+  -- the field of a line, by the sum of the subsample counts as they come out, sent or carried (D103)
   unfoldable pub came : Line → Came
   came l = cameOf (measure t countOf (sum subsamples)) l
 
@@ -77,7 +80,7 @@ module _ (t : Track) (delta : Bool) (r : List ℕ) (says : Says) where
   abbrev pub newWords : ℕ → List ℕ
   newWords bmdt = setWords bmdt countOf fieldOf
 
-  -- 01: "14 (lengths but 13 and 15), 15 (id 11's values and sum), 14 (lengths of 13 and 15, set), 15 (all other values, ..)"
+  -- 01: "14 (lengths but 13 and 15), 15 (id 11's values and sum), 14 (lengths of 13 and 15, set), 15 (all other values, ..)" (D95, D96)
   unfoldable pub fieldRungs : List Rung
   fieldRungs =
       ((every (λ l. came l .cell .first) lines and brandsFit (says 23)) else 14)
@@ -90,7 +93,7 @@ module _ (t : Track) (delta : Bool) (r : List ℕ) (says : Says) where
   unfoldable pub setRungs : List Rung
   setRungs = (deletionsOk r says [] (numbers (says 27)) else 14) ∷ (onReached countReached (λ _. true) false else 15) ∷ fieldRungs
 
--- ---- what the code does
+-- ==== What only mirrors the code
 
 abbrev pub brandsIn : List ℕ → Bool
 brandsIn index = eqb (getD index 69 0) 0 || (not (eqb (getD index 70 0) 0) && eqb (getD index 70 0 % 4) 0)

@@ -1,4 +1,5 @@
 -- A chunk as a list of boxes: what a front and its payload are; and that what it is written from fits these boxes.
+-- ==== What only proofs need
 use Prim.Native.Nat.{ℕ, _+_, _^_, _≤_, _<_}
 use mathlib.Core.Path.{_≡_}
 use mathlib.Core.Bool.{true}

@@ -1,4 +1,5 @@
 -- The boxes of a `moof` as they are read, and that they say what a set w has, with n bytes of payload.
+-- ==== What only proofs need
 use Prim.Native.Nat.{ℕ, _+_, _*_, _^_, _<_}
 use mathlib.Core.Path.{_≡_}
 use mathlib.Core.Bool.{Bool, true, false, cond, _||_}

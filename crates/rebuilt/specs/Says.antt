@@ -1,4 +1,5 @@
 -- What is to be shown of the chunk that is written from a set.
+-- ==== What only proofs need
 use Prim.Native.Nat.{ℕ}
 use mathlib.Core.Path.{_≡_}
 use mathlib.Core.Bool.{true}

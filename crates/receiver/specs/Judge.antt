@@ -1,4 +1,5 @@
 -- What the code works out of an object before it acts.
+-- ==== What only mirrors the code
 use Prim.Native.Nat.{ℕ, _+_, _-_, _*_, _≤_}
 use mathlib.Core.Path.{_≡_}
 use mathlib.Core.Bool.{true, cond}

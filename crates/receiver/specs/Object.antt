@@ -1,4 +1,5 @@
 -- An object taken apart. Where a number is cut, 0 stands for it: the object is refused before anything goes by it.
+-- ==== The rules
 use Prim.Native.Nat.{ℕ, _+_, _-_}
 use mathlib.Core.Bool.{Bool, true, false, _||_}
 use mathlib.Core.List.{List, [], _∷_}
@@ -38,7 +39,7 @@ module _ (F : List Row) (o : List ℕ) where
   unfoldable pub isDelta : Bool
   isDelta = eqb headerId 25
 
-  -- 01: "The receiver: 12 (header id), 10, 12 (block length cut or past the object), 15 (block over its maximum)"
+  -- 01: "The receiver: 12 (header id), 10, 12 (block length cut or past the object), 15 (block over its maximum)" (D77, D78, D79)
   unfoldable pub headRungs : List Rung
   headRungs =
       (headerReads else 12)

@@ -1,4 +1,5 @@
 -- An object by its bytes, where its block splits into whole tuples.
+-- ==== What is shown of the rules
 use Prim.Native.Nat.{ℕ}
 use mathlib.Core.Path.{_≡_}
 use mathlib.Core.List.{List, _++_, flatten}

@@ -1,4 +1,5 @@
 -- One object, by 01's order of answers.
+-- ==== The rules
 use Prim.Native.Nat.{ℕ, _+_, _-_, _%_, _^_}
 use mathlib.Core.Bool.{Bool, cond, not, _&&_, _||_}
 use mathlib.Core.List.{List, [], _∷_, _++_}
@@ -27,7 +28,7 @@ use Rattle.exchange.specs.Took.{Took, took, refused}
 use Rattle.exchange.specs.Kept.{keptWords}
 use Rattle.receiver.specs.Object.{isDelta, headRungs, reads, entries, saying, payload}
 
--- 01: "Numbers 12 to 16 drop the slot's reference; every other refusal changes nothing"
+-- 01: "Numbers 12 to 16 drop the slot's reference; every other refusal changes nothing" (D120)
 unfoldable pub afterRefusal : ℕ → List ℕ → List ℕ
 afterRefusal k s = cond (leb 12 k && leb k 16) (dropped s) s
 
@@ -57,7 +58,7 @@ module _ (F : List Row) (o s : List ℕ) where
   newSet = newWords track (isDelta F o) reference (saying F o) bmdt
 
   -- 01: "15 (all other values, payload, brand and event maxima)"; "16 brands; 16 emsg records in 4,096 list bytes; .. payload 16,777,216 bytes;
-  -- BMDT, .. 2^62-1"
+  -- BMDT, .. 2^62-1" (D98, D107, D114)
   unfoldable pub valuesOk : Bool
   valuesOk =
       (leb bmdt (2 ^ 62 - 1)
@@ -70,7 +71,7 @@ module _ (F : List Row) (o s : List ℕ) where
   unfoldable pub sumsOk : Bool
   sumsOk = sizesOk track newSet (length (payload F o)) and protectedOk track newSet (length (payload F o))
 
-  -- 11: "delta, and no reference held"
+  -- 11: "delta, and no reference held" (D80)
   unfoldable pub heldOk : Bool
   heldOk = not (isDelta F o) || not (eqb (getD s heldAt 0) 0)
 
@@ -78,7 +79,7 @@ module _ (F : List Row) (o s : List ℕ) where
   unfoldable pub idsRight : Bool
   idsRight = lawful (entries F o) and idsOk (isDelta F o) (not (eqb (getD s prftAt 0) 0)) (λ id. isSome (saying F o id))
 
-  -- 01: "12 (tuples, varints, emsg records), 13"
+  -- 01: "12 (tuples, varints, emsg records), 13" (D82, D84)
   unfoldable pub splitRungs : List Rung
   splitRungs = (reads F o else 12) ∷ (idsRight else 13) ∷ []
 
@@ -109,7 +110,7 @@ refusing output s k = out (refused output k) (afterRefusal k s)
 abbrev pub done : List Row → List ℕ → List ℕ → List ℕ → Out Took
 done F o output s = out (took 0 (length (chunk F o s)) (payload F o) (chunk F o s ++ drop (length (chunk F o s)) output)) (accepted F o s)
 
--- 17: "output shorter than the front"
+-- 17: "output shorter than the front" (D119)
 abbrev pub roomRungs : List Row → List ℕ → List ℕ → List ℕ → List Rung
 roomRungs F o output s = (leb (length (chunk F o s)) (length output) else 17) ∷ []
 

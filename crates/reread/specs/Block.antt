@@ -1,4 +1,5 @@
 -- What the block of a chunk's object says of each id: the chunk c on the share s, as a delta or in full.
+-- ==== What only proofs need
 use Prim.Native.Nat.{ℕ}
 use mathlib.Core.Bool.{Bool, cond, not, _&&_}
 use mathlib.Core.List.{List, [], _∷_}

@@ -1,4 +1,5 @@
 -- What is to be shown of the encoder's object, read under the same parameters and reference.
+-- ==== What only proofs need
 use Prim.Native.Nat.{ℕ}
 use mathlib.Core.Path.{_≡_}
 use mathlib.Core.Bool.{Bool, true, cond}

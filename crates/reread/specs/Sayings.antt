@@ -1,4 +1,5 @@
 -- What the items of a field say of it, and what is then said of a whole set.
+-- ==== What only proofs need
 use Prim.Native.Nat.{ℕ, _<_}
 use mathlib.Core.Path.{_≡_}
 use mathlib.Core.Bool.{Bool, true, cond}

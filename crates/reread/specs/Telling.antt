@@ -1,4 +1,5 @@
 -- Items that tell of each id what is said of it, the ids ascending.
+-- ==== What only proofs need
 use Prim.Native.Nat.{ℕ, _≤_, _<_}
 use mathlib.Core.Path.{_≡_}
 use mathlib.Core.Bool.{true, false}

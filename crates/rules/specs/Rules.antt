@@ -26,7 +26,9 @@ use Rattle.encryption.specs.declared.entries.Entries.{Entries}
 use Rattle.encryption.specs.Entries.{entriesOf, pairsAt, lengthAt, sencOk, subsamples}
 use Rattle.encryption.specs.Sizes.{saizOk, saizCount, infoSize, saioOk, leadsTo}
 
--- 01: "`emsg`: .. timescale not 0."
+-- ==== The rules
+
+-- 01: "`emsg`: .. timescale not 0." (D36)
 unfoldable pub clocksOk : List Event → Bool
 clocksOk [] = true
 clocksOk (e ∷ es) = not (eqb (e .timescale) 0) and clocksOk es
@@ -41,12 +43,12 @@ unfoldable pub pairsSum : List ℕ → ℕ → ℕ → ℕ
 pairsSum c zero at = 0
 pairsSum c (suc k) at = u16 c at + u32 c (at + 2) + pairsSum c k (at + 6)
 
--- 01: "Clear plus protected bytes equal the size of each sample": of the entry at a place, where it has subsamples
+-- 01: "Clear plus protected bytes equal the size of each sample": of the entry at a place, where it has subsamples (D53)
 unfoldable pub entryOk : List ℕ → Entries → ℕ → ℕ → Bool
 entryOk c e at size = not (e .map) || eqb (pairsSum c (pairsAt c e at) (at + e .iv + 2)) size
 
 -- of k entries from a place on, the first of which is that of the sample i; and 01: "`saiz` .. gives IV size plus, with subsamples, 2 + 6 x count,
--- at most 255": a `saiz` has no number above 255, so a longer entry breaks the rule too
+-- at most 255": a `saiz` has no number above 255, so a longer entry breaks the rule too (D32)
 unfoldable pub entriesOk : List ℕ → Entries → Part → Run → ℕ → ℕ → ℕ → ℕ → Bool
 entriesOk c e saiz r default zero i at = true
 entriesOk c e saiz r default (suc k) i at =
@@ -73,16 +75,16 @@ module _ (t : Track) (c : List ℕ) (top : Top) (f : Inner) where
   unfoldable pub offsetOk : Bool
   offsetOk = ltb (dataOffset c (f .trun)) 0x8000_0000 && eqb (dataOffset c (f .trun)) (top .moof .len + 8)
 
-  -- 01: "Sample flags: only ..": of every field of flags that stands, whether or not it has an effect
+  -- 01: "Sample flags: only ..": of every field of flags that stands, whether or not it has an effect (D47)
   unfoldable pub flagsOk : Bool
   flagsOk = (only (defaults .flags) && only (firstFlags c (f .trun))) and allOnly (columnOf c run sampleFlags)
 
-  -- 01: "Composition offsets: -2^31 to 2^31-1, in version 0 too." In version 0 they have no sign; in version 1 they are always in range.
+  -- 01: "Composition offsets: -2^31 to 2^31-1, in version 0 too." In version 0 they have no sign; in version 1 they are always in range (D46).
   unfoldable pub offsetsOk : Bool
   offsetsOk = eqb (run .word / 0x100_0000) 1 || allLe 0x7fff_ffff (columnOf c run offsets)
 
   -- 01: "Sample sizes sum to the payload length; with no samples the payload is empty and `trun` has only its data offset." That the payload is empty
-  -- then, the sum of no sizes says.
+  -- then, the sum of no sizes says (D27, D48).
   unfoldable pub sizesOk : Bool
   sizesOk =
       eqb (sum (sizesOf c run (defaults .size))) (bodyOf (top .mdat) .len)
@@ -92,7 +94,7 @@ module _ (t : Track) (c : List ℕ) (top : Top) (f : Inner) where
   unfoldable pub unprotectedOk : Bool
   unprotectedOk = not (eqb (t .protection) cenc) || eqb (run .count) 0
 
-  -- 01: "forbidden otherwise or without samples; it has IVs or subsamples. It and `saiz` count as many samples as `trun`."
+  -- 01: "forbidden otherwise or without samples; it has IVs or subsamples. It and `saiz` count as many samples as `trun`." (D29)
   unfoldable pub countsOk : Bool
   countsOk =
       (not (eqb (t .protection) none) && not (eqb (run .count) 0))
@@ -115,6 +117,8 @@ module _ (t : Track) (c : List ℕ) (top : Top) (f : Inner) where
       and offsetsOk
       and sizesOk
       and cond (eqb (f .senc .len) 0) unprotectedOk protectedOk
+
+-- ==== What only mirrors the code
 
 -- ---- what the rules are asked of
 

@@ -19,6 +19,8 @@ use Rattle.runs.specs.declared.Outcome.the-variants.{Done, Misfit, Outsi
 use Rattle.runs.specs.declared.Measured.{Measured}
 use Rattle.runs.specs.declared.Measured.the-variants.{Bytes, TooWide}
 
+-- ==== The rules
+
 -- the first of the old values that are left, or what an absent one counts as; and those after it
 abbrev pub first : ℕ → List ℕ → ℕ
 first base [] = base
@@ -38,6 +40,27 @@ stop a = record { answer = a; values = [] }
 
 abbrev pub more : ℕ → Filled → Filled
 more v f = record { answer = f .answer; values = v ∷ f .values }
+
+abbrev pub onCoded : {A : Type 0} → Coded → (ℕ → A) → A → A
+onCoded (Number z) f w = f z
+onCoded Wide f w = w
+
+abbrev pub plus : ℕ → Measured → Measured
+plus k (Bytes n) = Bytes (k + n)
+plus k TooWide = TooWide
+
+module _ (F : List Row) (coding : Coding) (base : ℕ) where
+  -- the bytes of the run for the new list, up to a number too wide
+  unfoldable pub runOf : List ℕ → List ℕ → List ℕ
+  runOf old [] = []
+  runOf old (v ∷ vs) = onCoded (codeOf F coding (first base old) v) (λ z. encode F z ++ runOf (rest old) vs) []
+
+  -- how many they are, or that a number is too wide
+  unfoldable pub measured : List ℕ → List ℕ → Measured
+  measured old [] = Bytes 0
+  measured old (v ∷ vs) = onCoded (codeOf F coding (first base old) v) (λ z. plus (sizeOf F z) (measured (rest old) vs)) TooWide
+
+-- ==== What only mirrors the code
 
 -- the bytes have to end with the last number
 abbrev pub ended : List ℕ → Outcome
@@ -61,22 +84,3 @@ module _ (F : List Row) (coding : Coding) (base bound : ℕ) where
 pub record FilledAs (f : Filled) (before : List ℕ) (to : ℕ) (r : Outcome) (after : List ℕ) : Type 0 where
   pub answered : r ≡ f .answer
   pub stored : after ≡ sets before to (f .values)
-
-abbrev pub onCoded : {A : Type 0} → Coded → (ℕ → A) → A → A
-onCoded (Number z) f w = f z
-onCoded Wide f w = w
-
-abbrev pub plus : ℕ → Measured → Measured
-plus k (Bytes n) = Bytes (k + n)
-plus k TooWide = TooWide
-
-module _ (F : List Row) (coding : Coding) (base : ℕ) where
-  -- the bytes of the run for the new list, up to a number too wide
-  unfoldable pub runOf : List ℕ → List ℕ → List ℕ
-  runOf old [] = []
-  runOf old (v ∷ vs) = onCoded (codeOf F coding (first base old) v) (λ z. encode F z ++ runOf (rest old) vs) []
-
-  -- how many they are, or that a number is too wide
-  unfoldable pub measured : List ℕ → List ℕ → Measured
-  measured old [] = Bytes 0
-  measured old (v ∷ vs) = onCoded (codeOf F coding (first base old) v) (λ z. plus (sizeOf F z) (measured (rest old) vs)) TooWide

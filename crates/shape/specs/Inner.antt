@@ -1,5 +1,6 @@
 -- The boxes inside the `moof`. 01: "`moof` has `mfhd`, then one `traf`: `tfhd`, `tfdt` (version 0 or 1), `trun` (0 or 1), then `senc`, `saiz`,
 -- `saio` in any order, all three or none."
+-- ==== The rules
 use Prim.Native.Nat.{ℕ, _+_}
 use mathlib.Core.Bool.{Bool, cond, not, _&&_, _||_}
 use mathlib.Core.List.{List}
@@ -27,7 +28,7 @@ lastOf c at end =
     let d = anyAt c (b .at + b .len) end in
     record { senc = pickOf kinds.senc a b d; saiz = pickOf kinds.saiz a b d; saio = pickOf kinds.saio a b d; end = d .at + d .len }
 
--- "`tfhd`, `tfdt`, `trun`", and these: each box where the one before it ends, of no bytes if it doesn't stand there
+-- "`tfhd`, `tfdt`, `trun`", and these: each box where the one before it ends, of no bytes if it doesn't stand there (D28)
 unfoldable pub trafOf : List ℕ → Part → Part → Inner
 trafOf c mfhd traf =
     let boxes = bodyOf traf in
@@ -55,7 +56,7 @@ innerOf c moof =
     let traf = boxAt c (endOf mfhd) (endOf list) kinds.traf in
     trafOf c mfhd traf
 
--- "all three or none": nothing after the `trun`; or each type among the three boxes after it, and nothing after these
+-- "all three or none": nothing after the `trun`; or each type among the three boxes after it, and nothing after these (D35)
 unfoldable pub threeOrNone : Inner → Bool
 threeOrNone f =
     eqb (endOf (f .trun)) (endOf (f .traf))

@@ -1,4 +1,5 @@
 -- What is left of a chunk from a place on, up to another: a list that was written.
+-- ==== What only proofs need
 use Prim.Native.Nat.{ℕ, _+_, _≤_}
 use mathlib.Core.Path.{_≡_}
 use mathlib.Core.List.{List}

@@ -9,6 +9,8 @@ use Rattle.tree.specs.Whole.{sizeOf, kindOf, sized}
 use Rattle.shape.specs.declared.parts.Part.{Part}
 use Rattle.shape.specs.declared.parts.Any.{Any}
 
+-- ==== The rules
+
 abbrev pub part : ℕ → ℕ → Part
 part at len = record { at = at; len = len }
 
@@ -32,6 +34,8 @@ anyAt c at end =
 -- and if it has the type; of no bytes where it doesn't
 unfoldable pub boxAt : List ℕ → ℕ → ℕ → ℕ → Part
 boxAt c at end kind = let l = listAt c at end in part at (cond (sized l and eqb (kindOf l) kind) (sizeOf l) 0)
+
+-- ==== What only mirrors the code
 
 -- a part lies in the chunk
 pub record Inside (c : List ℕ) (p : Part) : Type 0 where

@@ -1,4 +1,5 @@
 -- The boxes at the top of a chunk. 01: "Order: `styp`? `prft`? `emsg`* `moof` `mdat`, nothing after."
+-- ==== The rules
 use Prim.Native.Nat.{ℕ, suc, _+_, _-_}
 use mathlib.Core.Bool.{Bool, cond, not, _&&_}
 use mathlib.Core.List.{List}
@@ -46,6 +47,6 @@ topOf c =
       mdat = mdat;
     }
 
--- `moof` and `mdat` stand, "nothing after"
+-- `moof` and `mdat` stand, "nothing after" (D16)
 unfoldable pub topOk : List ℕ → Top → Bool
 topOk c top = not (eqb (top .moof .len) 0) && (not (eqb (top .mdat .len) 0) && eqb (endOf (top .mdat)) (length c))

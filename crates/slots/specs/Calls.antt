@@ -1,4 +1,5 @@
 -- What the three calls make of a share. 01: "Order: 18 for length, 1, 18 for the share, 2 or 3, 4."
+-- ==== The rules
 use Prim.Native.Nat.{ℕ}
 use mathlib.Core.Bool.{not}
 use mathlib.Core.List.{List, [], _∷_}
@@ -9,11 +10,11 @@ use Rattle.slots.specs.declared.share.Side.{Side}
 use Rattle.slots.specs.Share.{lawful, isOpen, fresh, opened, dropped}
 use Rattle.slots.specs.Table.{Out, itself, onShare}
 
--- 01: "3 opening an open slot", "4 bad parameters"
+-- 3: "opening an open slot"; 4: "bad parameters" (D3)
 abbrev pub openRungs : Side → Asked → List ℕ → List Rung
 openRungs side a s = (lawful side s else 18) ∷ (not (isOpen s) else 3) ∷ (lawfulTrack a else 4) ∷ []
 
--- 01: "2 slot not open"
+-- 2: "slot not open" (D1, D3)
 abbrev pub openedRungs : Side → List ℕ → List Rung
 openedRungs side s = (lawful side s else 18) ∷ (isOpen s else 2) ∷ []
 
@@ -25,6 +26,6 @@ opening side a s = onShare itself (openRungs side a) 0 (λ _. opened a) s
 unfoldable pub closing : Side → List ℕ → Out ℕ
 closing side s = onShare itself (openedRungs side) 0 (λ _. fresh) s
 
--- 01: "start a group (drops the reference)"
+-- 01: "start a group (drops the reference)" (D4)
 unfoldable pub grouping : Side → List ℕ → Out ℕ
 grouping side s = onShare itself (openedRungs side) 0 dropped s

@@ -1,4 +1,5 @@
 -- What is to be shown of the calls: numbers, lawful shares, and calls on different slots.
+-- ==== What is shown of the rules
 use Prim.Native.Nat.{ℕ, _<_}
 use mathlib.Core.Path.{_≡_}
 use mathlib.Core.Bool.{true}

@@ -1,5 +1,6 @@
 -- The words of a slot's share, and when they are lawful. From word 0 on: the eight parameters, the count of accepted objects, the mark of
 -- the reference, the mark of the current full object's `prft` with its four fields, and the set of moof fields.
+-- ==== The rules
 use Prim.Native.Nat.{ℕ}
 use mathlib.Core.Bool.{Bool, cond, not, _&&_, _||_}
 use mathlib.Core.List.{List, [], _∷_, _++_}
@@ -73,13 +74,13 @@ trackOf s = narrow (askedOf s)
 abbrev pub paramWords : Asked → List ℕ
 paramWords a = a .track ∷ a .timescale ∷ a .description ∷ a .duration ∷ a .size ∷ a .flags ∷ a .protection ∷ a .«iv_size» ∷ []
 
--- 01: "`mfhd` counts accepted objects since opening from 1, 0 following 2^32-1": in the receiver's share; the encoder's has no use for it
+-- 01: "`mfhd` counts accepted objects since opening from 1, 0 following 2^32-1": in the receiver's share; the encoder's has no use for it (D8)
 abbrev pub acceptedOk : Side → ℕ → Bool
 acceptedOk Encoder n = eqb n 0
 acceptedOk Receiver n = leb n u32
 
 -- the `prft` kept with the reference: none, and then nothing is stored of it; or one whose fields keep their ranges, the media time having 32
--- bits in version 0
+-- bits in version 0 (D12)
 unfoldable pub prftOk : List ℕ → Bool
 prftOk s =
     cond (eqb (getD s prftAt 0) 0) (allZero (slice ntpAt setAt s))
@@ -88,7 +89,7 @@ prftOk s =
     && ((eqb (getD s versionAt 0) 1 || leb (getD s mediaTimeAt 0) u32)
     && leb (getD s prftFlagsAt 0) u24)))
 
--- the reference: none, and then nothing is stored of it; or a lawful set with a lawful `prft`
+-- the reference: none, and then nothing is stored of it; or a lawful set with a lawful `prft` (D11)
 unfoldable pub referenceOk : Track → List ℕ → Bool
 referenceOk t s =
     cond (eqb (getD s heldAt 0) 0) (allZero (drop prftAt s))
@@ -98,11 +99,11 @@ referenceOk t s =
 unfoldable pub openOk : Side → List ℕ → Bool
 openOk side s = lawfulTrack (askedOf s) and acceptedOk side (getD s acceptedAt 0) and referenceOk (trackOf s) s
 
--- a slot is open exactly where its track_ID is not 0
+-- a slot is open exactly where its track_ID is not 0 (D7)
 unfoldable pub isOpen : List ℕ → Bool
 isOpen s = not (eqb (getD s trackAt 0) 0)
 
--- 01: "All zeros is fresh"; "A share is lawful if its numbers keep this page's rules and every place not in use is 0."
+-- 01: "All zeros is fresh"; "A share is lawful if its numbers keep this page's rules and every place not in use is 0." (D9)
 unfoldable pub lawful : Side → List ℕ → Bool
 lawful side s = cond (eqb (getD s trackAt 0) 0) (allZero s) (openOk side s)
 

@@ -1,4 +1,5 @@
 -- A table of eight shares, and what a call on one share is on the table.
+-- ==== The rules
 use Prim.Native.Nat.{ℕ, _*_}
 use mathlib.Core.List.{List, [], _∷_, _++_}
 use lib.Dec.{eqb, leb}

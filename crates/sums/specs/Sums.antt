@@ -1,4 +1,5 @@
 -- The numbers that document 01 works out, a line each: what the definitions compute, and what the document states.
+-- ==== The rules
 use Prim.Native.Nat.{ℕ, _-_, _^_}
 use mathlib.Core.List.{List, [], _∷_}
 use lib.IntN.{ℤ, pos, negℤ}

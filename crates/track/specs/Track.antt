@@ -1,4 +1,5 @@
 -- The parameters of a track.
+-- ==== The rules
 use Prim.Native.Nat.{ℕ}
 use mathlib.Core.Bool.{Bool, _&&_, _||_}
 use lib.Dec.{eqb, leb}
@@ -24,7 +25,7 @@ abbrev pub ivOk : ℕ → ℕ → Bool
 ivOk protection size = (eqb protection cenc && (eqb size 8 || eqb size 16)) || ((eqb protection none || eqb protection cbcs) && eqb size 0)
 
 -- 01: "Parameters: track_ID and timescale (1 to 2^32-1), trex description index (from 1), duration, size, flags (five-bit form)". The
--- fields of trex have 32 bits.
+-- fields of trex have 32 bits (D2).
 unfoldable pub lawful : Asked → Bool
 lawful a =
     (leb 1 (a .track) and leb (a .track) u32)

@@ -1,4 +1,5 @@
 -- Which lists are filled by their boxes, whatever stands inside these. The equation of `fills`, and the definition:
+-- ==== What only mirrors the code
 use Prim.Native.Nat.{ℕ}
 use mathlib.Core.Bool.{Bool, true, _||_}
 use mathlib.Core.List.{List}

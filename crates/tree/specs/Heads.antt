@@ -1,4 +1,5 @@
 -- The head of a list's first box, as the code answers it.
+-- ==== What only mirrors the code
 use Prim.Native.Nat.{ℕ}
 use mathlib.Core.List.{List}
 use Rattle.laws.specs.Gate.{gate}

@@ -1,4 +1,5 @@
 -- The number that some bytes of c at a place spell, the highest first.
+-- ==== The rules
 use Prim.Native.Nat.{ℕ, _+_}
 use mathlib.Core.List.{List}
 use lib.Seq.{slice}

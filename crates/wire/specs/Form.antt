@@ -1,6 +1,7 @@
 -- The forms of a varint as tables. A row is a run of first bytes, `mark` and the `width - 1` after it, that `tail` bytes follow. The
 -- value of such a varint is the first byte's place in the run and then its tail, as one number to base 256. So a row holds the values
 -- below `width * 256 ^ tail`.
+-- ==== The rules
 use Prim.Native.Nat.{ℕ, _+_, _*_, _^_, max, suc}
 use mathlib.Core.Bool.{cond}
 use mathlib.Core.List.{List, [], _∷_}

@@ -11,11 +11,13 @@ use Rattle.wire.specs.declared.varint.Got.{Got}
 use Rattle.wire.specs.declared.varint.Got.the-variants.{Value, Cut}
 use Rattle.wire.specs.Form.{byFirst, byValue, longest, onFound}
 
+-- ==== The rules
+
 -- the varint of v in the row r
 abbrev pub encodeIn : Row → ℕ → List ℕ
 encodeIn r v = (r .mark + v / 256 ^ r .tail) ∷ be (r .tail) v
 
--- 01: "The encoder writes the shortest". A number past the form's limit has none.
+-- 01: "The encoder writes the shortest" (D76). A number past the form's limit has none.
 unfoldable pub encode : List Row → ℕ → List ℕ
 encode F v = onFound (byValue F v) (λ r. encodeIn r v) []
 
@@ -36,6 +38,8 @@ readF F (b ∷ s) = onFound (byFirst F b) (λ r. readIn r b s) Cut
 abbrev pub onGot : {A : Type 0} → Got → (ℕ → ℕ → A) → A → A
 onGot (Value v k) f z = f v k
 onGot Cut f z = z
+
+-- ==== What only mirrors the code
 
 -- a count of bytes from a place becomes the place after them
 abbrev pub shift : ℕ → Got → Got

@@ -1,4 +1,5 @@
 -- Zigzag, and what a number on the wire says of a value against an old one.
+-- ==== The rules
 use Prim.Native.Nat.{ℕ, suc, _*_, _-_, _/_, _%_}
 use mathlib.Core.Bool.{cond}
 use mathlib.Core.List.{List}

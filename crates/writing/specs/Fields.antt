@@ -1,4 +1,5 @@
 -- The set of moof fields in an object. 01: "The encoder writes them ascending".
+-- ==== The rules
 use Prim.Native.Nat.{ℕ, _+_}
 use mathlib.Core.Bool.{Bool, true, false, cond, not, _||_}
 use mathlib.Core.List.{List, [], _∷_}
@@ -30,7 +31,7 @@ module _ (t : Track) (delta : Bool) (r x : List ℕ) where
   goneOf (l ∷ ls) = cond (isDeleted (changeOf t delta r x l)) (l .id ∷ goneOf ls) (goneOf ls)
 
   -- 01: "Ids 10 and 14 always", in a full object; in a delta "Id 10 is absolute, written only if BMDT differs from the previous BMDT plus the previous effective
-  -- durations", and "Id 14 absent means same count."
+  -- durations", and "Id 14 absent means same count." (D67)
   unfoldable pub bmdtStands : Bool
   bmdtStands = not delta || not (eqb (getD x bmdtAt 0) (getD r bmdtAt 0 + durationsOf t r))
 

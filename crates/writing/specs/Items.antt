@@ -19,6 +19,8 @@ use Rattle.block.specs.Entries.{isSome}
 use Rattle.block.specs.Written.{Item, num, run, encBlock}
 use Rattle.writing.specs.declared.tuples.Weight.{Weight}
 
+-- ==== The rules
+
 abbrev pub Items : Type 0
 Items = Option (List Item)
 
@@ -61,7 +63,7 @@ listOf none = []
 abbrev pub bytesOf : List Row → Items → List ℕ
 bytesOf F is = encBlock F (listOf is)
 
--- ---- what the code does
+-- ==== What only mirrors the code
 
 -- a number that was made for the wire
 abbrev pub Made : List Row → Coded → Type 0
