@@ -4,16 +4,15 @@ use native.Mathlib.Omega.{arith}
 use mathlib.Core.Path.{_≡_, refl, ap}
 use mathlib.Core.Bool.{Bool, true, false, cond}
 use mathlib.Core.List.{List}
-use borrow.Author.Tests.{lt-ltb, le-ltb, le-leb, lt-leb, leb-true, not-true}
-use lib.Dec.{eqb, leb, ltb}
+use borrow.Author.Tests.{lt-ltb, le-ltb, le-leb, lt-leb, leb-true}
+use lib.Dec.{leb, ltb}
 use lib.ListN.{length, getD}
 use lib.Seq.{slice}
 use Rattle.laws.specs.Tests.{sum}
 use Rattle.laws.proofs.SliceLaws.{slice-none}
 use Rattle.laws.proofs.TestLaws.{sum-next}
 use Rattle.track.specs.declared.Track.{Track}
-use Rattle.fieldset.specs.Lines.{lines, lineFor}
-use Rattle.fieldset.specs.Lawful.{has, valuesOf, inUse}
+use Rattle.fieldset.specs.Lawful.{has, valuesOf}
 use Rattle.chunk.specs.Front.{countIn, valueAt, sizeOf}
 use Rattle.chunk.specs.Sizes.{lastSize, sizeBy}
 
@@ -42,13 +41,6 @@ module _ (w : List ℕ) (from to whole : ℕ) where
         omega (arith, h .same)
 
 -- ---- the size of the last sample, and of each by it
-
--- the words of id 1
-pub listed : (w : List ℕ) → 1 < countIn w → has 1 w ≡ true → valuesOf 1 (countIn w - 1) w ≡ slice 3 (2 + countIn w) w
-unfolding has valuesOf inUse lines lineFor
-listed w many h =
-    let e : 3 + (countIn w - 1) ≡ 2 + countIn w = omega arith in
-    rw (not-true (eqb (getD w 2 0) 0) h) (ap (λ (to : ℕ). slice 3 to w) e)
 
 module _ (t : Track) (w : List ℕ) (payload : ℕ) where
   same-false : ltb (countIn w - 1) (countIn w - 1) ≡ false

@@ -7,3 +7,4 @@ pub mod CopyLoop
 pub mod TidyLaws
 pub mod RuleLaws
 pub mod MarkLaws
+pub mod ValueLaws

@@ -20,6 +20,14 @@ use Rattle.fieldset.specs.Lines.{lines, placeOf, lineFor, lineNumber, wa
 unfoldable pub has : ℕ → List ℕ → Bool
 has id w = not (eqb (getD w (lineFor id lines .place) 0) 0)
 
+-- the value with the number i of a field that stands
+abbrev pub valueAt : ℕ → ℕ → List ℕ → ℕ
+valueAt id i w = getD w (lineFor id lines .place + 1 + i) 0
+
+-- how many samples there are
+abbrev pub countIn : List ℕ → ℕ
+countIn w = getD w countAt 0
+
 -- how many of a field's words are in use, by its mark
 unfoldable pub inUse : ℕ → ℕ → ℕ
 inUse mark k = cond (eqb mark 0) 0 k

@@ -1,5 +1,5 @@
-// Whether words are those of a lawful set: every call of the codec asks it of its share, so each word is read once, and words that must be 0
-// are folded together.
+// Whether words are those of a lawful set: every call of the codec asks it of its share, so words are folded together, those that must be 0 and those
+// that have a bound, and hardly one is read twice.
 ghost use mathlib.Core.Path.{_≡_};
 ghost use mathlib.Core.Bool.{true};
 ghost use Prim.Native.Nat.{_+_, _-_, _/_, _≤_};

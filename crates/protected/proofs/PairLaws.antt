@@ -1,64 +1,20 @@
 -- What the words of a set say of its IVs and of its subsample counts. Assumes nothing.
 use Prim.Native.Nat.{ℕ, zero, suc, _+_, _*_, _≤_, _<_}
-use native.Mathlib.Nat.{add-suc, not-suc-le-zero, le-of-suc-le-suc}
-use native.Mathlib.Numerals.{add-one}
+use native.Mathlib.Nat.{not-suc-le-zero, le-of-suc-le-suc}
 use native.Mathlib.Omega.{arith}
-use mathlib.Core.Path.{_≡_, refl, _∙_, ap}
-use mathlib.Core.Bool.{Bool, true, false, cond, not}
+use mathlib.Core.Path.{_≡_, refl, _∙_}
+use mathlib.Core.Bool.{Bool, true, false}
 use mathlib.Core.List.{List, [], _∷_}
-use borrow.Author.Tests.{leb-true, ne-eqb, not-true}
+use borrow.Author.Tests.{leb-true, not-true}
 use lib.Dec.{eqb}
 use lib.ListN.{length, getD, take}
-use lib.Seq.{slice, slice-cons, length-slice, getD-take, getD-drop}
-use Rattle.laws.specs.Tests.{sum}
-use Rattle.laws.proofs.SliceLaws.{slice-none}
+use lib.Seq.{slice, length-slice, getD-take, getD-drop}
 use Rattle.laws.proofs.TestLaws.{left, right}
 use Rattle.track.specs.declared.Track.{Track}
-use Rattle.fieldset.specs.Lines.{lines, lineFor, setLen}
+use Rattle.fieldset.specs.Lines.{lines, lineFor}
 use Rattle.fieldset.specs.Lawful.{has, inUse, valuesOf, saizOk}
 use Rattle.protected.specs.Protected.{valueAt, countIn, flagWhen, infoSize}
 use Rattle.protected.specs.Protection.{Protectable}
-
--- a field stands where its mark is not 0
-pub has-no : (id : ℕ) (w : List ℕ) → getD w (lineFor id lines .place) 0 ≡ 0 → has id w ≡ false
-unfolding has
-has-no id w e = rw e
-
-pub has-yes : (id : ℕ) (w : List ℕ) → (getD w (lineFor id lines .place) 0 ≡ 0 → ⊥) → has id w ≡ true
-unfolding has
-has-yes id w h = rw (ne-eqb _ _ h)
-
--- the subsamples of the samples from the number i up to n
-unfoldable pub pairsLeft : List ℕ → ℕ → ℕ → ℕ
-pairsLeft w n i = sum (slice (399 + i) (399 + inUse (getD w 398 0) n) w)
-
-pub pairs-all : (w : List ℕ) (n : ℕ) → pairsLeft w n 0 ≡ sum (valuesOf 11 n w)
-unfolding pairsLeft valuesOf lineFor lines
-pairs-all w n = refl
-
-used-le : (b : Bool) (n : ℕ) → cond b 0 n ≤ n
-used-le true n = omega arith
-used-le false n = omega arith
-
-pub pairs-end : (w : List ℕ) (n i : ℕ) → n ≤ i → pairsLeft w n i ≡ 0
-unfolding pairsLeft inUse sum
-pairs-end w n i h =
-    ap sum (slice-none (399 + i) (399 + cond (eqb (getD w 398 0) 0) 0 n) w (omega (arith, used-le (eqb (getD w 398 0) 0) n)))
-
-module _ (w : List ℕ) (n i : ℕ) (long : length w ≡ setLen) (few : n ≤ 64) (lt : i < n) where
-  next-of : (b : Bool) → sum (slice (399 + i) (399 + cond b 0 n) w) ≡ cond (not b) (getD w (399 + i) 0) 0 + sum (slice (suc (399 + i)) (399 + cond b 0 n) w)
-  unfolding sum
-  next-of true = rw (slice-none (399 + i) 399 w (omega arith), slice-none (suc (399 + i)) 399 w (omega arith))
-  next-of false = rw (slice-cons (399 + i) (399 + n) w 0 (omega arith) (omega arith))
-
-  -- those of the sample i, and those after it
-  pub pairs-next : pairsLeft w n i ≡ flagWhen (has 11 w) (valueAt 11 i w) + pairsLeft w n (suc i)
-  unfolding pairsLeft inUse has lineFor lines
-  pairs-next = next-of (eqb (getD w 398 0) 0) ∙ rw (← add-suc 399 i)
-
-  -- a loop that counts them: j before the sample i, and c in it
-  pub pairs-on : (j most : ℕ) {c : ℕ} → c ≡ flagWhen (has 11 w) (valueAt 11 i w) → j + pairsLeft w n i ≤ most → j + c + pairsLeft w n (i + 1) ≤ most
-  pairs-on j most e h = rw (add-one i) (omega (arith, pairs-next))
 
 saiz-at : (iv : ℕ) (xs : List ℕ) (i : ℕ) → saizOk iv xs ≡ true → i < length xs → iv + (2 + 6 * getD xs i 0) ≤ 255
 unfolding saizOk

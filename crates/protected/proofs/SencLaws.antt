@@ -17,7 +17,7 @@ use Rattle.boxes.specs.Box.{words}
 use Rattle.boxes.specs.Box as B
 use Rattle.boxes.proofs.BoxLaws.{length-fullBox, words-one, fullBox-head}
 use Rattle.protected.specs.Protected.{valueAt, countIn, flagWhen, when, ivBytes, subsamples, sencEntries, sencBox}
-use Rattle.protected.proofs.PairLaws.{pairsLeft, pairs-all, pairs-end, pairs-next}
+use Rattle.fieldset.proofs.ValueLaws.{pairsLeft, pairs-all, pairs-end, pairs-next}
 
 -- ---- the words of an IV, and subsamples
 

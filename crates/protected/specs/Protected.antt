@@ -1,23 +1,15 @@
--- The boxes of protected samples, written from the words of a lawful set, and how a field is read from those words.
+-- The boxes of protected samples, written from the words of a lawful set.
 -- ==== The rules
 use Prim.Native.Nat.{ℕ, zero, suc, _+_, _*_, _/_}
 use mathlib.Core.Bool.{Bool, true, false, cond, _||_}
 use mathlib.Core.List.{List, [], _∷_, _++_}
 use lib.Dec.{eqb}
-use lib.ListN.{getD}
 use Rattle.laws.specs.Bytes.{be}
 use Rattle.track.specs.declared.Track.{Track}
-use Rattle.fieldset.specs.Lines.{lines, lineFor, countAt}
 use Rattle.fieldset.specs.Lawful.{has}
+pub use Rattle.fieldset.specs.Lawful.{valueAt, countIn}
 use Rattle.boxes.specs.Box.{fullBox}
 use Rattle.boxes.specs.Box as B
-
--- the value with the number i of a field that stands
-abbrev pub valueAt : ℕ → ℕ → List ℕ → ℕ
-valueAt id i w = getD w (lineFor id lines .place + 1 + i) 0
-
-abbrev pub countIn : List ℕ → ℕ
-countIn w = getD w countAt 0
 
 -- bytes that stand where a field does, or where a test holds
 abbrev pub when : Bool → List ℕ → List ℕ

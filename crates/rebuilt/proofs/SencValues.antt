@@ -10,7 +10,7 @@ use Rattle.laws.specs.Tests.{sum}
 use Rattle.fieldset.specs.Lines.{lines, lineFor, setLen}
 use Rattle.fieldset.specs.Lawful.{has, valuesOf}
 use Rattle.protected.specs.Protected.{valueAt, flagWhen}
-use Rattle.protected.proofs.PairLaws.{pairsLeft, pairs-all, pairs-end, pairs-next}
+use Rattle.fieldset.proofs.ValueLaws.{pairsLeft, pairs-all, pairs-end, pairs-next}
 use Rattle.fragment.specs.Samples.{eachFrom}
 
 -- a field that stands: k values from the number i on

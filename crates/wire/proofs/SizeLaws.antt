@@ -59,6 +59,11 @@ pub limit-62 : (form : Form) → 2 ^ 62 ≤ limit (rows form)
 unfolding limit
 limit-62 Rfc9000 = omega arith
 
+-- and no others
+pub limit-most : (form : Form) → limit (rows form) ≤ 2 ^ 62
+unfolding limit
+limit-most Rfc9000 = omega arith
+
 -- a number that the form does not hold counts as the longest
 pub wide-size : (F : List Row) (z : ℕ) → fitted F z ≡ TooWide → sizeOf F z ≡ longest F
 wide-size F z e = size-past F z (past F z (fitted-wide F z e))

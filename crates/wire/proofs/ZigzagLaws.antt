@@ -173,6 +173,15 @@ unfolding reached
 reached-most Plain old bound z v e = ranged-most bound (pos z) v e
 reached-most Delta old bound z v e = ranged-most bound (pos old +ℤ unzigzag z) v e
 
+-- a number that stands for itself is the value
+pub plain-inv : (old bound z v : ℕ) → reached Plain old bound z ≡ To v → v ≡ z
+unfolding reached ranged
+plain-inv old bound z v e = go (leb z bound) e
+  where
+    go : (b : Bool) → cond b (To z) Outside ≡ To v → v ≡ z
+    go true d = let same : v ≡ z = cc in same
+    go false d = let y : _≡_ {A = ℕ} 0 1 = cc in absurd (omega arith)
+
 -- ---- a number that is written as it is
 
 module _ (F : List Row) (z : ℕ) where

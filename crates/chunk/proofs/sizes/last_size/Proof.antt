@@ -4,8 +4,9 @@ use native.Mathlib.Omega.{arith}
 use mathlib.Core.Path.{sym, _∙_}
 use Rattle.fieldset.specs.Lines.{lines, lineFor}
 use Rattle.fieldset.specs.Lawful.{has}
-use Rattle.protected.proofs.PairLaws.{has-no, has-yes}
-use Rattle.chunk.proofs.SizeLaws.{last-lone, last-rest, last-default, last-trex, listed}
+use Rattle.fieldset.proofs.ValueLaws.{has-no, has-yes}
+use Rattle.fieldset.proofs.ValueLaws.{listed}
+use Rattle.chunk.proofs.SizeLaws.{last-lone, last-rest, last-default, last-trex}
 use Rattle.chunk.proofs.sizes.last_size.Statement.{statement}
 use Rattle.chunk.proofs.sizes.last_size.Tie as tie
 

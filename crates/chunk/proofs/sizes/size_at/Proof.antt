@@ -1,7 +1,7 @@
 -- `chunk::sizes::size_at` meets its contract, case by case as `sizeBy` has them. Assumes nothing.
 use borrow.Author.Needs.{needs}
 use Rattle.fieldset.specs.Lines.{lines, lineFor}
-use Rattle.protected.proofs.PairLaws.{has-no, has-yes}
+use Rattle.fieldset.proofs.ValueLaws.{has-no, has-yes}
 use Rattle.chunk.proofs.SizeLaws.{size-same, size-listed, size-last}
 use Rattle.chunk.proofs.sizes.size_at.Statement.{statement}
 use Rattle.chunk.proofs.sizes.size_at.Tie as tie

@@ -2,7 +2,7 @@
 use borrow.Author.Needs.{needs}
 use native.Mathlib.Omega.{arith}
 use Rattle.fieldset.specs.Lines.{lines, lineFor}
-use Rattle.protected.proofs.PairLaws.{has-no, has-yes}
+use Rattle.fieldset.proofs.ValueLaws.{has-no, has-yes}
 use Rattle.protected.proofs.protection.iv_words.Statement.{statement}
 use Rattle.protected.proofs.protection.iv_words.Tie as tie
 

@@ -5,7 +5,7 @@ use native.Mathlib.Numerals.{add-one}
 use native.Mathlib.Omega.{arith}
 use mathlib.Core.Path.{_≡_}
 use Rattle.protected.specs.Protected.{countIn}
-use Rattle.protected.proofs.PairLaws.{pairsLeft, pairs-all, pairs-end, pairs-next}
+use Rattle.fieldset.proofs.ValueLaws.{pairsLeft, pairs-all, pairs-end, pairs-next}
 use Rattle.protected.proofs.protection.pairs.Statement.{statement}
 use Rattle.protected.proofs.protection.pairs.Tie as tie
 

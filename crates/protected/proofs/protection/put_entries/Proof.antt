@@ -7,7 +7,7 @@ use native.Mathlib.Omega.{arith}
 use Rattle.laws.proofs.WriteLaws.{then, wrote-length}
 use Rattle.laws.proofs.LeftLaws.{Left, left-all, left-room, left-less, left-none, left-same}
 use Rattle.protected.specs.Protected.{sencEntries, countIn}
-use Rattle.protected.proofs.PairLaws.{pairsLeft, pairs-all, pairs-on}
+use Rattle.fieldset.proofs.ValueLaws.{pairsLeft, pairs-all, pairs-on}
 use Rattle.protected.proofs.SencLaws.{iv-inside, entries-next, entries-room, entries-end}
 use Rattle.protected.proofs.protection.put_entries.Statement.{statement}
 use Rattle.protected.proofs.protection.put_entries.Tie as tie

@@ -4,7 +4,7 @@ use native.Mathlib.Omega.{arith}
 use Rattle.laws.specs.Bytes.{be}
 use Rattle.laws.proofs.WriteLaws.{then, wrote-none, wrote-length}
 use Rattle.fieldset.specs.Lines.{lines, lineFor}
-use Rattle.protected.proofs.PairLaws.{has-no, has-yes}
+use Rattle.fieldset.proofs.ValueLaws.{has-no, has-yes}
 use Rattle.protected.proofs.SencLaws.{map-room, subsamples-length}
 use Rattle.protected.proofs.protection.put_map.Statement.{statement}
 use Rattle.protected.proofs.protection.put_map.Tie as tie
