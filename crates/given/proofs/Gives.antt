@@ -1,6 +1,6 @@
 -- What a chunk that no rung refuses gives: all that an object is made of, with the maxima. Its set is canonical: what it says differs from what its absence
 -- means, and sizes and subsamples add up; so that the chunk that is built from it gives the same set again. Assumes nothing.
-use Prim.Native.Nat.{ℕ, _≤_}
+use Prim.Native.Nat.{ℕ, _-_, _^_, _≤_}
 use native.Mathlib.Omega.{arith}
 use mathlib.Core.Path.{_≡_, sym, _∙_, subst}
 use mathlib.Core.Bool.{true, not, _&&_}
@@ -9,17 +9,23 @@ use borrow.Author.Tests.{eqb-true, eqb-false, eq-eqb, leb-true, not-true, not-fa
 use lib.Dec.{eqb}
 use lib.ListN.{take, drop}
 use Rattle.laws.specs.Tests.{allLe}
+use Rattle.laws.specs.Ladder.{Hold}
 use Rattle.laws.proofs.BytesLaws.{bytes-are}
 use Rattle.laws.proofs.TestLaws.{both, allLe-append, low-take, low-drop, low-slice, both-of}
+use Rattle.wire.specs.declared.form.Row.{Row}
 use Rattle.track.specs.declared.Track.{Track}
+use Rattle.track.specs.Track.{ivOk}
 use Rattle.shape.specs.Parts.{bodyOf, endOf}
 use Rattle.fieldset.specs.Lawful.{has, lawful}
+use Rattle.sizes.specs.Told.{sizesAgree}
+use Rattle.sizes.proofs.SumLaws.{lawful-summable}
 use Rattle.protected.specs.Protected.{valueAt}
 use Rattle.prelude.proofs.PrftLaws.{prft-headed, prft-lacks, prft-ranges}
 use Rattle.gather.specs.Set.{run, size, equal, several, chunkSet}
 use Rattle.gather.proofs.SetSays.{Says, says-value}
 use Rattle.emsgs.specs.Records.{allSent, listBytes}
-use Rattle.accepted.specs.Accepted.{top, prft, boxes, bytesAt, brandsOf, brands, payload, events, fields, inner}
+use Rattle.object.proofs.AgreeLaws.{sums-kept}
+use Rattle.accepted.specs.Accepted.{top, bmdt, prft, boxes, bytesAt, brandsOf, brands, payload, events, fields, inner, acceptRungs}
 use Rattle.accepted.proofs.LawfulSet.{chunk-lawful}
 use Rattle.accepted.proofs.ChunkFacts.{Facts, chunk-facts, brands-few, events-few, list-few, fields-bmdt, payload-length}
 use Rattle.accepted.proofs.SetKeeps.{sizeSaid}
@@ -80,6 +86,16 @@ prft-given t c a =
       version = r .0;
       flags = omega (arith, prft-headed c (top c .prft) (a .hold .prft-ok) .flags);
     }
+
+-- the words of its set agree as far as they tell
+pub chunk-agrees : (G : List Row) (t : Track) (c : List ℕ) → allLe 255 c ≡ true → ivOk (t .protection) (t .«iv_size») ≡ true → Hold (acceptRungs G t c)
+    → bmdt c ≤ 2 ^ 62 - 1 → sizesAgree t (fields t c) ≡ true
+unfolding fields
+chunk-agrees G t c low iv h b =
+    let a : Facts t c = chunk-facts G t c h low iv in
+    let w : List ℕ = chunkSet t c (inner c) in
+    sums-kept t w (bodyOf (top c .mdat) .len) (lawful-summable t w (a .said .long) (chunk-lawful G t c low iv h b)) (omega (arith, a .few .payload))
+    (sizes-hold (chunk-sized t c a)) (sums-hold t c a)
 
 -- all of it, part by part
 pub chunk-gives : ChunkGives

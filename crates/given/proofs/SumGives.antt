@@ -15,7 +15,8 @@ use Rattle.track.specs.declared.Track.{Track}
 use Rattle.shape.specs.Parts.{bodyOf}
 use Rattle.fieldset.specs.Lawful.{has}
 use Rattle.protected.specs.Protected.{valueAt}
-use Rattle.object.specs.Sums.{bytesOf, samplesOk, protectedOk}
+use Rattle.sizes.specs.Sums.{bytesOf}
+use Rattle.object.specs.Sums.{samplesOk, protectedOk}
 use Rattle.fragment.specs.declared.rows.Run.{Run}
 use Rattle.fragment.specs.Rows.{sizeAt}
 use Rattle.fragment.specs.Samples.{eachFrom}

@@ -17,7 +17,7 @@ use Rattle.fieldset.specs.Lawful.{has, valuesOf, inUse}
 use Rattle.chunk.specs.Front.{valueAt, countIn}
 use Rattle.fields.specs.Said.{scalarIn}
 use Rattle.object.specs.Bmdt.{durationsOf, bmdtOf, Timed}
-use Rattle.object.proofs.SumLaws.{part-most}
+use Rattle.sizes.proofs.SumLaws.{part-most}
 
 -- the words of id 3
 durations-are : (r : List ℕ) → has 3 r ≡ true → valuesOf 3 (countIn r) r ≡ slice 69 (69 + countIn r) r

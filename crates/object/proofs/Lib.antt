@@ -4,5 +4,7 @@ pub mod BmdtLaws
 pub mod PrftLaws
 pub mod EventLaws
 pub mod SumLaws
+pub mod SizesAdd
+pub mod AgreeLaws
 pub mod ObjectLaws
 pub mod ValueLaws

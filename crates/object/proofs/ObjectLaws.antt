@@ -1,6 +1,6 @@
 -- Laws of the parts of an object, for whoever calls them: when a reference is timed, on what a `prft` and the test of ids rest, and what is
 -- known of a `prft` that was told. Assumes nothing.
-use Prim.Native.Nat.{ℕ, _-_, _^_, _≤_, zero-le}
+use Prim.Native.Nat.{ℕ, _-_, _%_, _^_, _≤_, zero-le}
 use native.Mathlib.Omega.{arith}
 use mathlib.Core.Path.{_≡_, refl, sym, _∙_}
 use mathlib.Core.Logic.{_⊎_, inl, inr, ⊎-elim}
@@ -19,7 +19,7 @@ use Rattle.wire.specs.declared.zigzag.Coding.the-variants.{Plain, Delta}
 use Rattle.wire.specs.declared.zigzag.Reached.{Reached}
 use Rattle.wire.specs.declared.zigzag.Reached.the-variants.{To, Outside}
 use Rattle.wire.specs.Zigzag.{onReached}
-use Rattle.wire.proofs.ZigzagLaws.{reached-most}
+use Rattle.wire.proofs.ZigzagLaws.{reached-most, plain-inv}
 use Rattle.track.specs.declared.Track.{Track}
 use Rattle.fieldset.specs.Lines.{lines, lineFor, setLen}
 use Rattle.fieldset.specs.Lawful.{lawful}
@@ -33,7 +33,7 @@ use Rattle.object.specs.declared.prft.Told.{Told}
 use Rattle.object.specs.Ids.{idsOk}
 use Rattle.object.specs.Bmdt.{bmdtOf, Timed}
 use Rattle.object.specs.Prft.{numberOf, numberFor, told, noPrft, mediaMost, timesOf, prftOf}
-use Rattle.object.proofs.SumLaws.{bounded}
+use Rattle.sizes.proofs.SumLaws.{bounded}
 use Rattle.object.proofs.PrftLaws.{prft-none, prft-some}
 
 -- ---- the base media decode time
@@ -201,12 +201,33 @@ prft-headed delta says s a b e =
     })
     (prft-made delta says s e)
 
--- the share that keeps a full object's `prft` stays lawful
-pub prft-lawful : (says : Says) (s : List ℕ) → prftOf false says s .ok ≡ true
-    → let p = prftOf false says s .prft in
+-- a number of a full object is the one that is sent, or 0
+number-sent : (says : Says) (id share bound most v : ℕ) → ((z : ℕ) (zs : List ℕ) → says id ≡ some (z ∷ zs) → z ≤ most)
+    → numberFor false says id share 0 bound ≡ To v → v ≤ most
+unfolding numberFor numberOf
+number-sent says id share bound most v h e = go (says id) refl e
+  where
+    go : (o : Option (List ℕ)) → says id ≡ o → numberOf Plain o 0 bound ≡ To v → v ≤ most
+    go none q d = let same : 0 ≡ v = cc in omega arith
+    go (some []) q d = let same : 0 ≡ v = cc in omega arith
+    go (some (z ∷ zs)) q d = omega (arith, h z zs q, plain-inv 0 bound z v d)
+
+-- a `prft` in the ranges that a share keeps, or none
+abbrev pub InRange : Prft → Type 0
+InRange p =
     (p .stands ≡ false → (p .ntp .0 ≡ 0) × (p .media .0 ≡ 0) × (p .version ≡ 0) × (p .flags ≡ 0))
-    × (p .stands ≡ true → (p .version ≤ 1) × ((p .version ≡ 1) ⊎ (p .media .0 ≤ 0xffff_ffff)) × (p .flags ≤ 0xff_ffff))
-prft-lawful says s e = go (prftOf false says s .prft) (prft-made false says s e)
+    × (p .stands ≡ true
+    → (p .version ≤ 1)
+    × ((p .version ≡ 1) ⊎ (p .media .0 ≤ 0xffff_ffff))
+    × (p .flags ≤ 0xff_ffff)
+    × (p .ntp .0 ≤ 2 ^ 62 - 1)
+    × (p .media .0 ≤ 2 ^ 62 - 1))
+
+-- the share that keeps a full object's `prft` stays lawful, if no number in it passes 62 bits
+pub prft-lawful : (says : Says) (s : List ℕ) → ((id z : ℕ) (zs : List ℕ) → id % 2 ≡ 0 → says id ≡ some (z ∷ zs) → z ≤ 2 ^ 62 - 1)
+    → prftOf false says s .ok ≡ true
+    → InRange (prftOf false says s .prft)
+prft-lawful says s small e = go (prftOf false says s .prft) (prft-made false says s e)
   where
     media-most : (version media : ℕ) → version ≤ 1 → (b : Bool) → eqb version 0 ≡ b → media ≤ cond b (2 ^ 32 - 1) (2 ^ 64 - 1)
         → (version ≡ 1) ⊎ (media ≤ 0xffff_ffff)
@@ -214,13 +235,16 @@ prft-lawful says s e = go (prftOf false says s .prft) (prft-made false says s e)
     media-most version media h false q le = let n : version ≡ 0 → ⊥ = eqb-false _ _ q in inl (omega arith)
 
     go : (p : Prft) → (p ≡ noPrft true .prft) ⊎ Made false says s p
-        → (p .stands ≡ false → (p .ntp .0 ≡ 0) × (p .media .0 ≡ 0) × (p .version ≡ 0) × (p .flags ≡ 0))
-        × (p .stands ≡ true → (p .version ≤ 1) × ((p .version ≡ 1) ⊎ (p .media .0 ≤ 0xffff_ffff)) × (p .flags ≤ 0xff_ffff))
-    go p (inl q) = rw q ((λ d. (refl, refl, refl, refl)), (λ d. (zero-le, inr zero-le, zero-le)))
+        → InRange p
+    go p (inl q) = rw q ((λ d. (refl, refl, refl, refl)), (λ d. (zero-le, inr zero-le, zero-le, zero-le, zero-le)))
     go p (inr m) =
         let v : p .version ≤ 1 = number-for-most false says 22 (getD s versionAt 0) 1 1 (p .version) (λ d. absurd (false≢true d)) (omega arith) (m .version) in
         let f : p .flags ≤ 2 ^ 24 - 1 =
         number-for-most false says 24 (getD s prftFlagsAt 0) 0 (2 ^ 24 - 1) (p .flags) (λ d. absurd (false≢true d)) zero-le (m .flags) in
         let t : p .media .0 ≤ mediaMost (p .version) =
         number-for-most false says 20 (getD s mediaTimeAt 0) 0 (mediaMost (p .version)) (p .media .0) (λ d. absurd (false≢true d)) zero-le (m .media) in
-        ((λ d. absurd (false≢true (sym d ∙ m .stands))), (λ d. (v, media-most (p .version) (p .media .0) v (eqb (p .version) 0) refl t, omega arith)))
+        let n : p .ntp .0 ≤ 2 ^ 62 - 1 =
+        number-sent says 18 (getD s ntpAt 0) (2 ^ 64 - 1) (2 ^ 62 - 1) (p .ntp .0) (λ z zs. small 18 z zs refl) (m .ntp) in
+        let u : p .media .0 ≤ 2 ^ 62 - 1 =
+        number-sent says 20 (getD s mediaTimeAt 0) (mediaMost (p .version)) (2 ^ 62 - 1) (p .media .0) (λ z zs. small 20 z zs refl) (m .media) in
+        ((λ d. absurd (false≢true (sym d ∙ m .stands))), (λ d. (v, media-most (p .version) (p .media .0) v (eqb (p .version) 0) refl t, omega arith, n, u)))

@@ -1,6 +1,5 @@
 -- Laws of the sums that an object's sizes and protected bytes are tested by. Assumes nothing.
-use Prim.Native.Nat.{ℕ, zero, suc, _+_, _-_, _*_, _^_, _≤_, _<_}
-use native.Mathlib.Nat.{mul-le-mul-right}
+use Prim.Native.Nat.{ℕ, zero, suc, _+_, _-_, _*_, _≤_, _<_}
 use native.Mathlib.Numerals.{add-one}
 use native.Mathlib.Omega.{arith}
 use mathlib.Core.Path.{_≡_, refl, sym, _∙_, ap}
@@ -8,103 +7,22 @@ use mathlib.Core.Bool.{Bool, true, false, cond, _&&_}
 use mathlib.Core.List.{List}
 use borrow.Author.Tests.{eq-eqb, ne-eqb, eqb-true, leb-true, not-false}
 use lib.Dec.{eqb, leb}
-use lib.ListN.{length, getD}
-use lib.Seq.{slice, length-slice}
-use Rattle.laws.specs.Tests.{_and_, allLe, sum}
-use Rattle.laws.proofs.SliceLaws.{slice-none, slice-join}
-use Rattle.laws.proofs.TestLaws.{both, and-next, and-end, allLe-append, zeros-le, sum-append, sum-most, sum-next}
+use lib.ListN.{getD}
+use lib.Seq.{slice}
+use Rattle.laws.specs.Tests.{_and_, sum}
+use Rattle.laws.proofs.SliceLaws.{slice-none}
+use Rattle.laws.proofs.TestLaws.{and-next, and-end}
 use Rattle.track.specs.declared.Track.{Track}
-use Rattle.fieldset.specs.Lines.{lines, lineFor, setLen}
-use Rattle.fieldset.specs.declared.lines.Line.{Line}
-use Rattle.fieldset.specs.declared.lines.Measure.{Measure}
-use Rattle.fieldset.specs.Lawful.{has, valuesOf, inUse, lawful}
-use Rattle.fieldset.proofs.LawfulLaws.{usedOf, Region, lawful-facts, lawful-region}
+use Rattle.fieldset.specs.Lines.{lines, lineFor}
+use Rattle.fieldset.specs.Lawful.{has, valuesOf, inUse}
 use Rattle.chunk.specs.Front.{valueAt, countIn}
 use Rattle.chunk.specs.Sizes.{lastSize, sizeBy}
 use Rattle.chunk.specs.Writable.{Sized}
-use Rattle.protected.proofs.PairLaws.{pairsLeft, pairs-all, pairs-on}
-use Rattle.chunk.proofs.SizeLaws.{listed, size-by}
-use Rattle.object.specs.Sums.{sizesOk, bytesOf, samplesOk, protectedOk, Summable}
-
--- ---- words added up
-
--- the words before i are added up, and what is left of them
-pub record Adding (w : List ℕ) (from to n i : ℕ) : Type 0 where
-  pub inside : to ≤ length w
-  pub small : sum (slice from to w) < 2 ^ 64
-  pub left : n + sum (slice i to w) ≡ sum (slice from to w)
-
-module _ (w : List ℕ) (from to : ℕ) where
-  pub add-start : to ≤ length w → sum (slice from to w) < 2 ^ 64 → Adding w from to 0 from
-  add-start a b = record { inside = a; small = b; left = omega arith }
-
-  module _ (n i : ℕ) (h : Adding w from to n i) where
-    pub add-fits : i < to → n + getD w i 0 < 2 ^ 64
-    add-fits lt = omega (arith, sum-next w i to lt (h .inside), h .left, h .small)
-
-    pub add-more : i < to → Adding w from to (n + getD w i 0) (i + 1)
-    add-more lt = record { inside = h .inside; small = h .small; left = omega (arith, sum-next w i to lt (h .inside), h .left) }
-
-    pub add-end : to ≤ i → n ≡ sum (slice from to w)
-    unfolding sum
-    add-end le = let z : sum (slice i to w) ≡ 0 = ap sum (slice-none i to w le) in omega (arith, h .left)
-
--- ---- how large sums are
-
--- a part of words that keep a bound
-pub part-most : (b f t p q : ℕ) (w : List ℕ) → allLe b (slice f t w) ≡ true → t ≤ length w → f ≤ p → p ≤ q → q ≤ t → sum (slice p q w) ≤ (t - f) * b
-part-most b f t p q w e l x y z =
-    let u : sum (slice f t w) ≡ sum (slice f p w) + sum (slice p t w) = ap sum (slice-join f p t w x (omega arith) l) ∙ sum-append (slice f p w) (slice p t w) in
-    let v : sum (slice p t w) ≡ sum (slice p q w) + sum (slice q t w) = ap sum (slice-join p q t w y z l) ∙ sum-append (slice p q w) (slice q t w) in
-    let m : sum (slice f t w) ≤ (t - f) * b = rw (length-slice f t w l) at (sum-most b (slice f t w) e) in
-    omega (arith, u, v, m)
-
--- as many samples of one size
-pub product-small : (n v : ℕ) → n ≤ 64 → v ≤ 0xffff_ffff → n * v < 2 ^ 64
-product-small n v a b = omega (arith, mul-le-mul-right v a)
-
-module _ {w : List ℕ} (s : Summable w) where
-  pub sizes-small : 1 < countIn w → sum (slice 3 (2 + countIn w) w) < 2 ^ 64
-  unfolding lines lineFor
-  sizes-small h = omega (arith, part-most 0xffff_ffff 3 66 3 (2 + countIn w) w (s .sizes) (omega (arith, s .words)) (omega arith) (omega arith) (omega (arith, s .few)))
-
-  pub size-small : getD w 201 0 ≤ 0xffff_ffff
-  unfolding lines lineFor
-  size-small =
-      let l : 202 ≤ length w = omega (arith, s .words) in
-      omega (arith, part-most 0xffff_ffff 201 202 201 202 w (s .size) l (omega arith) (omega arith) (omega arith), sum-next w 201 202 (omega arith) l)
-
-  module _ (j k : ℕ) (h : j + k ≤ 256) where
-    pub clear-small : sum (slice (466 + j) (466 + j + k) w) ≤ 16776960
-    unfolding lines lineFor
-    clear-small = omega (arith, part-most 0xffff 466 722 (466 + j) (466 + j + k) w (s .clear) (omega (arith, s .words)) (omega arith) (omega arith) (omega arith))
-
-    pub protected-small : sum (slice (723 + j) (723 + j + k) w) ≤ 1099511627520
-    unfolding lines lineFor
-    protected-small = omega (arith, part-most 0xffff_ffff 723 979 (723 + j) (723 + j + k) w (s .protected) (omega (arith, s .words)) (omega arith) (omega arith) (omega arith))
-
--- all words that a lawful region has room for keep its bound
-pub bounded : (m : Measure) (l : Line) (w : List ℕ) → Region m l w → l .place + 1 + l .room ≤ length w
-    → allLe (l .bound) (slice (l .place + 1) (l .place + 1 + l .room) w) ≡ true
-bounded m l w r h =
-    let f : ℕ = l .place + 1 in
-    let u : ℕ = usedOf m l w in
-    rw (slice-join f (f + u) (f + l .room) w (omega arith) (omega (arith, r .room)) h, allLe-append)
-    (both _ _ (r .values) (zeros-le (l .bound) _ (r .rest)))
-
--- a lawful set has such sums
-pub lawful-summable : (t : Track) (w : List ℕ) → length w ≡ setLen → lawful t w ≡ true → Summable w
-unfolding lines lineFor
-lawful-summable t w n e =
-    record {
-      words = n;
-      few = lawful-facts t w e .count;
-      sizes = bounded _ _ w (lawful-region t w 0 e (omega arith)) (omega (arith, n));
-      size = bounded _ _ w (lawful-region t w 5 e (omega arith)) (omega (arith, n));
-      subsamples = lawful-facts t w e .subsamples;
-      clear = bounded _ _ w (lawful-region t w 11 e (omega arith)) (omega (arith, n));
-      protected = bounded _ _ w (lawful-region t w 12 e (omega arith)) (omega (arith, n));
-    }
+use Rattle.fieldset.proofs.ValueLaws.{pairsLeft, pairs-all, pairs-on}
+use Rattle.fieldset.proofs.ValueLaws.{listed}
+use Rattle.chunk.proofs.SizeLaws.{size-by}
+use Rattle.sizes.specs.Sums.{pairBytes, Summable}
+use Rattle.object.specs.Sums.{sizesOk, samplesOk, protectedOk}
 
 -- ---- sizes against the payload
 
@@ -166,16 +84,11 @@ module _ (t : Track) (w : List ℕ) (payload : ℕ) where
 
 -- ---- protected bytes against the sizes
 
-pub sample-is : (w : List ℕ) (j k size a b : ℕ) → a ≡ sum (slice (466 + j) (466 + j + k) w) → b ≡ sum (slice (723 + j) (723 + j + k) w)
-    → eqb (a + b) size ≡ eqb (bytesOf 13 w j k + bytesOf 15 w j k) size
-unfolding bytesOf lines lineFor
-sample-is w j k size a b x y = rw (x, y)
-
 -- the samples by the last size, which code works out once
 unfoldable pub matched : List ℕ → ℕ → ℕ → ℕ → ℕ → Bool
 matched w last zero i j = true
 matched w last (suc k) i j =
-    eqb (bytesOf 13 w j (valueAt 11 i w) + bytesOf 15 w j (valueAt 11 i w)) (sizeBy w last i) and matched w last k (suc i) (j + valueAt 11 i w)
+    eqb (pairBytes w j (valueAt 11 i w)) (sizeBy w last i) and matched w last k (suc i) (j + valueAt 11 i w)
 
 matched-is : (t : Track) (w : List ℕ) (payload k i j : ℕ) → samplesOk t w payload k i j ≡ matched w (lastSize t w payload) k i j
 unfolding samplesOk matched
@@ -207,16 +120,15 @@ module _ {w : List ℕ} (s : Summable w) (last : ℕ) where
     pub match-fits : j + valueAt 11 i w ≤ 256
     match-fits = omega (arith, counts)
 
-    pub match-next : (size : ℕ) → size ≡ sizeBy w last i
-        → (r : Bool) → r ≡ eqb (bytesOf 13 w j (valueAt 11 i w) + bytesOf 15 w j (valueAt 11 i w)) size
-        → Matching w (countIn w) last (ok && r) (j + valueAt 11 i w) (i + 1)
+    pub match-next : (bytes : ℕ) → bytes ≡ pairBytes w j (valueAt 11 i w) → (size : ℕ) → size ≡ sizeBy w last i
+        → Matching w (countIn w) last (ok && eqb bytes size) (j + valueAt 11 i w) (i + 1)
     unfolding matched
-    match-next size z r d =
+    match-next bytes d size z =
         let n : countIn w - i ≡ suc (countIn w - suc i) = omega arith in
         record {
           place = omega arith;
           pairs = counts;
-          rest = and-next ok r _ ∙ rw (d, z, add-one i) (rw n at (h .rest));
+          rest = and-next ok (eqb bytes size) _ ∙ rw (d, z, add-one i) (rw n at (h .rest));
         }
 
 module _ (t : Track) (w : List ℕ) (payload : ℕ) where

@@ -10,7 +10,7 @@ use Rattle.track.specs.declared.Track.{Track}
 use Rattle.fieldset.specs.Lines.{bmdtAt, setLen}
 use Rattle.fieldset.specs.Lawful.{has, valuesOf}
 use Rattle.chunk.specs.Front.{valueAt, countIn}
-use Rattle.object.specs.Sums.{Bounded}
+use Rattle.sizes.specs.Sums.{Bounded}
 
 -- ==== The rules
 

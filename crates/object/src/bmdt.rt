@@ -15,7 +15,7 @@ pub fn durations(t: Track, r: &[u64]) -> u64
     let n = r[lines::COUNT];
     if r[lines::DURATIONS] != 0 {
         let from = lines::DURATIONS + 1;
-        return crate::sums::add_up(r, from, from + n as usize);
+        return sizes::sums::add_up(r, from, from + n as usize);
     }
     if r[lines::DURATION] != 0 {
         return n * r[lines::DURATION + 1];

@@ -1,28 +1,13 @@
 // Sizes against the payload, and protected bytes against the sizes.
 ghost use mathlib.Core.Path.{_≡_};
 ghost use mathlib.Core.Bool.{true};
-ghost use Prim.Native.Nat.{_+_, _^_, _≤_, _<_};
-ghost use lib.Dec.{eqb};
-ghost use lib.ListN.{length};
-ghost use lib.Seq.{slice};
-ghost use Rattle.laws.specs.Tests.{sum};
-ghost use Rattle.object.specs.Sums.{sizesOk, bytesOf, protectedOk, Summable};
+ghost use Prim.Native.Nat.{_+_, _≤_, _<_};
+ghost use Rattle.sizes.specs.Sums.{Summable};
+ghost use Rattle.object.specs.Sums.{sizesOk, protectedOk};
 use fieldset::lines;
+use sizes::sums::add_up;
+use sizes::sums::pair_bytes;
 use track::Track;
-
-// The sum of the words from a place up to another.
-pub fn add_up(w: &[u64], from: usize, to: usize) -> u64
-    requires { ⌜ (to ≤ length (now w)) × (sum (slice from to (now w)) < 2 ^ 64) ⌝ }
-    ensures { λ r. ⌜ r ≡ sum (slice from to (now (w .entry))) ⌝ }
-{
-    let mut sum = 0;
-    let mut i = from;
-    while i < to {
-        sum += w[i];
-        i += 1;
-    }
-    sum
-}
 
 // Whether the sizes of the samples add up to the payload.
 pub fn sizes_ok(t: Track, w: &[u64], payload: u64) -> bool
@@ -45,17 +30,6 @@ pub fn sizes_ok(t: Track, w: &[u64], payload: u64) -> bool
     n * t.size as u64 == payload
 }
 
-// Whether the clear and protected bytes of k subsamples from the number j on are `size`.
-fn sample_ok(w: &[u64], j: usize, k: usize, size: u64) -> bool
-    requires { ⌜ Summable (now w) ⌝ }
-    requires { ⌜ j + k ≤ 256 ⌝ }
-    ensures { λ r. ⌜ r ≡ eqb (bytesOf 13 (now (w .entry)) j k + bytesOf 15 (now (w .entry)) j k) size ⌝ }
-{
-    let a = lines::CLEAR + 1 + j;
-    let b = lines::PROTECTED + 1 + j;
-    add_up(w, a, a + k) + add_up(w, b, b + k) == size
-}
-
 // Whether the protected sums are the sizes, once the sizes are known to add up.
 pub fn protected_ok(t: Track, w: &[u64], payload: u64) -> bool
     requires { ⌜ Summable (now w) ⌝ }
@@ -72,7 +46,7 @@ pub fn protected_ok(t: Track, w: &[u64], payload: u64) -> bool
     let mut i = 0;
     while i < n {
         let k = w[lines::SUBSAMPLES + 1 + i] as usize;
-        ok = ok & sample_ok(w, j, k, chunk::sizes::size_at(w, last, i));
+        ok = ok & (pair_bytes(w, j, k) == chunk::sizes::size_at(w, last, i));
         j += k;
         i += 1;
     }

@@ -22,7 +22,8 @@ use Rattle.fragment.specs.Rows.{sizeAt}
 use Rattle.encryption.specs.declared.entries.Entries.{Entries}
 use Rattle.encryption.specs.Entries.{mapLength, pairsAt, lengthAt, entriesOf}
 use Rattle.encryption.specs.Sizes.{infoSize as infoAt}
-use Rattle.object.specs.Sums.{bytesOf, samplesOk, protectedOk}
+use Rattle.sizes.specs.Sums.{bytesOf}
+use Rattle.object.specs.Sums.{samplesOk, protectedOk}
 use Rattle.given.proofs.SumGives.{pairs-split}
 use Rattle.rules.specs.Rules.{pairsSum, entryOk, entriesOk}
 use Rattle.rebuilt.proofs.SencBack.{pairs-is, left-next}

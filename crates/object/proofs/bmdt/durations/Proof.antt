@@ -3,7 +3,7 @@ use borrow.Author.Needs.{needs}
 use native.Mathlib.Omega.{arith}
 use lib.ListN.{getD}
 use Rattle.fieldset.specs.Lines.{lines, lineFor}
-use Rattle.protected.proofs.PairLaws.{has-no, has-yes}
+use Rattle.fieldset.proofs.ValueLaws.{has-no, has-yes}
 use Rattle.object.proofs.BmdtLaws.{durations-small, duration-small, product-most, durations-listed, durations-default, durations-trex}
 use Rattle.object.proofs.bmdt.durations.Statement.{statement}
 use Rattle.object.proofs.bmdt.durations.Tie as tie

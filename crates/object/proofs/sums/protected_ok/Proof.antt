@@ -3,7 +3,7 @@ use borrow.Author.Needs.{needs}
 use Prim.Native.Nat.{_-_}
 use native.Mathlib.Omega.{arith}
 use Rattle.fieldset.specs.Lines.{lines, lineFor}
-use Rattle.protected.proofs.PairLaws.{has-no, has-yes}
+use Rattle.fieldset.proofs.ValueLaws.{has-no, has-yes}
 use Rattle.object.proofs.SumLaws.{sizes-sized, Matching, match-start, match-fits, match-next, match-end, match-none}
 use Rattle.object.proofs.sums.protected_ok.Statement.{statement}
 use Rattle.object.proofs.sums.protected_ok.Tie as tie
@@ -44,14 +44,14 @@ mul-k c = search needs
 shared-slice-read-k : tie.Need-shared-slice-read-k Inv-loop μ-loop
 shared-slice-read-k c = search needs
 
+pair-bytes-requires : tie.Need-pair-bytes-requires Inv-loop μ-loop
+unfolding lines lineFor
+pair-bytes-requires c κs =
+    let s = c .before .before .before .before .before .before .before .before .pre .0 in
+    (s, match-fits s _ (has-yes 11 _ (c .before .before .before .before .before .if1 .left)) _ _ _ (c .before .before .loop .inv) (c .before .loop-test .taken))
+
 size-at-requires : tie.Need-size-at-requires Inv-loop μ-loop
 size-at-requires c κs = search needs
-
-sample-ok-requires : tie.Need-sample-ok-requires Inv-loop μ-loop
-unfolding lines lineFor
-sample-ok-requires c κs =
-    let s = c .before .before .before .before .before .before .before .before .before .pre .0 in
-    (s, match-fits s _ (has-yes 11 _ (c .before .before .before .before .before .before .if1 .left)) _ _ _ (c .before .before .before .loop .inv) (c .before .before .loop-test .taken))
 
 add-j : tie.Need-add-j Inv-loop μ-loop
 unfolding lines lineFor
@@ -70,7 +70,7 @@ unfolding lines lineFor
 loop-again c =
     let s = c .before .before .before .before .before .before .before .before .before .before .pre .0 in
     match-next s _ (has-yes 11 _ (c .before .before .before .before .before .before .before .if1 .left)) _ _ _ (c .before .before .before .before .loop .inv) (c .before .before .before .loop-test .taken)
-    _ (c .before .size-at .ensures) _ (c .sample-ok .ensures)
+    _ (c .before .pair-bytes .ensures .0) _ (c .size-at .ensures)
 
 returns-2 : tie.Need-returns-2 Inv-loop μ-loop
 unfolding lines lineFor
@@ -92,8 +92,8 @@ protected-ok-spec =
     add-k-2
     mul-k
     shared-slice-read-k
+    pair-bytes-requires
     size-at-requires
-    sample-ok-requires
     add-j
     add-i
     loop-less

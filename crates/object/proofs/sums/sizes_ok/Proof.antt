@@ -3,8 +3,9 @@ use borrow.Author.Needs.{needs}
 use native.Mathlib.Omega.{arith}
 use lib.ListN.{getD}
 use Rattle.fieldset.specs.Lines.{lines, lineFor}
-use Rattle.protected.proofs.PairLaws.{has-no, has-yes}
-use Rattle.object.proofs.SumLaws.{sizes-small, size-small, product-small, sizes-none, sizes-lone, sizes-listed, sizes-default, sizes-trex}
+use Rattle.fieldset.proofs.ValueLaws.{has-no, has-yes}
+use Rattle.sizes.proofs.SumLaws.{sizes-small, size-small, product-small}
+use Rattle.object.proofs.SumLaws.{sizes-none, sizes-lone, sizes-listed, sizes-default, sizes-trex}
 use Rattle.object.proofs.sums.sizes_ok.Statement.{statement}
 use Rattle.object.proofs.sums.sizes_ok.Tie as tie
 

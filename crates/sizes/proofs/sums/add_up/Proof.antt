@@ -1,10 +1,10 @@
--- `object::sums::add_up` meets its contract, by what is left to add from the loop's place on. Assumes nothing.
+-- `sizes::sums::add_up` meets its contract, by what is left to add from the loop's place on. Assumes nothing.
 use borrow.Author.Needs.{needs}
 use Prim.Native.Nat.{_-_}
 use native.Mathlib.Omega.{arith}
-use Rattle.object.proofs.SumLaws.{Adding, add-start, add-fits, add-more, add-end}
-use Rattle.object.proofs.sums.add_up.Statement.{statement}
-use Rattle.object.proofs.sums.add_up.Tie as tie
+use Rattle.sizes.proofs.SumLaws.{Adding, add-start, add-fits, add-more, add-end}
+use Rattle.sizes.proofs.sums.add_up.Statement.{statement}
+use Rattle.sizes.proofs.sums.add_up.Tie as tie
 
 abbrev Inv-loop : tie.InvT-loop
 Inv-loop w from to sum₀ i₀ sum i = Adding w from to sum i

@@ -1,9 +1,9 @@
--- `object::sums::sample_ok` meets its contract, by the bounds of the words that it adds up. Assumes nothing.
+-- `sizes::sums::pair_bytes` meets its contract, by the bounds of the words that it adds up. Assumes nothing.
 use borrow.Author.Needs.{needs}
 use native.Mathlib.Omega.{arith}
-use Rattle.object.proofs.SumLaws.{clear-small, protected-small, sample-is}
-use Rattle.object.proofs.sums.sample_ok.Statement.{statement}
-use Rattle.object.proofs.sums.sample_ok.Tie as tie
+use Rattle.sizes.proofs.SumLaws.{clear-small, protected-small, pairs-are}
+use Rattle.sizes.proofs.sums.pair_bytes.Statement.{statement}
+use Rattle.sizes.proofs.sums.pair_bytes.Tie as tie
 
 add-a : tie.Need-add-a
 add-a c = search needs
@@ -39,10 +39,12 @@ add-result c =
     omega (arith, clear-small (s .0) _ _ (s .1), protected-small (s .0) _ _ (s .1), c .add-up2 .ensures, c .before .add-up .ensures)
 
 returns : tie.Need-returns
-returns c = sample-is _ _ _ _ _ _ (c .before .add-up .ensures) (c .add-up2 .ensures)
+returns c =
+    let s = c .before .before .before .pre in
+    pairs-are (s .0) _ _ (s .1) _ _ (c .before .add-up .ensures) (c .add-up2 .ensures)
 
-pub sample-ok-spec : {M : Type 1} → statement M
-sample-ok-spec =
+pub pair-bytes-spec : {M : Type 1} → statement M
+pair-bytes-spec =
     tie.close
     (tie.spec
     add-a
