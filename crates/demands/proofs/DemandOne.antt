@@ -23,6 +23,7 @@ use Rattle.encoder.specs.Laws.{Refused as Kept}
 use Rattle.encoder.proofs.Theorems.{encode-refuses}
 use Rattle.receiver.proofs.Theorems.{receive-refuses}
 use Rattle.receiver.proofs.AlikeTheorems.{full-forgets}
+use Rattle.given.specs.Given.{F}
 use Rattle.demands.specs.One.{Call, opens, closes, starts, encodes, receives, alone, gives, sideOf, lentTo, outputOf, order, Drops, Refused, Done, DemandOne}
 use Rattle.demands.proofs.OneRules.{exactly}
 use Rattle.demands.proofs.OneShares.{onShare, gives-is, keeps, share-lawful, share-does, share-past, Last, share-last}
@@ -91,9 +92,9 @@ unfolding spared _and_
 refuses (opens side a) slot t = stays (opens side a) refl (λ s n. number-kept (open-refuses side a s n)) slot t
 refuses (closes side) slot t = stays (closes side) refl (λ s n. number-kept (close-refuses side s n)) slot t
 refuses (starts side) slot t = stays (starts side) refl (λ s n. number-kept (group-refuses side s n)) slot t
-refuses (encodes F wish c output) slot t = stays (encodes F wish c output) refl (encode-refuses F wish c output) slot t
-refuses (receives F o output) slot t =
-    carried (receives F o output) slot t (λ (x : Out Took). (x .answer .number ≡ 0 → ⊥) → Refused output slot t x)
+refuses (encodes wish c output) slot t = stays (encodes wish c output) refl (encode-refuses F wish c output) slot t
+refuses (receives o output) slot t =
+    carried (receives o output) slot t (λ (x : Out Took). (x .answer .number ≡ 0 → ⊥) → Refused output slot t x)
     (λ k _ n _. record { untouched = refl; front = refl; payload = refl; drops = λ d. absurd (n d); kept = λ _. refl })
     (λ m.
     let q = receive-refuses F o output (shareAt t slot) m in

@@ -14,6 +14,7 @@ use Rattle.encoder.proofs.Theorems.{encode-exactly}
 use Rattle.receiver.specs.Object.{headRungs}
 use Rattle.receiver.specs.Receive.{splitRungs, valueRungs, receiveRungs}
 use Rattle.receiver.proofs.Theorems.{receive-exactly}
+use Rattle.given.specs.Given.{F}
 use Rattle.demands.specs.One.{Call, opens, closes, starts, encodes, receives, gives, rules, order, ExactlyWhen}
 
 -- the number that a ladder gives, none of whose rungs has the number 0
@@ -35,5 +36,5 @@ unfolding nonzero _and_ encodeRungs chunkRungs acceptRungs lateRungs lastRungs r
 exactly (opens side a) slot t = exactly-when _ _ _ (open-exactly side a t slot) refl refl
 exactly (closes side) slot t = exactly-when _ _ _ (close-exactly side t slot) refl refl
 exactly (starts side) slot t = exactly-when _ _ _ (group-exactly side t slot) refl refl
-exactly (encodes F wish c output) slot t = exactly-when _ _ _ (encode-exactly F wish c output t slot) refl refl
-exactly (receives F o output) slot t = exactly-when _ _ _ (receive-exactly F o output t slot) refl refl
+exactly (encodes wish c output) slot t = exactly-when _ _ _ (encode-exactly F wish c output t slot) refl refl
+exactly (receives o output) slot t = exactly-when _ _ _ (receive-exactly F o output t slot) refl refl

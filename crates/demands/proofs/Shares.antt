@@ -10,6 +10,7 @@ use Rattle.laws.specs.Gate.{gate}
 use Rattle.laws.specs.Ladder.{ladder}
 use Rattle.laws.proofs.LadderLaws.{climbs-all}
 use Rattle.track.specs.declared.Asked.{Asked}
+use Rattle.wire.specs.declared.form.Form.the-variants.{Rfc9000}
 use Rattle.slots.specs.declared.share.Side.{Side}
 use Rattle.slots.specs.declared.share.Side.the-variants.{Encoder, Receiver}
 use Rattle.slots.specs.Share.{acceptedAt, heldAt, shareLen, fresh, dropped}
@@ -66,7 +67,7 @@ module _ (p : Send) (s s′ room : List ℕ) (pair : Paired s s′) (low : allLe
             record {
               encoder-long = encoded-long p s (b .encoder-long);
               receiver-long = receive-keeps F o room .keeps s′ (b .receiver-long);
-              encoder-lawful = encode-stays-lawful F (p .wish) (p .chunk) (p .room) s low (b .encoder-long) (b .encoder-lawful);
+              encoder-lawful = encode-stays-lawful Rfc9000 (p .wish) (p .chunk) (p .room) s low (b .encoder-long) (b .encoder-lawful);
               receiver-lawful = trip-lawful p s s′ room pair low h r;
               parameters =
                   encode-parameters s (b .encoder-long) (p .wish) (p .chunk) (p .room)

@@ -10,15 +10,16 @@ use lib.ListN.{length, getD, drop}
 use lib.Seq.{take-append-seam}
 use Rattle.laws.specs.Tests.{allLe}
 use Rattle.laws.specs.Ladder.{Hold}
+use Rattle.wire.specs.declared.form.Form.the-variants.{Rfc9000}
+use Rattle.wire.proofs.SizeLaws.{limit-most}
 use Rattle.track.specs.declared.Track.{Track}
 use Rattle.track.specs.Track.{ivOk}
 use Rattle.track.specs.Track.{lawful as lawfulTrack}
 use Rattle.slots.specs.declared.share.Side.the-variants.{Encoder, Receiver}
-use Rattle.slots.specs.Share.{acceptedAt, heldAt, askedOf, trackOf}
+use Rattle.slots.specs.Share.{acceptedAt, heldAt, askedOf, trackOf, setOk}
 use Rattle.slots.specs.Share.{lawful as lawfulShare}
 use Rattle.slots.specs.Table.{Out}
 use Rattle.slots.proofs.ShareParts.{same-track}
-use Rattle.fieldset.specs.Lawful.{lawful as lawfulSet}
 use Rattle.exchange.specs.Took.{Took}
 use Rattle.exchange.proofs.OpenLaws.{opened-facts, held-facts}
 use Rattle.exchange.proofs.AcceptedLaws.{accepted-lawful}
@@ -29,9 +30,8 @@ use Rattle.chunk.specs.Front.{front as chunkFront}
 use Rattle.accepted.specs.Accepted.{bmdt, prft, brands, boxes, payload, fields, acceptRungs}
 use Rattle.encoder.specs.Encode.{kept, encoding}
 use Rattle.accepted.proofs.ChunkFacts.{fields-bmdt}
-use Rattle.encoder.proofs.ChunkLaws.{prft-ranged}
 use Rattle.encoder.proofs.EncodeLaws.{iv-right}
-use Rattle.encoder.proofs.Theorems.{Passed, bmdt-small}
+use Rattle.encoder.proofs.Theorems.{Passed, bmdt-small, set-kept, prft-kept}
 use Rattle.receiver.specs.Receive.{heldOk, sequence, chunk, accepted, done}
 use Rattle.meaning.specs.Meaning.{meaningOf, unbranded}
 use Rattle.given.specs.Given.{F, Given}
@@ -154,11 +154,12 @@ module _ (p : Send) (s s′ room : List ℕ) (pair : Paired s s′) (low : allLe
   unfolding accepted
   kept-lawful =
       let f = opened-facts Receiver s′ (pair .beside .receiver-lawful) (also-open p s s′ pair low h) in
-      let good : lawfulSet (trackOf s′) (fields t c) ≡ true = rw (← same-track s s′ (pair .beside .parameters)) (given .set .is-lawful) in
+      let good : setOk (trackOf s′) (fields t c) ≡ true =
+      rw (← same-track s s′ (pair .beside .parameters)) (set-kept F (p .wish) c (p .room) s (pair .beside .encoder-long) ok low) in
       rw (back .kind, back .time, back .set)
       (accepted-lawful s′ (pair .beside .receiver-long) (isDelta p s) n (prft c) (fields t c) Receiver (also-open p s s′ pair low h) f
       (le-leb n 0xffff_ffff (omega (arith, few))) (λ e. held-facts (trackOf s′) s′ (f .reference) (held-too e) .0)
-      (λ e. prft-ranged F t c (ok .accepted) low) good)
+      (prft-kept F (p .wish) c (p .room) s (pair .beside .encoder-long) ok (limit-most Rfc9000) low) good)
 
   -- ---- with room
 

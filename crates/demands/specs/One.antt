@@ -9,7 +9,6 @@ use mathlib.Core.List.{List, [], _∷_, _++_, map, List·Memᴰ}
 use lib.ListN.{length, drop}
 use Rattle.laws.specs.Tests.{allLe}
 use Rattle.laws.specs.Ladder.{Rung, Given, Hold}
-use Rattle.wire.specs.declared.form.Row.{Row}
 use Rattle.track.specs.declared.Asked.{Asked}
 use Rattle.slots.specs.declared.share.Side.{Side}
 use Rattle.slots.specs.declared.share.Side.the-variants.{Encoder, Receiver}
@@ -23,16 +22,17 @@ use Rattle.encoder.specs.Encode.{encodeRungs, kept, encoding}
 use Rattle.receiver.specs.Object.{blockEnd}
 use Rattle.receiver.specs.Receive.{receiveRungs, accepted, receiving}
 use Rattle.receiver.specs.Laws.{FullForgets}
+use Rattle.given.specs.Given.{F}
 
 -- ---- the five calls
 
--- what a call is given beside its slot and its table: a side, and parameters; a form of varints, a wish, a chunk and an output; a form, an object and an output
+-- what a call is given beside its slot and its table: a side, and parameters; a wish, a chunk and an output; an object and an output
 pub data Call : Type 0 where
   opens : Side → Asked → Call
   closes : Side → Call
   starts : Side → Call
-  encodes : List Row → Bool → List ℕ → List ℕ → Call
-  receives : List Row → List ℕ → List ℕ → Call
+  encodes : Bool → List ℕ → List ℕ → Call
+  receives : List ℕ → List ℕ → Call
 
 -- a number is handed back, and nothing beside it
 abbrev pub alone : Out ℕ → Out Took
@@ -43,31 +43,31 @@ abbrev pub gives : Call → ℕ → List ℕ → Out Took
 gives (opens side a) slot t = alone (onTable itself (opening side a) t slot)
 gives (closes side) slot t = alone (onTable itself (closing side) t slot)
 gives (starts side) slot t = alone (onTable itself (grouping side) t slot)
-gives (encodes F wish c output) slot t = onTable (refused output) (encoding F wish c output) t slot
-gives (receives F o output) slot t = onTable (refused output) (receiving F o output) t slot
+gives (encodes wish c output) slot t = onTable (refused output) (encoding F wish c output) t slot
+gives (receives o output) slot t = onTable (refused output) (receiving F o output) t slot
 
 -- whose table it is called on
 abbrev pub sideOf : Call → Side
 sideOf (opens side a) = side
 sideOf (closes side) = side
 sideOf (starts side) = side
-sideOf (encodes F wish c output) = Encoder
-sideOf (receives F o output) = Receiver
+sideOf (encodes wish c output) = Encoder
+sideOf (receives o output) = Receiver
 
 -- the bytes that it is lent
 abbrev pub lentTo : Call → List ℕ
 lentTo (opens side a) = []
 lentTo (closes side) = []
 lentTo (starts side) = []
-lentTo (encodes F wish c output) = c
-lentTo (receives F o output) = o
+lentTo (encodes wish c output) = c
+lentTo (receives o output) = o
 
 abbrev pub outputOf : Call → List ℕ
 outputOf (opens side a) = []
 outputOf (closes side) = []
 outputOf (starts side) = []
-outputOf (encodes F wish c output) = output
-outputOf (receives F o output) = output
+outputOf (encodes wish c output) = output
+outputOf (receives o output) = output
 
 -- ---- its rules
 
@@ -76,8 +76,8 @@ abbrev pub shareRules : Call → List ℕ → List Rung
 shareRules (opens side a) s = openRungs side a s
 shareRules (closes side) s = openedRungs side s
 shareRules (starts side) s = openedRungs side s
-shareRules (encodes F wish c output) s = encodeRungs F wish c output s
-shareRules (receives F o output) s = receiveRungs F o output s
+shareRules (encodes wish c output) s = encodeRungs F wish c output s
+shareRules (receives o output) s = receiveRungs F o output s
 
 abbrev pub rules : Call → ℕ → List ℕ → List Rung
 rules a slot t = tableRungs t slot ++ shareRules a (shareAt t slot)
@@ -90,8 +90,8 @@ abbrev pub order : Call → List ℕ
 order (opens side a) = 18 ∷ 1 ∷ 18 ∷ 3 ∷ 4 ∷ []
 order (closes side) = 18 ∷ 1 ∷ 18 ∷ 2 ∷ []
 order (starts side) = 18 ∷ 1 ∷ 18 ∷ 2 ∷ []
-order (encodes F wish c output) = 18 ∷ 1 ∷ 18 ∷ 2 ∷ 5 ∷ 6 ∷ 8 ∷ 7 ∷ 9 ∷ 17 ∷ []
-order (receives F o output) =
+order (encodes wish c output) = 18 ∷ 1 ∷ 18 ∷ 2 ∷ 5 ∷ 6 ∷ 8 ∷ 7 ∷ 9 ∷ 17 ∷ []
+order (receives o output) =
     18 ∷ 1 ∷ 18 ∷ 2 ∷ 12 ∷ 10 ∷ 12 ∷ 15 ∷ 11 ∷ 12 ∷ 13 ∷ 14 ∷ 15 ∷ 14 ∷ 15 ∷ 14 ∷ 15 ∷ 15 ∷ 16 ∷ 17 ∷ []
 
 -- the number k is answered to a call whose rules are rs. That 0 is none of their numbers, the list shows
@@ -127,16 +127,16 @@ abbrev pub after : Call → List ℕ → List ℕ
 after (opens side a) s = opened a
 after (closes side) s = fresh
 after (starts side) s = dropped s
-after (encodes F wish c output) s = kept F wish c output s
-after (receives F o output) s = accepted F o s
+after (encodes wish c output) s = kept F wish c output s
+after (receives o output) s = accepted F o s
 
 -- 01: "the front: all of a chunk up to and with the `mdat` header, or all of an object before the payload": how long it is in the lent bytes
 abbrev pub frontOf : Call → ℕ
 frontOf (opens side a) = 0
 frontOf (closes side) = 0
 frontOf (starts side) = 0
-frontOf (encodes F wish c output) = top c .mdat .at + 8
-frontOf (receives F o output) = blockEnd F o
+frontOf (encodes wish c output) = top c .mdat .at + 8
+frontOf (receives o output) = blockEnd F o
 
 pub record Done (a : Call) (slot : ℕ) (t : List ℕ) (x : Out Took) : Type 0 where
   pub words : x .words ≡ putShare t slot (after a (shareAt t slot))

@@ -1,5 +1,5 @@
 -- What is known of a chunk that was accepted, as the encoder asks it. Assumes nothing.
-use Prim.Native.Nat.{ℕ, _-_, _≤_}
+use Prim.Native.Nat.{ℕ, _-_, _^_, _≤_}
 use native.Mathlib.Omega.{arith}
 use mathlib.Core.Path.{_≡_, refl, subst}
 use mathlib.Core.Logic.{_⊎_, inl, inr}
@@ -49,17 +49,17 @@ module _ (F : List Row) (t : Track) (c : List ℕ) (h : Hold (acceptRungs F t c)
       go (inl e) = ((λ z. absurd (z e)), omega arith)
       go (inr (a, (l, m))) = ((λ z. a), l)
 
-  -- its `prft` keeps its ranges
-  pub prft-ranged : allLe 255 c ≡ true → Ranged (prft c)
+  -- its `prft` keeps its ranges, where its times fit
+  pub prft-ranged : allLe 255 c ≡ true → (prft c .stands ≡ true → (prft c .ntp .0 ≤ 2 ^ 62 - 1) × (prft c .media .0 ≤ 2 ^ 62 - 1)) → Ranged (prft c)
   unfolding prft
-  prft-ranged low =
+  prft-ranged low fit =
       let b : Part = top c .prft in
       let ok = boxes-held F t c h .prft-ok in
       let r = prft-ranges c b (bytes-are c low) (boxes-in c .prft-in) ok in
       let none : prftOf c b .stands ≡ false → (prftOf c b .ntp .0 ≡ 0) × (prftOf c b .media .0 ≡ 0) × (prftOf c b .version ≡ 0) × (prftOf c b .flags ≡ 0) =
       λ z. subst (λ (p : Prft). (p .ntp .0 ≡ 0) × (p .media .0 ≡ 0) × (p .version ≡ 0) × (p .flags ≡ 0)) (prft-lacks c b z) (refl, refl, refl, refl) in
       let short : prftOf c b .version ≡ 0 → prftOf c b .media .0 ≤ 0xffff_ffff = λ e. rw (eq-eqb _ 0 e) at (r .2) in
-      (none, (λ z. (r .0, version-or (prftOf c b .version) (prftOf c b .media .0) (r .0) short, prft-headed c b ok .flags)))
+      (none, (λ z. (r .0, version-or (prftOf c b .version) (prftOf c b .media .0) (r .0) short, prft-headed c b ok .flags, fit z .0, fit z .1)))
 
 -- its payload, as it is lent
 pub payload-lent : (c : List ℕ) → take (endOf (bodyOf (top c .mdat)) - bodyOf (top c .mdat) .at) (drop (bodyOf (top c .mdat) .at) c) ≡ payload c

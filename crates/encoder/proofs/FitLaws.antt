@@ -1,5 +1,6 @@
 -- What fits in the object that a chunk becomes: all its items, the events' times among them; and what a `prft` in a delta goes by. Assumes nothing.
-use Prim.Native.Nat.{ℕ}
+use Prim.Native.Nat.{ℕ, _<_}
+use native.Mathlib.Omega.{arith}
 use mathlib.Core.Path.{_≡_, refl, sym, _∙_}
 use mathlib.Core.Bool.{Bool, true, false, false≢true, not, cond}
 use mathlib.Core.List.{List, [], _∷_}
@@ -8,13 +9,22 @@ use lib.Dec.{eqb}
 use lib.ListN.{getD}
 use Rattle.laws.proofs.TestLaws.{left, right, and-left, and-right}
 use Rattle.wire.specs.declared.form.Row.{Row}
+use Rattle.wire.specs.declared.zigzag.Coding.the-variants.{Plain}
+use Rattle.wire.specs.declared.zigzag.Coded.{Coded}
+use Rattle.wire.specs.declared.zigzag.Coded.the-variants.{Number, TooWide}
+use Rattle.wire.specs.Form.{limit}
+use Rattle.wire.specs.Zigzag.{wireOf, codeOf}
+use Rattle.wire.proofs.ZigzagLaws.{coded-inv}
+use Rattle.runs.specs.Run.{onCoded}
 use Rattle.block.specs.Entries.{isSome}
 use Rattle.block.specs.Events.{Event, encEvents}
-use Rattle.block.specs.Written.{run}
+use Rattle.block.specs.Written.{num, run}
+use Rattle.chunk.specs.declared.outer.Prft.{Prft}
 use Rattle.slots.specs.Share.{heldAt, prftAt, trackOf}
 use Rattle.emsgs.specs.Records.{timesFit}
 use Rattle.accepted.specs.Accepted.{prft, events}
-use Rattle.writing.specs.Items.{Items, _before_}
+use Rattle.writing.specs.Items.{Items, _before_, itemsIf, numberItem}
+use Rattle.writing.specs.Prft.{timesItems}
 use Rattle.writing.proofs.ItemLaws.{before-some}
 use Rattle.encoder.specs.Object.{eventItems, blockItems, mayDelta, givesDelta, fitsOk}
 
@@ -32,12 +42,16 @@ events-fit F (y ∷ ys) e = by (timesFit F (y ∷ ys)) e
 past : (a b : Items) → isSome (a before b) ≡ true → isSome b ≡ true
 past a b e = and-right (isSome a) (isSome b) (sym (before-some a b) ∙ e)
 
+-- and so are the earlier ones
+first : (a b : Items) → isSome (a before b) ≡ true → isSome a ≡ true
+first a b e = and-left (isSome a) (isSome b) (sym (before-some a b) ∙ e)
+
 module _ (F : List Row) (s c : List ℕ) where
   -- so those of the events, which stand before the last part of a block
   pub times-fit : (delta : Bool) → isSome (blockItems F s c delta) ≡ true → timesFit F (events (trackOf s) c) ≡ true
   unfolding blockItems
   times-fit delta e =
-      events-fit F (events (trackOf s) c) (and-left _ _ (sym (before-some _ _) ∙ past _ _ (past _ _ (past _ _ (past _ _ (past _ _ e))))))
+      events-fit F (events (trackOf s) c) (first _ _ (past _ _ (past _ _ (past _ _ (past _ _ (past _ _ e))))))
 
   module _ (wish : Bool) where
     -- all fits in the object that is given
@@ -53,3 +67,27 @@ module _ (F : List Row) (s c : List ℕ) where
     pub delta-prft : givesDelta F s c wish ≡ true → prft c .stands ≡ true → not (eqb (getD s prftAt 0) 0) ≡ true
     unfolding givesDelta mayDelta
     delta-prft e p = and-right (not (eqb (getD s heldAt 0) 0)) _ (and-right wish _ (rw p at (left _ _ e)))
+
+-- ---- numbers that stand as they are
+
+-- one that stands
+plain-fits : (F : List Row) (id old v : ℕ) → isSome (numberItem id (codeOf F Plain old v)) ≡ true → v < limit F
+unfolding numberItem wireOf
+plain-fits F id old v h = go (codeOf F Plain old v) refl h
+  where
+    go : (c : Coded) → codeOf F Plain old v ≡ c → isSome (onCoded c (λ z. some (num id z ∷ [])) none) ≡ true → v < limit F
+    go (Number z) q e = let k = coded-inv F Plain old v q in omega (arith, k .0, k .1)
+    go TooWide q e = absurd (false≢true e)
+
+-- the times of the `prft` of a full object
+times-small : (F : List Row) (s : List ℕ) (p : Prft) → isSome (timesItems F false s p) ≡ true → p .stands ≡ true → (p .ntp .0 < limit F) × (p .media .0 < limit F)
+unfolding timesItems itemsIf
+times-small F s p h e =
+    let both = rw e at h in
+    (plain-fits F 18 _ (p .ntp .0) (first _ _ both), plain-fits F 20 _ (p .media .0) (past _ _ both))
+
+-- where no delta is given, they fit the form
+pub full-small : (F : List Row) (s c : List ℕ) (wish : Bool) → fitsOk F s c wish ≡ true → givesDelta F s c wish ≡ false → prft c .stands ≡ true
+    → (prft c .ntp .0 < limit F) × (prft c .media .0 < limit F)
+unfolding blockItems
+full-small F s c wish h d e = times-small F s (prft c) (first _ _ (past _ _ (rw d at (gives-fits F s c wish h)))) e

@@ -13,31 +13,33 @@ use Rattle.laws.specs.Tests.{_and_, allLe}
 use Rattle.laws.specs.Ladder.{Rung, ladder, Given, Hold}
 use Rattle.laws.proofs.LadderLaws.{Numbered, numberOf, given, given-one, ladder-append, ladder-seen, all-hold, climbed, climbs-all, hold-front, hold-back, nonzero, numbered}
 use Rattle.laws.proofs.SliceLaws.{drop-last}
-use Rattle.laws.proofs.TestLaws.{left, and-left, and-right}
+use Rattle.laws.proofs.TestLaws.{left, both, and-left, and-right}
 use Rattle.laws.proofs.WriteLaws.{front-stays}
 use Rattle.wire.specs.declared.form.Row.{Row}
-use Rattle.wire.specs.Form.{rows, longest}
-use Rattle.wire.proofs.SizeLaws.{longest-eight}
+use Rattle.wire.specs.Form.{rows, limit, longest}
+use Rattle.wire.proofs.SizeLaws.{longest-eight, limit-most}
 use Rattle.track.proofs.TrackLaws.{ranges}
 use Rattle.fieldset.specs.Lines.{setLen}
 use Rattle.slots.specs.declared.share.Side.the-variants.{Encoder}
-use Rattle.slots.specs.Share.{shareLen, acceptedAt, heldAt, prftAt, setAt, askedOf, trackOf, isOpen, lawful}
+use Rattle.slots.specs.Share.{shareLen, acceptedAt, heldAt, prftAt, setAt, askedOf, trackOf, isOpen, setOk, lawful}
 use Rattle.slots.specs.Table.{Out, shareAt, tableRungs, onTable}
 use Rattle.slots.specs.Laws.{after, Keeps, Apart}
 use Rattle.slots.proofs.Apart.{apart, others-stay}
 use Rattle.exchange.specs.Took.{Took, refused, PastStays}
 use Rattle.exchange.proofs.TookLaws.{refused-past}
 use Rattle.exchange.proofs.OpenLaws.{Opened, opened-facts, held-facts}
-use Rattle.exchange.proofs.AcceptedLaws.{accepted-long, accepted-lawful}
+use Rattle.exchange.proofs.AcceptedLaws.{Ranged, accepted-long, accepted-lawful}
 use Rattle.accepted.specs.Accepted.{top, bmdt, prft, brands, events, payload, fields, lateRungs, acceptRungs}
 use Rattle.accepted.proofs.BoxLaws.{payload-behind}
 use Rattle.accepted.proofs.LawfulSet.{chunk-lawful}
+use Rattle.given.proofs.Gives.{chunk-agrees}
 use Rattle.encoder.specs.Object.{blockItems, mayDelta, givesDelta, fitsOk, front}
 use Rattle.encoder.specs.Encode.{refusing, lastRungs, chunkRungs, encodeRungs, kept, done, encoding}
 use Rattle.encoder.specs.Laws.{EncodeExactly, EncodeStaysLawful, Refused, EncodeRefuses, EncodePast, BlockFits, EncodeOnly, EncodeMakes}
 use Rattle.accepted.proofs.ChunkFacts.{brands-few, list-few, fields-long}
 use Rattle.encoder.proofs.ChunkLaws.{prft-ranged}
 use Rattle.encoder.proofs.EncodeLaws.{iv-right}
+use Rattle.encoder.proofs.FitLaws.{full-small}
 use Rattle.encoder.proofs.BlockSizes.{Most, before-most, fields-most, deletions-most, times-most, version-most, flags-most, brands-most, events-most}
 
 -- ---- numbers
@@ -139,12 +141,24 @@ module _ (F : List Row) (wish : Bool) (c output s : List ℕ) (l : length s ≡ 
   unfolding kept
   done-long = accepted-long s l (givesDelta F s c wish) (getD s acceptedAt 0) (prft c) (fields (trackOf s) c) set-long
 
-  done-lawful : allLe 255 c ≡ true → lawful Encoder (kept F wish c output s) ≡ true
+  -- the set that is kept, and the `prft` of a full object
+  pub set-kept : allLe 255 c ≡ true → setOk (trackOf s) (fields (trackOf s) c) ≡ true
+  unfolding setOk
+  set-kept b =
+      let iv = iv-right s (opened .track) in
+      let small = bmdt-small F s c wish (h .fits) in
+      both _ _ (chunk-lawful F (trackOf s) c b iv (h .accepted) small) (chunk-agrees F (trackOf s) c b iv (h .accepted) small)
+
+  pub prft-kept : limit F ≤ 2 ^ 62 → allLe 255 c ≡ true → givesDelta F s c wish ≡ false → Ranged (prft c)
+  prft-kept m b d =
+      prft-ranged F (trackOf s) c (h .accepted) b
+      (λ e. let k = full-small F s c wish (h .fits) d e in (omega (arith, k .0), omega (arith, k .1)))
+
+  done-lawful : limit F ≤ 2 ^ 62 → allLe 255 c ≡ true → lawful Encoder (kept F wish c output s) ≡ true
   unfolding kept
-  done-lawful b =
+  done-lawful m b =
       accepted-lawful s l (givesDelta F s c wish) (getD s acceptedAt 0) (prft c) (fields (trackOf s) c) Encoder (h .opened) opened (opened .accepted)
-      (λ d. held-facts (trackOf s) s (opened .reference) (delta-held F s c wish d) .0) (λ d. prft-ranged F (trackOf s) c (h .accepted) b)
-      (chunk-lawful F (trackOf s) c b (iv-right s (opened .track)) (h .accepted) (bmdt-small F s c wish (h .fits)))
+      (λ d. held-facts (trackOf s) s (opened .reference) (delta-held F s c wish d) .0) (prft-kept m b) (set-kept b)
 
 -- a share's length stays, whatever the chunk's bytes are
 pub encode-keeps : (F : List Row) (wish : Bool) (c output : List ℕ) → Keeps (encoding F wish c output)
@@ -180,10 +194,11 @@ encode-beside Y refuse g k F wish c output i j d t =
 
 pub encode-stays-lawful : EncodeStaysLawful
 unfolding encoding
-encode-stays-lawful F wish c output s b l h =
+encode-stays-lawful form wish c output s b l h =
+    let F : List Row = rows form in
     let P : Out Took → Type 0 = λ a. lawful Encoder (a .words) ≡ true in
     climbs-all P (refusing output s) (encodeRungs F wish c output s) (done F wish c output s) (λ k. h)
-    (λ p. done-lawful F wish c output s l (passed F wish c output s p) b)
+    (λ p. done-lawful F wish c output s l (passed F wish c output s p) (limit-most form) b)
 
 -- ---- the block
 

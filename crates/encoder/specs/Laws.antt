@@ -38,10 +38,10 @@ abbrev pub EncodeMakes : Type 0
 EncodeMakes = (F : List Row) (wish : Bool) (c output s : List ℕ) → encoding F wish c output s .answer .number ≡ 0
     → Becomes F wish c s (encoding F wish c output s .answer)
 
--- 01: "Every call on a lawful share leaves it lawful": for any bytes
+-- 01: "Every call on a lawful share leaves it lawful": for any bytes, and any form that varints have
 abbrev pub EncodeStaysLawful : Type 0
-EncodeStaysLawful = (F : List Row) (wish : Bool) (c output s : List ℕ) → allLe 255 c ≡ true → length s ≡ shareLen → lawful Encoder s ≡ true
-    → lawful Encoder (encoding F wish c output s .words) ≡ true
+EncodeStaysLawful = (form : Form) (wish : Bool) (c output s : List ℕ) → allLe 255 c ≡ true → length s ≡ shareLen → lawful Encoder s ≡ true
+    → lawful Encoder (encoding (rows form) wish c output s .words) ≡ true
 
 -- 01: "All but 0 write nothing to the output and hand back length 0 and an empty payload part .. every other refusal changes nothing, in the encoder too."
 pub record Refused (room s : List ℕ) (a : Out Took) : Type 0 where

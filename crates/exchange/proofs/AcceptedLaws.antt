@@ -1,5 +1,5 @@
 -- The words of a share after an accepted object: their number, and that they are lawful. Assumes nothing.
-use Prim.Native.Nat.{ℕ, _+_, _≤_, _<_}
+use Prim.Native.Nat.{ℕ, _+_, _-_, _^_, _≤_, _<_}
 use native.Mathlib.Omega.{arith}
 use mathlib.Core.Path.{_≡_, refl, sym, _∙_, ap, ap₂}
 use mathlib.Core.Logic.{_⊎_, inl, inr}
@@ -16,9 +16,8 @@ use Rattle.track.specs.Track.{narrow, u32}
 use Rattle.track.specs.Track.{lawful as lawfulTrack}
 use Rattle.track.specs.declared.Track.{Track}
 use Rattle.fieldset.specs.Lines.{setLen}
-use Rattle.fieldset.specs.Lawful.{lawful as lawfulSet}
 use Rattle.slots.specs.declared.share.Side.{Side}
-use Rattle.slots.specs.Share.{trackAt, acceptedAt, heldAt, prftAt, setAt, shareLen, u24, asked, askedOf, trackOf, isOpen, acceptedOk, prftOk, referenceOk, openOk, lawful}
+use Rattle.slots.specs.Share.{trackAt, acceptedAt, heldAt, prftAt, setAt, shareLen, u24, u62, asked, askedOf, trackOf, isOpen, acceptedOk, prftOk, setOk, referenceOk, openOk, lawful}
 use Rattle.chunk.specs.declared.outer.Prft.{Prft}
 use Rattle.exchange.specs.Kept.{prftWords, keptWords}
 use Rattle.exchange.proofs.OpenLaws.{Opened}
@@ -66,7 +65,9 @@ module _ (f : List ℕ) (n : ℕ) (p w : List ℕ) (lf : length f ≡ 8) (lp : l
 unfoldable prftIn : List ℕ → Bool
 prftIn p =
     cond (eqb (getD p 0 0) 0) (allZero (drop 1 p))
-    (eqb (getD p 0 0) 1 && (leb (getD p 3 0) 1 && ((eqb (getD p 3 0) 1 || leb (getD p 2 0) u32) && leb (getD p 4 0) u24)))
+    (eqb (getD p 0 0) 1
+    && (leb (getD p 3 0) 1
+    && ((eqb (getD p 3 0) 1 || leb (getD p 2 0) u32) && (leb (getD p 4 0) u24 && (leb (getD p 1 0) u62 && leb (getD p 2 0) u62)))))
 
 part-word : (f t k m : ℕ) (s : List ℕ) → f + k ≡ m → m < t → getD s m 0 ≡ getD (slice f t s) k 0
 part-word f t k m s e h = sym (getD-drop f (take t s) k 0 ∙ ap (λ (i : ℕ). getD (take t s) i 0) e ∙ getD-take t s m 0 h)
@@ -75,19 +76,25 @@ prft-in : (s : List ℕ) → prftOk s ≡ prftIn (slice prftAt setAt s)
 unfolding prftOk prftIn
 prft-in s =
     let a = part-word 10 15 0 10 s refl (omega arith) in
+    let n = part-word 10 15 1 11 s refl (omega arith) in
     let b = part-word 10 15 2 12 s refl (omega arith) in
     let c = part-word 10 15 3 13 s refl (omega arith) in
     let d = part-word 10 15 4 14 s refl (omega arith) in
     let e = sym (drop-slice 10 15 1 s) in
     λ j.
     cond (eqb (a j) 0) (allZero (e j))
-    (eqb (a j) 1 && (leb (c j) 1 && ((eqb (c j) 1 || leb (b j) u32) && leb (d j) u24)))
+    (eqb (a j) 1 && (leb (c j) 1 && ((eqb (c j) 1 || leb (b j) u32) && (leb (d j) u24 && (leb (n j) u62 && leb (b j) u62)))))
 
--- a `prft` that keeps its ranges, or none
+-- a `prft` that keeps its ranges, its times as they are fitting into a varint, or none
 abbrev pub Ranged : Prft → Type 0
 Ranged p =
     (p .stands ≡ false → (p .ntp .0 ≡ 0) × (p .media .0 ≡ 0) × (p .version ≡ 0) × (p .flags ≡ 0))
-    × (p .stands ≡ true → (p .version ≤ 1) × ((p .version ≡ 1) ⊎ (p .media .0 ≤ 0xffff_ffff)) × (p .flags ≤ 0xff_ffff))
+    × (p .stands ≡ true
+    → (p .version ≤ 1)
+    × ((p .version ≡ 1) ⊎ (p .media .0 ≤ 0xffff_ffff))
+    × (p .flags ≤ 0xff_ffff)
+    × (p .ntp .0 ≤ 2 ^ 62 - 1)
+    × (p .media .0 ≤ 2 ^ 62 - 1))
 
 or-of : (a b : Bool) → (a ≡ true) ⊎ (b ≡ true) → (a || b) ≡ true
 or-of true b e = refl
@@ -108,7 +115,7 @@ words-ranged p h = go (p .stands) refl
         both _ _ (eq-eqb _ _ (z .0)) (both _ _ (eq-eqb _ _ (z .1)) (both _ _ (eq-eqb _ _ (z .2)) (both _ _ (eq-eqb _ _ (z .3)) refl)))
     go true q =
         let z = h .1 q in
-        rw (le-leb _ _ (z .0), media (z .1), le-leb _ _ (z .2))
+        rw (le-leb _ _ (z .0), media (z .1), le-leb _ _ (z .2), le-leb _ _ (z .3), le-leb _ _ (z .4))
 
 -- ---- an accepted object's share
 
@@ -167,14 +174,14 @@ module _ (s : List ℕ) (l : length s ≡ shareLen) where
     unfolding keptWords fiveOf
     accepted-mark = mark-at (take acceptedAt s) n (fiveOf delta p) w front-long (five-long delta p)
 
-    accepted-reference : (t : Track) → prftIn (fiveOf delta p) ≡ true → lawfulSet t w ≡ true → referenceOk t (keptWords delta n p w s) ≡ true
+    accepted-reference : (t : Track) → prftIn (fiveOf delta p) ≡ true → setOk t w ≡ true → referenceOk t (keptWords delta n p w s) ≡ true
     unfolding referenceOk
     accepted-reference t a b =
-        rw accepted-mark (both _ _ refl (both _ _ (accepted-prft ∙ a) (ap (lawfulSet t) accepted-set ∙ b)))
+        rw accepted-mark (both _ _ refl (both _ _ (accepted-prft ∙ a) (ap (setOk t) accepted-set ∙ b)))
 
     -- it is lawful where the new set is, the count, and the `prft` that is kept
     pub accepted-lawful : (side : Side) → isOpen s ≡ true → Opened side s → acceptedOk side n ≡ true → (delta ≡ true → prftOk s ≡ true)
-        → (delta ≡ false → Ranged p) → lawfulSet (trackOf s) w ≡ true → lawful side (keptWords delta n p w s) ≡ true
+        → (delta ≡ false → Ranged p) → setOk (trackOf s) w ≡ true → lawful side (keptWords delta n p w s) ≡ true
     unfolding lawful openOk isOpen
     accepted-lawful side o h m a b c =
         let z : eqb (getD (keptWords delta n p w s) trackAt 0) 0 ≡ false =

@@ -17,7 +17,7 @@ use Rattle.fieldset.specs.Lawful.{Tidy}
 use Rattle.fieldset.specs.Lawful.{lawful as lawfulSet}
 use Rattle.fieldset.proofs.TidyLaws.{lawful-tidy, zeros-tidy}
 use Rattle.slots.specs.declared.share.Side.{Side}
-use Rattle.slots.specs.Share.{trackAt, acceptedAt, heldAt, prftAt, setAt, shareLen, askedOf, trackOf, isOpen, acceptedOk, prftOk, referenceOk, openOk, lawful}
+use Rattle.slots.specs.Share.{trackAt, acceptedAt, heldAt, prftAt, setAt, shareLen, askedOf, trackOf, isOpen, acceptedOk, prftOk, setOk, referenceOk, openOk, lawful}
 
 -- an open share, taken apart
 pub record Opened (side : Side) (s : List ℕ) : Type 0 where
@@ -35,10 +35,10 @@ opened-facts side s h o =
 -- a share that holds a reference
 pub held-facts : (t : Track) (s : List ℕ) → referenceOk t s ≡ true → eqb (getD s heldAt 0) 0 ≡ false
     → (prftOk s ≡ true) × (lawfulSet t (drop setAt s) ≡ true)
-unfolding referenceOk
+unfolding referenceOk setOk
 held-facts t s h z =
-    let ok : (eqb (getD s heldAt 0) 1 and prftOk s and lawfulSet t (drop setAt s)) ≡ true = rw z at h in
-    (left _ _ (right _ _ ok), right _ _ (right _ _ ok))
+    let ok : (eqb (getD s heldAt 0) 1 and prftOk s and setOk t (drop setAt s)) ≡ true = rw z at h in
+    (left _ _ (right _ _ ok), left _ _ (right _ _ (right _ _ ok)))
 
 -- the words of the reference's set
 pub reference-long : (s : List ℕ) → length s ≡ shareLen → length (drop setAt s) ≡ setLen

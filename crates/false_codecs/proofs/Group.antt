@@ -13,6 +13,7 @@ use Rattle.laws.specs.Ladder.{_else_, ladder}
 use Rattle.laws.proofs.LadderLaws.{hold-append}
 use Rattle.track.specs.Track.{narrow}
 use Rattle.track.specs.Track.{lawful as lawfulTrack}
+use Rattle.wire.specs.declared.form.Form.the-variants.{Rfc9000}
 use Rattle.slots.specs.declared.share.Side.{Side}
 use Rattle.slots.specs.declared.share.Side.the-variants.{Encoder, Receiver}
 use Rattle.slots.specs.Share.{heldAt, shareLen, isOpen, lawful, opened}
@@ -132,7 +133,7 @@ module _ (C : Codec) (m : DemandTwoFresh C) where
   after-lawful : lawful Encoder (with rest) ≡ true
   after-lawful =
       subst (λ (z : List ℕ). lawful Encoder z ≡ true) (Ours.becomes (first 1) s₀ (first-sends 1) .words ∙ sym (first-becomes 1 one .words) ∙ after-words)
-      (encode-stays-lawful F true (example 0x77 1) (first 1 .room) s₀ (early .bytes 1 one) long opened-right)
+      (encode-stays-lawful Rfc9000 true (example 0x77 1) (first 1 .room) s₀ (early .bytes 1 one) long opened-right)
 
   pub held : getD s₁ heldAt 0 ≡ 1
   unfolding kept keptWords rest

@@ -34,9 +34,11 @@ use Rattle.object.specs.Bmdt.{bmdtOf, Timed}
 use Rattle.object.specs.Prft.{prftOf}
 use Rattle.object.specs.Events.{EventsRead}
 use Rattle.object.specs.Values.{allFit, boxes}
-use Rattle.object.specs.Sums.{Summable, sizesOk, protectedOk}
+use Rattle.sizes.specs.Sums.{Summable}
+use Rattle.object.specs.Sums.{sizesOk, protectedOk}
 use Rattle.object.proofs.ValueLaws.{EventsTold, said-count, said-size, said-told}
-use Rattle.object.proofs.SumLaws.{lawful-summable, sizes-sized}
+use Rattle.sizes.proofs.SumLaws.{lawful-summable}
+use Rattle.object.proofs.SumLaws.{sizes-sized}
 use Rattle.receiver.specs.declared.judge.Part.{Part}
 use Rattle.receiver.specs.declared.judge.Judged.{Judged}
 use Rattle.receiver.specs.Object.{isDelta, blockEnd, saying, payload}

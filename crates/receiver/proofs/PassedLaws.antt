@@ -14,8 +14,8 @@ use Rattle.slots.specs.declared.share.Side.the-variants.{Receiver}
 use Rattle.slots.specs.Share.{trackOf, isOpen, lawful}
 use Rattle.slots.specs.Calls.{openedRungs}
 use Rattle.reading.specs.Read.{setRungs}
-use Rattle.receiver.specs.Object.{isDelta, headRungs, saying}
-use Rattle.receiver.specs.Receive.{reference, bmdt, prft, valuesOk, heldOk, splitRungs, valueRungs, judgeRungs, chunk, roomRungs, receiveRungs}
+use Rattle.receiver.specs.Object.{isDelta, headRungs, saying, payload}
+use Rattle.receiver.specs.Receive.{reference, bmdt, prft, valuesOk, sumsOk, heldOk, splitRungs, valueRungs, judgeRungs, chunk, roomRungs, receiveRungs}
 
 -- no rule is broken
 pub record Passed (F : List Row) (o output s : List ℕ) : Type 0 where
@@ -26,6 +26,7 @@ pub record Passed (F : List Row) (o output s : List ℕ) : Type 0 where
   pub split : Hold (splitRungs F o s)
   pub fields : Hold (setRungs (trackOf s) (isDelta F o) (reference F o s) (saying F o))
   pub values : valuesOk F o s ≡ true
+  pub sums : sumsOk F o s ≡ true
   pub room : length (chunk F o s) ≤ length output
 
 pub passed : (F : List Row) (o output s : List ℕ) → Hold (receiveRungs F o output s) → Passed F o output s
@@ -48,12 +49,18 @@ passed F o output s h =
       split = hold-front (splitRungs F o s) (set ++ valueRungs F o s) judged;
       fields = hold-front set (valueRungs F o s) read;
       values = valued .0;
+      sums = valued .1 .0;
       room = leb-true _ _ (roomy .0);
     }
 
 -- of the values, what the new share rests on
-pub value-facts : (F : List Row) (o s : List ℕ) → valuesOk F o s ≡ true → (bmdt F o s ≤ 2 ^ 62 - 1) × (prft F o s .ok ≡ true)
+pub value-facts : (F : List Row) (o s : List ℕ) → valuesOk F o s ≡ true
+    → (bmdt F o s ≤ 2 ^ 62 - 1) × (prft F o s .ok ≡ true) × (length (payload F o) ≤ 16777216)
 unfolding valuesOk
 value-facts F o s h =
     let ok = left _ _ h in
-    (leb-true _ _ (and-left (leb (bmdt F o s) (2 ^ 62 - 1)) _ ok), and-left (prft F o s .ok) _ (and-right (leb (bmdt F o s) (2 ^ 62 - 1)) _ ok))
+    let rest = and-right (leb (bmdt F o s) (2 ^ 62 - 1)) _ ok in (
+      leb-true _ _ (and-left (leb (bmdt F o s) (2 ^ 62 - 1)) _ ok),
+      and-left (prft F o s .ok) _ rest,
+      leb-true _ _ (and-left (leb (length (payload F o)) 16777216) _ (and-right (prft F o s .ok) _ rest)),
+    )

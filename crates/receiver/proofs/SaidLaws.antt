@@ -1,23 +1,26 @@
 -- What an object says: that its block lies in it, that what it says of id 9 are bytes of it, and of an even id one number. Assumes nothing.
-use Prim.Native.Nat.{ℕ, _+_, _-_, _%_, _≤_}
+use Prim.Native.Nat.{ℕ, _+_, _-_, _%_, _≤_, _<_}
 use native.Mathlib.Omega.{arith}
 use mathlib.Core.Path.{_≡_, refl, sym, _∙_, ap}
 use mathlib.Core.Bool.{Bool, true, false, cond, false≢true}
 use mathlib.Core.List.{List, [], _∷_}
 use mathlib.Core.Option.{Option, none, some, Option·map}
-use borrow.Author.Tests.{leb-true, eqb-true}
+use borrow.Author.Tests.{leb-true, eqb-true, eq-eqb}
 use lib.Dec.{eqb, leb}
 use lib.ListN.{length, drop, length-drop}
 use lib.Seq.{slice}
 use Rattle.laws.specs.Tests.{allLe}
 use Rattle.laws.specs.Ladder.{Hold}
+use Rattle.laws.proofs.BytesLaws.{bytes-are}
 use Rattle.laws.proofs.TestLaws.{low-slice}
 use Rattle.wire.specs.declared.form.Row.{Row}
 use Rattle.wire.specs.declared.varint.Got.{Got}
 use Rattle.wire.specs.declared.varint.Got.the-variants.{Value}
 use Rattle.wire.specs.declared.varint.Got.the-variants.{Cut as Ends}
 use Rattle.wire.specs.Varint.{readF, onGot}
-use Rattle.wire.proofs.VarintLaws.{read-size}
+use Rattle.wire.specs.Form.{limit}
+use Rattle.wire.proofs.FormLaws.{Lawful}
+use Rattle.wire.proofs.VarintLaws.{read-size, read-bound}
 use Rattle.block.specs.declared.tuples.Tuple.{Tuple}
 use Rattle.block.specs.Front.{Series, wholly}
 use Rattle.block.specs.Tuples.{partOf, tuplesRun, tuplesF}
@@ -25,6 +28,7 @@ use Rattle.block.specs.Records.{number}
 use Rattle.block.specs.Index.{bytesOf}
 use Rattle.block.specs.Entries.{content, contents, entriesAt, onOption, body, entry, says}
 use Rattle.laws.specs.Each.{AllOf}
+use Rattle.block.proofs.NumberLaws.{numbers-inv}
 use Rattle.block.proofs.TupleRuns.{Proper, all-proper}
 use Rattle.receiver.specs.Object.{lengthAt, blockReads, blockLength, blockAt, blockEnd, headRungs, tuples, entries, saying}
 
@@ -102,6 +106,18 @@ raw-bytes F o h zs e =
     (all-of {A = Tuple} (λ t. Unit {0}) (λ t. tt) (tuplesRun F (blockAt F o) (slice (blockAt F o) (blockEnd F o) o) .items)) zs e
 
 -- ---- numbers
+
+-- what is said of an even id is a number that the form holds
+pub number-small : (F : List Row) → Lawful 0 F → (o : List ℕ) → allLe 255 o ≡ true → (id z : ℕ) (zs : List ℕ) → id % 2 ≡ 0 → saying F o id ≡ some (z ∷ zs)
+    → z < limit F
+unfolding body
+number-small F w o h id z zs even e =
+    object-says F o id (λ ws. (y : ℕ) (ys : List ℕ) → ws ≡ y ∷ ys → y < limit F) (λ t. Unit {0})
+    (λ t q u ws d y ys r.
+    let p = partOf (t .kind) in
+    let n = numbers-inv F (bytesOf o p) y ys (rw (eq-eqb (id % 2) 0 even, r) at d) in
+    read-bound F w (bytesOf o p) y (n .0) (bytes-are (bytesOf o p) (low-slice 255 (p .at) (p .at + p .len) o h)) (n .1))
+    (all-of {A = Tuple} (λ t. Unit {0}) (λ t. tt) (tuplesRun F (blockAt F o) (slice (blockAt F o) (blockEnd F o) o) .items)) (z ∷ zs) e z zs refl
 
 -- what is said of id 10 is one number
 pub one-number : (F : List Row) (o : List ℕ) → blockEnd F o ≤ length o → (zs : List ℕ) → saying F o 10 ≡ some zs → (z : ℕ) × (zs ≡ z ∷ [])

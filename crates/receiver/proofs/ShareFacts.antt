@@ -16,7 +16,7 @@ use Rattle.track.proofs.TrackLaws.{ranges}
 use Rattle.fieldset.specs.Lines.{setLen}
 use Rattle.fieldset.specs.Lawful.{lawful as lawfulSet}
 use Rattle.slots.specs.declared.share.Side.the-variants.{Receiver}
-use Rattle.slots.specs.Share.{shareLen, heldAt, prftAt, ntpAt, versionAt, prftFlagsAt, mediaTimeAt, setAt, u24, askedOf, trackOf, prftOk, referenceOk, isOpen, lawful}
+use Rattle.slots.specs.Share.{shareLen, heldAt, prftAt, ntpAt, versionAt, prftFlagsAt, mediaTimeAt, setAt, u24, u62, askedOf, trackOf, prftOk, referenceOk, isOpen, lawful}
 use Rattle.block.proofs.AnswerLaws.{blank-zeros}
 use Rattle.track.specs.Track.{u32}
 use Rattle.object.specs.Bmdt.{Timed}
@@ -92,16 +92,17 @@ module _ (s : List ℕ) (l : length s ≡ shareLen) where
             (eqb (getD s prftAt 0) 1
             && (leb (getD s versionAt 0) 1
             && ((eqb (getD s versionAt 0) 1 || leb (getD s mediaTimeAt 0) u32)
-            && leb (getD s prftFlagsAt 0) u24)))
+            && (leb (getD s prftFlagsAt 0) u24
+            && (leb (getD s ntpAt 0) u62
+            && leb (getD s mediaTimeAt 0) u62)))))
             ≡ true
             → (getD s versionAt 0 ≤ 1) × (getD s prftFlagsAt 0 ≤ 0xffffff)
         two true e = none (zero-prft 2 (omega arith) e) (zero-prft 3 (omega arith) e)
         two false e =
             let a = and-right (eqb (getD s prftAt 0) 1) _ e in
-            let b = and-right (leb (getD s versionAt 0) 1) _ a in (
-              leb-true _ _ (and-left (leb (getD s versionAt 0) 1) _ a),
-              leb-true _ _ (and-right (eqb (getD s versionAt 0) 1 || leb (getD s mediaTimeAt 0) u32) _ b),
-            )
+            let b = and-right (leb (getD s versionAt 0) 1) _ a in
+            let d = and-right (eqb (getD s versionAt 0) 1 || leb (getD s mediaTimeAt 0) u32) _ b in
+            (leb-true _ _ (and-left (leb (getD s versionAt 0) 1) _ a), leb-true _ _ (and-left (leb (getD s prftFlagsAt 0) u24) _ d))
 
         go : (b : Bool) → eqb (getD s heldAt 0) 0 ≡ b → (getD s versionAt 0 ≤ 1) × (getD s prftFlagsAt 0 ≤ 0xffffff)
         go true q = none (zero-behind 3 (none-held q)) (zero-behind 4 (none-held q))

@@ -1,10 +1,11 @@
 -- Receiving an object: its numbers, what a refusal leaves, what the output holds, and that the share keeps its length and stays lawful. Assumes
 -- nothing.
-use Prim.Native.Nat.{ℕ, _-_, _<_}
+use Prim.Native.Nat.{ℕ, _-_, _%_, _^_, _≤_, _<_}
 use native.Mathlib.Omega.{arith}
 use mathlib.Core.Path.{_≡_, refl, sym, _∙_, ap, subst}
 use mathlib.Core.Bool.{Bool, true, false, _&&_}
 use mathlib.Core.List.{List, [], _∷_, _++_}
+use mathlib.Core.Option.{some}
 use borrow.Author.Tests.{le-leb}
 use lib.Dec.{leb}
 use lib.ListN.{length, drop}
@@ -13,13 +14,20 @@ use Rattle.laws.specs.Tests.{allLe}
 use Rattle.laws.specs.Ladder.{Rung, _else_, ladder, Given}
 use Rattle.laws.proofs.LadderLaws.{numberOf, given, climbs, ladder-append, ladder-seen, climbs-all}
 use Rattle.laws.proofs.SliceLaws.{drop-last}
+use Rattle.laws.proofs.TestLaws.{left, right, both}
 use Rattle.laws.proofs.WriteLaws.{front-stays}
 use Rattle.wire.specs.declared.form.Row.{Row}
+use Rattle.wire.specs.declared.form.Form.{Form}
+use Rattle.wire.specs.Form.{rows}
+use Rattle.wire.proofs.FormLaws.{lawful as form-lawful}
+use Rattle.wire.proofs.SizeLaws.{limit-most}
 use Rattle.track.specs.Track.{u32}
 use Rattle.fieldset.specs.Lines.{setLen}
 use Rattle.fieldset.specs.Lawful.{lawful as lawfulSet}
+use Rattle.sizes.specs.Told.{sizesAgree}
+use Rattle.sizes.proofs.SumLaws.{lawful-summable}
 use Rattle.slots.specs.declared.share.Side.the-variants.{Receiver}
-use Rattle.slots.specs.Share.{shareLen, trackOf, acceptedOk, prftOk, lawful, dropped}
+use Rattle.slots.specs.Share.{shareLen, trackOf, acceptedOk, prftOk, setOk, lawful, dropped}
 use Rattle.slots.specs.Table.{Out, shareAt, tableRungs, onTable}
 use Rattle.slots.specs.Calls.{openedRungs}
 use Rattle.slots.specs.Laws.{after, Keeps, Apart}
@@ -27,16 +35,17 @@ use Rattle.slots.proofs.Lawful.{dropped-lawful, dropped-long}
 use Rattle.slots.proofs.Apart.{apart, others-stay}
 use Rattle.reading.proofs.NewSetLaws.{taken-facts, new-lawful, new-long}
 use Rattle.object.proofs.ObjectLaws.{prft-lawful}
+use Rattle.object.proofs.AgreeLaws.{sums-kept}
 use Rattle.exchange.specs.Took.{Took, refused, PastStays}
 use Rattle.exchange.proofs.TookLaws.{refused-past}
 use Rattle.exchange.proofs.OpenLaws.{Opened, opened-facts, held-facts, reference-long}
 use Rattle.exchange.proofs.AcceptedLaws.{Ranged, accepted-long, accepted-lawful}
 use Rattle.receiver.specs.Object.{blockEnd, isDelta, headRungs, saying, payload}
-use Rattle.receiver.specs.Receive.{afterRefusal, reference, bmdt, prft, newSet, heldOk, judgeRungs, sequence, chunk, accepted, refusing, done, roomRungs, receiveRungs, receiving}
+use Rattle.receiver.specs.Receive.{afterRefusal, reference, bmdt, prft, newSet, sumsOk, heldOk, judgeRungs, sequence, chunk, accepted, refusing, done, roomRungs, receiveRungs, receiving}
 use Rattle.receiver.specs.Laws.{ReceiveExactly, ReceiveStaysLawful, Refused, ReceiveRefuses, ReceivePast}
 use Rattle.receiver.proofs.ShareFacts.{delta-held, iv-most}
 use Rattle.receiver.proofs.PassedLaws.{Passed, passed, value-facts}
-use Rattle.receiver.proofs.SaidLaws.{raw-bytes}
+use Rattle.receiver.proofs.SaidLaws.{raw-bytes, number-small}
 use Rattle.receiver.proofs.RefusalLaws.{refusal-keeps}
 
 -- ---- numbers
@@ -171,23 +180,34 @@ unfolding sequence
 count-ok F o s = le-leb (sequence F o s) u32 (omega arith)
 
 -- a full object's `prft` keeps its ranges
-full-ranged : (F : List Row) (o s : List ℕ) → prft F o s .ok ≡ true → isDelta F o ≡ false → Ranged (prft F o s .prft)
+full-ranged : (form : Form) (o s : List ℕ) → allLe 255 o ≡ true → prft (rows form) o s .ok ≡ true → isDelta (rows form) o ≡ false
+    → Ranged (prft (rows form) o s .prft)
 unfolding prft
-full-ranged F o s e d = rw d (prft-lawful (saying F o) s (rw d at e))
+full-ranged form o s b e d =
+    let F : List Row = rows form in
+    let small : (id z : ℕ) (zs : List ℕ) → id % 2 ≡ 0 → saying F o id ≡ some (z ∷ zs) → z ≤ 2 ^ 62 - 1 =
+    λ id z zs even q. omega (arith, number-small F (form-lawful form) o b id z zs even q, limit-most form) in
+    rw d (prft-lawful (saying F o) s small (rw d at e))
 
-done-lawful : (F : List Row) (o output s : List ℕ) → allLe 255 o ≡ true → length s ≡ shareLen → Passed F o output s → lawful Receiver (accepted F o s) ≡ true
-unfolding accepted newSet
-done-lawful F o output s b l h =
+done-lawful : (form : Form) (o output s : List ℕ) → allLe 255 o ≡ true → length s ≡ shareLen → Passed (rows form) o output s
+    → lawful Receiver (accepted (rows form) o s) ≡ true
+unfolding accepted newSet setOk sumsOk
+done-lawful form o output s b l h =
+    let F : List Row = rows form in
     let v = value-facts F o s (h .values) in
     let good : lawfulSet (trackOf s) (newSet F o s) ≡ true =
     new-lawful (trackOf s) (isDelta F o) (reference F o s) (saying F o) (h .fields) (bmdt F o s) (v .0) (iv-most s l (h .lawful) (h .opened))
     (reference-long s l) (set-good F o output s l h) (raw-bytes F o b) in
+    let agree : sizesAgree (trackOf s) (newSet F o s) ≡ true =
+    sums-kept (trackOf s) (newSet F o s) (length (payload F o)) (lawful-summable (trackOf s) (newSet F o s) (set-long F o output s l h) good) (v .2)
+    (left _ _ (h .sums)) (right _ _ (h .sums)) in
     accepted-lawful s l (isDelta F o) (sequence F o s) (prft F o s .prft) (newSet F o s) Receiver (h .opened) (opened F o output s l h) (count-ok F o s)
-    (prft-good F o output s l h) (full-ranged F o s (v .1)) good
+    (prft-good F o output s l h) (full-ranged form o s b (v .1)) (both _ _ good agree)
 
 pub receive-stays-lawful : ReceiveStaysLawful
 unfolding receiving receiveRungs
-receive-stays-lawful F o output s b l h =
+receive-stays-lawful form o output s b l h =
+    let F : List Row = rows form in
     let Fine : List ℕ → Type 0 = λ x. lawful Receiver x ≡ true in
     let P : Out Took → Type 0 = λ a. Fine (a .words) in
     let refuse = refusing output s in
@@ -198,4 +218,4 @@ receive-stays-lawful F o output s b l h =
     (subst Fine (refusal-keeps 18 s refl) h, (subst Fine (refusal-keeps 2 s refl) h, tt))
     (λ q.
     climbs-all P refuse rest end (λ k. refusal-either s Fine k h (dropped-lawful s l Receiver h (q .1 .0)))
-    (λ p. done-lawful F o output s b l (passed F o output s (q .0, (q .1 .0, p))))))
+    (λ p. done-lawful form o output s b l (passed F o output s (q .0, (q .1 .0, p))))))

@@ -10,6 +10,8 @@ use lib.ListN.{length, take}
 use Rattle.laws.specs.Tests.{allLe}
 use Rattle.laws.specs.Ladder.{Given}
 use Rattle.wire.specs.declared.form.Row.{Row}
+use Rattle.wire.specs.declared.form.Form.{Form}
+use Rattle.wire.specs.Form.{rows}
 use Rattle.slots.specs.declared.share.Side.the-variants.{Receiver}
 use Rattle.slots.specs.Share.{shareLen, heldAt, lawful, dropped}
 use Rattle.slots.specs.Table.{Out, shareAt, tableRungs, onTable}
@@ -23,10 +25,10 @@ abbrev pub ReceiveExactly : Type 0
 ReceiveExactly = (F : List Row) (o output t : List ℕ) (slot : ℕ)
     → Given (onTable (refused output) (receiving F o output) t slot .answer .number) (tableRungs t slot ++ receiveRungs F o output (shareAt t slot))
 
--- 01: "Every call on a lawful share leaves it lawful": for any bytes
+-- 01: "Every call on a lawful share leaves it lawful": for any bytes, and any form that varints have
 abbrev pub ReceiveStaysLawful : Type 0
-ReceiveStaysLawful = (F : List Row) (o output s : List ℕ) → allLe 255 o ≡ true → length s ≡ shareLen → lawful Receiver s ≡ true
-    → lawful Receiver (receiving F o output s .words) ≡ true
+ReceiveStaysLawful = (form : Form) (o output s : List ℕ) → allLe 255 o ≡ true → length s ≡ shareLen → lawful Receiver s ≡ true
+    → lawful Receiver (receiving (rows form) o output s .words) ≡ true
 
 -- 01: "All but 0 write nothing to the output and hand back length 0 and an empty payload part .. Numbers 12 to 16 drop the slot's reference;
 -- every other refusal changes nothing"

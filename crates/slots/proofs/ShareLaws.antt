@@ -10,14 +10,15 @@ use lib.Dec.{eqb, leb}
 use lib.ListN.{length, getD, take, drop}
 use lib.Seq.{sets, sets-eq, slice}
 use Rattle.laws.specs.Tests.{_and_, allZero, allBits}
-use Rattle.laws.proofs.TestLaws.{bits-zero}
+use Rattle.laws.proofs.TestLaws.{and-true, and-false, bits-zero}
 use Rattle.laws.proofs.SliceLaws.{slice-to-end}
 use Rattle.track.specs.declared.Asked.{Asked}
 use Rattle.track.specs.declared.Track.{Track}
 use Rattle.track.specs.Track.{lawful as lawfulTrack, u32}
 use Rattle.fieldset.specs.Lawful.{lawful as lawfulSet}
+use Rattle.sizes.specs.Told.{sizesAgree}
 use Rattle.slots.specs.declared.share.Side.{Side}
-use Rattle.slots.specs.Share.{heldAt, prftAt, ntpAt, mediaTimeAt, versionAt, prftFlagsAt, setAt, u24, trackAt, acceptedAt, shareLen, askedOf, trackOf, paramWords, acceptedOk, prftOk, referenceOk, openOk, lawful}
+use Rattle.slots.specs.Share.{heldAt, prftAt, ntpAt, mediaTimeAt, versionAt, prftFlagsAt, setAt, u24, u62, trackAt, acceptedAt, shareLen, askedOf, trackOf, paramWords, acceptedOk, prftOk, setOk, referenceOk, openOk, lawful}
 
 -- the words from a place to the end, folded
 folded : (from : ℕ) (s : List ℕ) (b : ℕ) → length s ≡ shareLen → b ≡ allBits (slice from shareLen s) → eqb b 0 ≡ allZero (drop from s)
@@ -37,10 +38,22 @@ no-prft s b e q = rw (eq-eqb _ _ e, q) (bits-zero (slice ntpAt setAt s))
 
 pub some-prft : (s : List ℕ) → (getD s prftAt 0 ≡ 0 → ⊥)
     → (eqb (getD s prftAt 0) 1
-    && (leb (getD s versionAt 0) 1 && ((eqb (getD s versionAt 0) 1 || leb (getD s mediaTimeAt 0) u32) && leb (getD s prftFlagsAt 0) u24)))
+    && (leb (getD s versionAt 0) 1
+    && ((eqb (getD s versionAt 0) 1 || leb (getD s mediaTimeAt 0) u32)
+    && (leb (getD s prftFlagsAt 0) u24 && (leb (getD s ntpAt 0) u62 && leb (getD s mediaTimeAt 0) u62)))))
     ≡ prftOk s
 unfolding prftOk
 some-prft s e = rw (ne-eqb _ _ e)
+
+-- the set of the reference: not lawful, or lawful
+module _ (t : Track) (w : List ℕ) where
+  pub set-unlawful : lawfulSet t w ≡ false → false ≡ setOk t w
+  unfolding setOk
+  set-unlawful e = sym (and-false (sizesAgree t w) e)
+
+  pub set-lawful : lawfulSet t w ≡ true → (r : Bool) → r ≡ sizesAgree t w → r ≡ setOk t w
+  unfolding setOk
+  set-lawful e r h = h ∙ sym (and-true (sizesAgree t w) e)
 
 module _ (t : Track) (s : List ℕ) (l : length s ≡ shareLen) where
   -- no reference is marked
@@ -49,7 +62,7 @@ module _ (t : Track) (s : List ℕ) (l : length s ≡ shareLen) where
   none-held b e q = rw (eq-eqb _ _ e) (folded prftAt s b l q)
 
   -- one is
-  pub one-held : (p q : Bool) → (getD s heldAt 0 ≡ 0 → ⊥) → p ≡ prftOk s → q ≡ lawfulSet t (take (length s - setAt) (drop setAt s))
+  pub one-held : (p q : Bool) → (getD s heldAt 0 ≡ 0 → ⊥) → p ≡ prftOk s → q ≡ setOk t (take (length s - setAt) (drop setAt s))
       → (eqb (getD s heldAt 0) 1 && (p && q)) ≡ referenceOk t s
   unfolding referenceOk _and_
   one-held p q e hp hq = rw (ne-eqb _ _ e, hp, hq, part-to-end s setAt)

@@ -71,7 +71,7 @@ module _ (s s′ : List ℕ) (e : drop heldAt s ≡ drop heldAt s′) where
     same-prft =
         let w : slice ntpAt setAt s ≡ slice ntpAt setAt s′ =
         sym (slice-drop 9 2 6 s (omega arith)) ∙ ap (slice 2 6) e ∙ slice-drop 9 2 6 s′ (omega arith) in
-        rw (same-kept 1, same-kept 3, same-kept 4, same-kept 5, w)
+        rw (same-kept 1, same-kept 2, same-kept 3, same-kept 4, same-kept 5, w)
 
     same-reference : (t : Track) → referenceOk t s ≡ referenceOk t s′
     unfolding referenceOk

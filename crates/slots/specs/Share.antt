@@ -1,7 +1,7 @@
 -- The words of a slot's share, and when they are lawful. From word 0 on: the eight parameters, the count of accepted objects, the mark of
 -- the reference, the mark of the current full object's `prft` with its four fields, and the set of moof fields.
 -- ==== The rules
-use Prim.Native.Nat.{ℕ}
+use Prim.Native.Nat.{ℕ, _-_, _^_}
 use mathlib.Core.Bool.{Bool, cond, not, _&&_, _||_}
 use mathlib.Core.List.{List, [], _∷_, _++_}
 use lib.Dec.{eqb, leb}
@@ -13,6 +13,7 @@ use Rattle.track.specs.declared.Track.{Track}
 use Rattle.track.specs.Track.{narrow, u32}
 use Rattle.track.specs.Track.{lawful as lawfulTrack}
 use Rattle.fieldset.specs.Lawful.{lawful as lawfulSet}
+use Rattle.sizes.specs.Told.{sizesAgree}
 use Rattle.slots.specs.declared.share.Side.{Side}
 use Rattle.slots.specs.declared.share.Side.the-variants.{Encoder, Receiver}
 
@@ -50,6 +51,10 @@ shareLen = 996
 abbrev pub u24 : ℕ
 u24 = 0xff_ffff
 
+-- 01: "any number on the wire, 2^62-1"
+abbrev pub u62 : ℕ
+u62 = 2 ^ 62 - 1
+
 abbrev pub asked : ℕ → ℕ → ℕ → ℕ → ℕ → ℕ → ℕ → ℕ → Asked
 asked track timescale description duration size flags protection ivSize =
     record {
@@ -80,20 +85,26 @@ acceptedOk Encoder n = eqb n 0
 acceptedOk Receiver n = leb n u32
 
 -- the `prft` kept with the reference: none, and then nothing is stored of it; or one whose fields keep their ranges, the media time having 32
--- bits in version 0 (D12)
+-- bits in version 0. It is a full object's, and so its times came off the wire, or went on it, as they are (D12).
 unfoldable pub prftOk : List ℕ → Bool
 prftOk s =
     cond (eqb (getD s prftAt 0) 0) (allZero (slice ntpAt setAt s))
     (eqb (getD s prftAt 0) 1
     && (leb (getD s versionAt 0) 1
     && ((eqb (getD s versionAt 0) 1 || leb (getD s mediaTimeAt 0) u32)
-    && leb (getD s prftFlagsAt 0) u24)))
+    && (leb (getD s prftFlagsAt 0) u24
+    && (leb (getD s ntpAt 0) u62
+    && leb (getD s mediaTimeAt 0) u62)))))
+
+-- the set of the reference: a lawful one, whose sizes and subsamples agree as far as the words tell them
+unfoldable pub setOk : Track → List ℕ → Bool
+setOk t w = lawfulSet t w and sizesAgree t w
 
 -- the reference: none, and then nothing is stored of it; or a lawful set with a lawful `prft` (D11)
 unfoldable pub referenceOk : Track → List ℕ → Bool
 referenceOk t s =
     cond (eqb (getD s heldAt 0) 0) (allZero (drop prftAt s))
-    (eqb (getD s heldAt 0) 1 and prftOk s and lawfulSet t (drop setAt s))
+    (eqb (getD s heldAt 0) 1 and prftOk s and setOk t (drop setAt s))
 
 -- the words of an open share
 unfoldable pub openOk : Side → List ℕ → Bool

@@ -4,8 +4,9 @@ ghost use mathlib.Core.Bool.{true};
 ghost use Prim.Native.Nat.{_≤_, _-_};
 ghost use mathlib.Core.List.{_++_};
 ghost use lib.ListN.{length, getD, take, drop, replicate};
-ghost use Rattle.slots.specs.Share.{shareLen, trackAt, acceptedAt, askedOf, trackOf, paramWords, acceptedOk, prftOk, referenceOk, lawful};
+ghost use Rattle.slots.specs.Share.{shareLen, trackAt, acceptedAt, askedOf, trackOf, paramWords, acceptedOk, prftOk, setOk, referenceOk, lawful};
 ghost use Rattle.track.specs.Track.{lawful as lawfulTrack};
+ghost use Rattle.fieldset.specs.Lines.{setLen};
 use fieldset::scan;
 use track::Asked;
 use track::Track;
@@ -42,6 +43,8 @@ pub const SHARE: usize = 996;
 const U24: u64 = 0xff_ffff;
 
 const U32: u64 = 0xffff_ffff;
+
+const U62: u64 = 0x3fff_ffff_ffff_ffff;
 
 // The parameters as the words have them; the first has been read.
 fn asked_of(track: u64, s: &[u64]) -> Asked
@@ -86,8 +89,22 @@ fn prft_ok(s: &[u64]) -> bool
         return scan::bits(s, NTP, SET) == 0;
     }
     let version = s[VERSION];
+    let media = s[MEDIA_TIME];
     (mark == 1)
-        & ((version <= 1) & (((version == 1) | (s[MEDIA_TIME] <= U32)) & (s[PRFT_FLAGS] <= U24)))
+        & ((version <= 1)
+            & (((version == 1) | (media <= U32))
+                & ((s[PRFT_FLAGS] <= U24) & ((s[NTP] <= U62) & (media <= U62)))))
+}
+
+// Whether the words are those of a set that a share can hold.
+fn set_ok(t: Track, w: &[u64]) -> bool
+    requires { ⌜ (length (now w) ≡ setLen) × (t .«iv_size» ≤ 16) ⌝ }
+    ensures { λ r. ⌜ r ≡ setOk t (now (w .entry)) ⌝ }
+{
+    if !fieldset::lawful::is_lawful(t, w) {
+        return false;
+    }
+    sizes::told::sizes_agree(t, w)
 }
 
 // Whether a reference that the share marks as held is lawful, or nothing is stored where none is.
@@ -99,7 +116,7 @@ fn reference_ok(t: Track, s: &[u64]) -> bool
     if held == 0 {
         return scan::bits(s, PRFT, SHARE) == 0;
     }
-    (held == 1) & (prft_ok(s) & fieldset::lawful::is_lawful(t, &s[SET..]))
+    (held == 1) & (prft_ok(s) & set_ok(t, &s[SET..]))
 }
 
 // Whether the words are those of a lawful share.

@@ -17,6 +17,9 @@ returns c = no-prft (now (c .before .before .before .before .args .s)) _ (c .bef
 shared-slice-read-version : tie.Need-shared-slice-read-version
 shared-slice-read-version c = search needs
 
+shared-slice-read-media : tie.Need-shared-slice-read-media
+shared-slice-read-media c = search needs
+
 shared-slice-read-result : tie.Need-shared-slice-read-result
 shared-slice-read-result c = search needs
 
@@ -24,7 +27,7 @@ shared-slice-read-result-2 : tie.Need-shared-slice-read-result-2
 shared-slice-read-result-2 c = search needs
 
 returns-2 : tie.Need-returns-2
-returns-2 c = some-prft (now (c .before .before .before .before .before .before .args .s)) (c .before .before .before .if1 .left)
+returns-2 c = some-prft (now (c .before .before .before .before .before .before .before .args .s)) (c .before .before .before .before .if1 .left)
 
 pub prft-ok-spec : {M : Type 1} → statement M
 prft-ok-spec =
@@ -34,6 +37,7 @@ prft-ok-spec =
     bits-requires
     returns
     shared-slice-read-version
+    shared-slice-read-media
     shared-slice-read-result
     shared-slice-read-result-2
     returns-2)

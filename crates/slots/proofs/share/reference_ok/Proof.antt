@@ -19,20 +19,20 @@ returns c = let b = c .before .before .before .before in none-held (b .args .t) 
 prft-ok-requires : tie.Need-prft-ok-requires
 prft-ok-requires c κs = search needs
 
-sub-is-lawful : tie.Need-sub-is-lawful
-sub-is-lawful c = search needs
+sub-set-ok : tie.Need-sub-set-ok
+sub-set-ok c = search needs
 
-part-is-lawful-start : tie.Need-part-is-lawful-start
-part-is-lawful-start c = search needs
+part-set-ok-start : tie.Need-part-set-ok-start
+part-set-ok-start c = search needs
 
-part-is-lawful-end : tie.Need-part-is-lawful-end
-part-is-lawful-end c = search needs
+part-set-ok-end : tie.Need-part-set-ok-end
+part-set-ok-end c = search needs
 
-is-lawful-requires : tie.Need-is-lawful-requires
-is-lawful-requires c κs = (simp (length-take, length-drop) (omega (arith, c .before .before .before .before .before .pre .0)), c .before .before .before .before .before .pre .1)
+set-ok-requires : tie.Need-set-ok-requires
+set-ok-requires c κs = (simp (length-take, length-drop) (omega (arith, c .before .before .before .before .before .pre .0)), c .before .before .before .before .before .pre .1)
 
 returns-2 : tie.Need-returns-2
-returns-2 c = let b = c .before .before .before .before .before .before in one-held (b .args .t) (now (b .args .s)) (b .pre .0) _ _ (c .before .before .before .if1 .left) (c .before .before .prft-ok .ensures) (c .is-lawful .ensures)
+returns-2 c = let b = c .before .before .before .before .before .before in one-held (b .args .t) (now (b .args .s)) (b .pre .0) _ _ (c .before .before .before .if1 .left) (c .before .before .prft-ok .ensures) (c .set-ok .ensures)
 
 pub reference-ok-spec : {M : Type 1} → statement M
 reference-ok-spec =
@@ -42,8 +42,8 @@ reference-ok-spec =
     bits-requires
     returns
     prft-ok-requires
-    sub-is-lawful
-    part-is-lawful-start
-    part-is-lawful-end
-    is-lawful-requires
+    sub-set-ok
+    part-set-ok-start
+    part-set-ok-end
+    set-ok-requires
     returns-2)
