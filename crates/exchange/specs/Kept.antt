@@ -1,19 +1,27 @@
 -- The words of the reference that is kept in a share.
--- ==== The rules
 use Prim.Native.Nat.{ℕ}
-use mathlib.Core.Bool.{Bool, cond}
+use mathlib.Core.Bool.{Bool, true, cond, not}
 use mathlib.Core.List.{List, [], _∷_, _++_}
 use lib.ListN.{take}
 use lib.Seq.{slice}
 use Rattle.slots.specs.Share.{acceptedAt, prftAt, setAt}
 use Rattle.chunk.specs.declared.outer.Prft.{Prft}
+use Rattle.exchange.specs.declared.keep.Replaced.{Replaced}
+
+-- ==== The rules
 
 -- the words of a `prft` that a full object leaves
 unfoldable pub prftWords : Prft → List ℕ
 prftWords p = cond (p .stands) 1 0 ∷ p .ntp .0 ∷ p .media .0 ∷ p .version ∷ p .flags ∷ []
 
 -- the share s after an accepted object: the count, the reference, and with a full object its `prft`. 01: "The reference is the previous
--- accepted chunk's set of moof fields, .. kept with the current full's `prft`." (D73, D87)
+-- accepted chunk's set of moof fields, not the last full's .., kept with the current full's `prft`." (D73, D87)
 unfoldable pub keptWords : Bool → ℕ → Prft → List ℕ → List ℕ → List ℕ
 keptWords delta sequence prft newSet s =
     take acceptedAt s ++ (sequence ∷ 1 ∷ (cond delta (slice prftAt setAt s) (prftWords prft) ++ newSet))
+
+-- ==== What only mirrors the code
+
+-- what an accepted object replaces of the reference: the set always, and the `prft` with a full object
+abbrev pub replacedBy : Bool → Replaced
+replacedBy delta = record { set = true; prft = not delta }

@@ -5,7 +5,7 @@ ghost use lib.ListN.{length, take, drop};
 ghost use Rattle.fieldset.specs.Lines.{setLen};
 ghost use Rattle.fieldset.specs.Lawful.{Tidy};
 ghost use Rattle.slots.specs.Share.{setAt, shareLen};
-ghost use Rattle.exchange.specs.Kept.{keptWords};
+ghost use Rattle.exchange.specs.Kept.{replacedBy, keptWords};
 use chunk::outer::Prft;
 use fieldset::lines;
 use fieldset::words;
@@ -31,20 +31,39 @@ fn copy_set(s: &mut [u64], x: &[u64])
     }
 }
 
-// The reference after an accepted object. A full object replaces all of it, its prft included.
+// What an accepted object replaces of the reference.
+pub struct Replaced {
+    pub set: bool,
+    pub prft: bool,
+}
+
+// The set always: a delta is read against the object before it, and not against the last full one. The prft with a full object alone.
+fn replaced_by(delta: bool) -> Replaced
+    ensures { λ r. ⌜ r ≡ replacedBy delta ⌝ }
+{
+    Replaced {
+        set: true,
+        prft: !delta,
+    }
+}
+
+// The reference after an accepted object.
 pub fn keep(s: &mut [u64], delta: bool, prft: Prft, sequence: u64, x: &[u64])
     requires { ⌜ (length (now s) ≡ shareLen) × (length (now x) ≡ setLen) ⌝ }
     requires { ⌜ Tidy (drop setAt (now s)) × Tidy (now x) ⌝ }
     ensures { λ r. ⌜ now (s .exit) ≡ keptWords delta sequence prft (now (x .entry)) (now (s .entry)) ⌝ }
 {
+    let new = replaced_by(delta);
     s[share::ACCEPTED] = sequence;
     s[share::HELD] = 1;
-    if !delta {
+    if new.prft {
         s[share::PRFT] = if prft.stands { 1 } else { 0 };
         s[share::NTP] = prft.ntp.0;
         s[share::MEDIA_TIME] = prft.media.0;
         s[share::VERSION] = prft.version;
         s[share::PRFT_FLAGS] = prft.flags;
     }
-    copy_set(s, x);
+    if new.set {
+        copy_set(s, x);
+    }
 }
