@@ -33,6 +33,7 @@ REGIONS = {
     16: (979, 1, "one", U8),
 }
 LISTS = {1, 3, 5, 7, 11, 13, 15}
+PAYLOAD = 16777216
 
 
 # What is lawful
@@ -46,7 +47,7 @@ def good_parameters(parameters):
 def lawful_prft(mark, ntp, media_time, version, flags):
     if mark == 0:
         return ntp == media_time == version == flags == 0
-    return mark == 1 and version in (0, 1) and media_time <= (U64 if version else U32) and flags <= U24
+    return mark == 1 and version in (0, 1) and ntp <= U62 and media_time <= (U62 if version else U32) and flags <= U24
 
 
 def lawful_ids(ids, count, trex_size, protection):
@@ -64,14 +65,33 @@ def lawful_ids(ids, count, trex_size, protection):
     return count <= 1 or bool(ids & {1, 6}) or trex_size != 0
 
 
+def field(words, i, count):
+    first = REGIONS[i][0] + 1
+    return words[first:first + count]
+
+
+def sizes_agree(words, ids, trex_size):
+    """Sizes and protected sums as far as the words tell them. Of several samples id 1 tells all sizes but the last, id 6 or trex all of them; of a lone sample
+    none is told. With subsamples each sample has as many bytes as they have."""
+    count, told = words[COUNT], []
+    if count > 1:
+        told = field(words, 1, count - 1) if 1 in ids else [field(words, 6, 1)[0] if 6 in ids else trex_size] * count
+    if 11 not in ids:
+        return sum(told) <= PAYLOAD
+    sizes, pairs = [], list(zip(field(words, 13, 256), field(words, 15, 256)))
+    for n in field(words, 11, count):
+        sizes.append(sum(map(sum, pairs[:n])))
+        pairs = pairs[n:]
+    return told == sizes[:len(told)] and sum(sizes) <= PAYLOAD
+
+
 def lawful_set(words, trex_size, protection, iv_size):
     count = words[COUNT]
     marks = {i: words[region[0]] for i, region in REGIONS.items()}
     ids = {i for i, mark in marks.items() if mark}
     if words[BMDT] > U62 or count > 64 or max(marks.values()) > 1 or not lawful_ids(ids, count, trex_size, protection):
         return False
-    first = REGIONS[11][0] + 1
-    subsamples = words[first:first + count] if 11 in ids else [0]
+    subsamples = field(words, 11, count) if 11 in ids else [0]
     if count and (iv_size + 2 + 6 * max(subsamples) > 255 or sum(subsamples) > 256):
         return False
     lengths = {"one": 1, "count": count, "count less one": count - 1, "count x IV size / 8": count * iv_size // 8,
@@ -80,7 +100,7 @@ def lawful_set(words, trex_size, protection, iv_size):
         used = mark + 1 + (lengths[values] if i in ids else 0)
         if max(words[mark + 1:used], default=0) > largest or any(words[used:mark + 1 + room]):
             return False
-    return 16 not in ids or words[REGIONS[16][0] + 1] == iv_size
+    return (16 not in ids or field(words, 16, 1) == [iv_size]) and sizes_agree(words, ids, trex_size)
 
 
 def lawful(side, share):
@@ -175,8 +195,8 @@ def bare(accepted=0, protection=NONE, iv_size=0):
     return [9] * 6 + [protection, iv_size, accepted] + [0] * (SHARE - 9)
 
 
-def held(samples, ids, accepted=0, protection=NONE, iv_size=0, prft=None, counts=(), value=1):
-    """A share with a reference, whose lists have the same value everywhere, but for the subsample counts."""
+def held(samples, ids, accepted=0, protection=NONE, iv_size=0, prft=None, counts=(), value=1, **others):
+    """A share with a reference, whose lists have the same value everywhere, but for the subsample counts and for others, given by id."""
     share = bare(accepted, protection, iv_size)
     share[HELD] = 1
     if prft is not None:
@@ -186,7 +206,7 @@ def held(samples, ids, accepted=0, protection=NONE, iv_size=0, prft=None, counts
                "sum of id 11": sum(counts)}
     for i in ids:
         mark, _, values, _ = REGIONS[i]
-        numbers = counts if i == 11 else [iv_size] if i == 16 else [value] * lengths[values]
+        numbers = others.get("id%d" % i) or (counts if i == 11 else [iv_size] if i == 16 else [value] * lengths[values])
         share[SET + mark:SET + mark + 1 + len(numbers)] = [1] + list(numbers)
     return share
 
@@ -195,19 +215,19 @@ SHARES = {
     "e": [
         [0] * SHARE,
         bare(),
-        held(1, []),
-        held(8, [1, 3, 5, 7], prft=1),
+        held(1, [9, 11, 13, 15], 0, CENC, 8, counts=[2], id13=[0, 0], id15=[1, 0]),
+        held(8, [1, 3, 5, 7], prft=1, id1=[1, 0, 0, 0, 0, 0, 0]),
         held(8, [2, 4, 6, 8, 12], prft=0),
-        held(4, [1, 9, 11, 13, 15, 16], 0, CENC, 8, counts=[3, 3, 0, 0]),
-        held(64, [1, 3, 5, 7, 9, 11, 13, 15], 0, CENC, 16, counts=[4] * 64),
-        held(8, [11, 13, 15], 0, CBCS, counts=[42] * 6 + [4, 0]),
+        held(4, [1, 9, 11, 13, 15, 16], 0, CENC, 8, counts=[3, 3, 0, 0], id1=[6, 6, 0]),
+        held(64, [1, 3, 5, 7, 9, 11, 13, 15], 0, CENC, 16, counts=[4] * 64, id1=[8] * 63),
+        held(8, [1, 11, 13, 15], 0, CBCS, counts=[42] * 6 + [4, 0], id1=[84] * 6 + [8]),
     ],
     "r": [
         bare(9),
         held(0, [2, 4, 6, 8, 16], U32, prft=0),
         held(1, [3, 5, 7], 1),
-        held(2, [], 2, prft=1),
-        held(3, [6, 9], 3, CENC, 16),
+        held(2, [11, 13, 15], 2, CBCS, prft=1, counts=[1, 1], id13=[4, 4], id15=[5, 5]),
+        held(3, [6, 9, 11, 13, 15], 3, CENC, 16, counts=[1, 2, 1], id6=[6], id13=[3, 1, 1, 3], id15=[3, 2, 2, 3]),
         held(0, [16], 4, CENC, 8, prft=0),
         held(4, [1, 3, 5, 11, 13, 15], 5, CBCS, counts=[3, 3, 3, 0], value=0),
         held(3, [6, 9, 11, 13, 15], 6, CENC, 16, counts=[0, 0, 0], value=0),

@@ -46,11 +46,11 @@ static void must_refuse(const struct state *s, unsigned call, size_t word, uint6
           word, LONG(was), LONG(value), LONG(number));
 }
 
-/* Whether a word may be any number at all: an IV in use, and the two times of a kept `prft` of version 1. */
+/* Whether a word may be any number at all: an IV in use. */
 static int any_value(const struct state *s, size_t word) {
     const uint64_t *share = share_of(s->side, SLOT);
     size_t ivs = share[HELD] && share[IV_FIRST - 1] ? share[COUNT] * share[7] / 8 : 0;
-    return (share[PRFT] && (word == NTP || word == MEDIA_TIME)) || (word >= IV_FIRST && word < IV_FIRST + ivs);
+    return word >= IV_FIRST && word < IV_FIRST + ivs;
 }
 
 /* Every word of the share: as large as can be, and with its highest bit turned. */
@@ -82,6 +82,8 @@ static void every_region(const struct state *s) {
     }
     must_refuse(s, 0, HELD, 2, "held");
     must_refuse(s, 0, PRFT, 2, "prft");
+    must_refuse(s, 0, NTP, 1ull << 62, "NTP");
+    must_refuse(s, 0, MEDIA_TIME, 1ull << 62, "media time");
     must_refuse(s, 0, BMDT, 1ull << 62, "BMDT");
     must_refuse(s, 0, COUNT, 65, "count");
     must_refuse(s, 0, 1, 0, "timescale");
