@@ -84,6 +84,18 @@ pub climbs-all : {A : Type 0} (P : A → Type 0) (refuse : ℕ → A) (rs : List
     → P (ladder rs refuse done)
 climbs-all P refuse rs done h d = climbs P refuse rs done (each P refuse h rs) d
 
+-- what holds of both refusals with a number, and of what both do where every test holds, holds of what two ladders of the same rungs give
+pub climbs-both : {A B : Type 0} (P : A → B → Type 0) (rs : List Rung) (refuse : ℕ → A) (refuse′ : ℕ → B) (done : A) (done′ : B)
+    → ((k : ℕ) → P (refuse k) (refuse′ k)) → (Hold rs → P done done′) → P (ladder rs refuse done) (ladder rs refuse′ done′)
+unfolding ladder gate
+climbs-both P [] refuse refuse′ done done′ r d = d tt
+climbs-both {A} {B} P (q ∷ qs) refuse refuse′ done done′ r d = go (q .test) refl (λ e. climbs-both P qs refuse refuse′ done done′ r (λ h. d (e, h)))
+  where
+    go : (b : Bool) → q .test ≡ b → (q .test ≡ true → P (ladder qs refuse done) (ladder qs refuse′ done′))
+        → P (gate b (refuse (q .number)) (ladder qs refuse done)) (gate b (refuse′ (q .number)) (ladder qs refuse′ done′))
+    go true e k = k e
+    go false e k = r (q .number)
+
 -- one ladder on top of another is one ladder
 pub ladder-append : {A : Type 0} (rs qs : List Rung) (refuse : ℕ → A) (done : A) → ladder (rs ++ qs) refuse done ≡ ladder rs refuse (ladder qs refuse done)
 unfolding ladder

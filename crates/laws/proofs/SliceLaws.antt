@@ -12,6 +12,10 @@ use lib.Seq.{slice, take-nil, length-take-le, take-add, take-take, take-all, dro
 pub slice-none : (f t : ℕ) (l : List ℕ) → t ≤ f → slice f t l ≡ []
 slice-none f t l h = let k : length (take t l) ≤ f = omega (arith, length-take t l) in drop-of-length-le (take t l) k
 
+-- a part is no longer than the list
+pub slice-few : (f t : ℕ) (l : List ℕ) → length (slice f t l) ≤ length l
+slice-few f t l = simp (length-drop, length-take) (omega arith)
+
 -- the first n of a part
 pub take-slice : (f t n : ℕ) (l : List ℕ) → f + n ≤ t → t ≤ length l → take n (slice f t l) ≡ slice f (f + n) l
 take-slice f t n l h k =
