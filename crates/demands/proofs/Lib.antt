@@ -11,3 +11,5 @@ pub mod DemandTwo
 pub mod OneChange
 pub mod DemandThree
 pub mod ReorderedRun
+pub mod JoinRuns
+pub mod JoinTables

@@ -15,35 +15,28 @@ use Rattle.receiver.proofs.Theorems.{receive-keeps}
 use Rattle.receiver.proofs.ObjectBytes.{order-unseen}
 use Rattle.given.specs.Given.{F}
 use Rattle.demands.specs.One.{alone}
-use Rattle.demands.specs.Three.{Call, opens, closes, groups, receives, slotOf, call, lent, told, Reordered}
+use Rattle.demands.specs.Three.{Call, opens, closes, groups, receives, slotOf, onShareOf, call, lent, told, Reordered}
 
--- ---- a call by what it makes of a share, and answers if the table or the slot is wrong
+-- ---- a call by what it makes of a share, and what it answers if the table or the slot is wrong
 
-onShareOf : Call → List ℕ → Out Took
-onShareOf (opens slot a) s = alone (opening Receiver a s)
-onShareOf (closes slot) s = alone (closing Receiver s)
-onShareOf (groups slot) s = alone (grouping Receiver s)
-onShareOf (receives slot o room) s = receiving F o room s
-
-refusedBy : Call → ℕ → Took
+pub refusedBy : Call → ℕ → Took
 refusedBy (opens slot a) k = took k 0 [] []
 refusedBy (closes slot) k = took k 0 [] []
 refusedBy (groups slot) k = took k 0 [] []
 refusedBy (receives slot o room) k = refused room k
 
-shared : Call → List ℕ → Out Took
+abbrev pub shared : Call → List ℕ → Out Took
 shared a t = onTable (refusedBy a) (onShareOf a) t (slotOf a)
 
-call-shared : (a : Call) (t : List ℕ) → shared a t ≡ call a t
-unfolding call shared onShareOf refusedBy
+pub call-shared : (a : Call) (t : List ℕ) → shared a t ≡ call a t
+unfolding call refusedBy
 call-shared (opens slot a) t = table-seen (λ k. took k 0 [] []) itself (opening Receiver a) t slot
 call-shared (closes slot) t = table-seen (λ k. took k 0 [] []) itself (closing Receiver) t slot
 call-shared (groups slot) t = table-seen (λ k. took k 0 [] []) itself (grouping Receiver) t slot
 call-shared (receives slot o room) t = refl
 
 -- every call keeps its share's length
-call-keeps : (a : Call) → Keeps (onShareOf a)
-unfolding onShareOf
+pub call-keeps : (a : Call) → Keeps (onShareOf a)
 call-keeps (opens slot a) = record { keeps = open-keeps Receiver a .keeps }
 call-keeps (closes slot) = record { keeps = close-keeps Receiver .keeps }
 call-keeps (groups slot) = record { keeps = group-keeps Receiver .keeps }
@@ -58,13 +51,11 @@ module _ (a b : Call) (d : slotOf a ≡ slotOf b → ⊥) (t : List ℕ) where
 
   -- either order leaves the same table
   pub tables-same : call b (call a t .words) .words ≡ call a (call b t .words) .words
-  unfolding shared
   tables-same =
       subst (λ (c : Call → List ℕ → Out Took). c b (c a t .words) .words ≡ c a (c b t .words) .words) (λ j x l. call-shared x l j) (calls-apart .same)
 
   -- and the first is answered as it would be alone
   answer-same : call a (call b t .words) .answer ≡ call a t .answer
-  unfolding shared
   answer-same =
       subst (λ (c : Call → List ℕ → Out Took). c a (c b t .words) .answer ≡ c a t .answer) (λ j x l. call-shared x l j) (calls-apart .first)
 

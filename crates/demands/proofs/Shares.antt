@@ -42,7 +42,7 @@ module _ (s : List ℕ) (l : length s ≡ shareLen) where
   encode-parameters wish c room =
       climbs-all Same (refusing room s) (encodeRungs F wish c room s) (done F wish c room s) (λ k. refl) (λ h. kept-parameters _ _ _ _ s l)
 
-  receive-parameters : (o room : List ℕ) → Same (receiving F o room s)
+  pub receive-parameters : (o room : List ℕ) → Same (receiving F o room s)
   unfolding receiving accepted afterRefusal
   receive-parameters o room =
       climbs-all Same (refusingObject room s) (receiveRungs F o room s) (doneObject F o room s) (λ k. by (leb 12 k && leb k 16)) (λ h. kept-parameters _ _ _ _ s l)

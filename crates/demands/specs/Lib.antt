@@ -2,3 +2,4 @@ pub mod One
 pub mod Codec
 pub mod Two
 pub mod Three
+pub mod Join

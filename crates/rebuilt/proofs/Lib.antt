@@ -1,3 +1,4 @@
+pub mod BeforeMoof
 pub mod TopFront
 pub mod SencBack
 pub mod Bits

@@ -1,0 +1,32 @@
+-- What a call gives on two shares. 02: "the same answers, fronts and reference .. The `mfhd` number alone is excepted".
+-- ==== What is shown of the rules
+use Prim.Native.Nat.{ℕ, _+_, _%_, _^_}
+use mathlib.Core.Path.{_≡_}
+use mathlib.Core.List.{List}
+use lib.ListN.{getD, take, drop}
+use Rattle.slots.specs.Share.{acceptedAt, heldAt}
+use Rattle.slots.specs.Table.{Out}
+use Rattle.exchange.specs.Took.{Took}
+use Rattle.joining.specs.Number.{unnumbered}
+
+-- the front that a call wrote: none where it was refused
+abbrev pub frontOf : Took → List ℕ
+frontOf a = take (a .front) (a .output)
+
+-- the count of accepted objects in a share
+abbrev pub countOf : List ℕ → ℕ
+countOf s = getD s acceptedAt 0
+
+-- the same but for the `mfhd` number, where the counts of the two shares are d apart
+pub record Matches (d : ℕ) (a b : Out Took) : Type 0 where
+  -- "answers": number, length of the front, payload
+  pub number : a .answer .number ≡ b .answer .number
+  pub long : a .answer .front ≡ b .answer .front
+  pub payload : a .answer .payload ≡ b .answer .payload
+  -- "fronts": all their bytes but the four of the number, and all bytes of the room past them
+  pub front : unnumbered (frontOf (a .answer)) ≡ unnumbered (frontOf (b .answer))
+  pub past : drop (a .answer .front) (a .answer .output) ≡ drop (b .answer .front) (b .answer .output)
+  -- "and reference"
+  pub reference : drop heldAt (a .words) ≡ drop heldAt (b .words)
+  -- what is excepted: the count, and so the number (`NumberRuns`)
+  pub count : countOf (a .words) ≡ (countOf (b .words) + d) % 2 ^ 32
