@@ -29,16 +29,17 @@ use Rattle.joining.proofs.NearCalls.{same-answer, receive-near, open-near, grou
 use Rattle.joining.proofs.FullJoins.{full-joins, counts-one, number-stands}
 use Rattle.given.specs.Given.{F}
 use Rattle.demands.specs.One.{alone}
-use Rattle.demands.specs.Three.{Call, opens, closes, groups, receives, onShareOf}
-use Rattle.demands.specs.Join.{outs, shareAfter, isClose, AllMatch, Joins, NoClose, ParametersStay, NumberRuns}
+use Rattle.demands.specs.Codec.{ours}
+use Rattle.demands.specs.Three.{Call, opens, closes, groups, receives}
+use Rattle.demands.specs.Join.{isClose, NoClose, AllMatch, onShareOf, outs, shareAfter, Joins, ParametersStay, NumberRuns}
 use Rattle.demands.proofs.OneChange.{call-keeps}
 use Rattle.demands.proofs.Shares.{receive-parameters}
 
 -- a run keeps its share's length
-pub run-keeps : (calls : List Call) (s : List ℕ) → length s ≡ shareLen → length (shareAfter calls s) ≡ shareLen
+pub run-keeps : (calls : List Call) (s : List ℕ) → length s ≡ shareLen → length (shareAfter ours calls s) ≡ shareLen
 unfolding shareAfter
 run-keeps [] s l = l
-run-keeps (a ∷ calls) s l = run-keeps calls (onShareOf a s .words) (call-keeps a .keeps s l)
+run-keeps (a ∷ calls) s l = run-keeps calls (onShareOf ours a s .words) (call-keeps a .keeps s l)
 
 -- ---- a run on two shares that agree but for their counts
 
@@ -50,7 +51,7 @@ module _ (a : Asked) (is-on : eqb (a .track) 0 ≡ false) (d : ℕ) where
       subst (λ (z : List ℕ). Stays a d (f z) (f s′)) (sym (h .is))
       (subst (λ (z : List ℕ). Stays a d (f (made a (h .count) (h .rest))) (f z)) (sym (h .is′)) (g (h .count) (h .count′) (h .rest) (h .small) (h .apart)))
 
-  call-near : (c : Call) → isClose c ≡ false → (s s′ : List ℕ) → Near a d s s′ → Stays a d (onShareOf c s) (onShareOf c s′)
+  call-near : (c : Call) → isClose c ≡ false → (s s′ : List ℕ) → Near a d s s′ → Stays a d (onShareOf ours c s) (onShareOf ours c s′)
   call-near (opens slot x) q =
       on-near _ (λ n m r small apart. let w = open-near a d n m r small apart is-on x in same-answer a d _ _ (ap (refused []) (w .0)) (w .1))
   call-near (closes slot) q = absurd (false≢true (sym q))
@@ -58,7 +59,7 @@ module _ (a : Asked) (is-on : eqb (a .track) 0 ≡ false) (d : ℕ) where
       on-near _ (λ n m r small apart. let w = group-near a d n m r small apart is-on in same-answer a d _ _ (ap (refused []) (w .0)) (w .1))
   call-near (receives slot o room) q = on-near _ (λ n m r small apart. receive-near a d n m r small apart F o room is-on)
 
-  run-matches : (calls : List Call) → NoClose calls → (s s′ : List ℕ) → Near a d s s′ → AllMatch d (outs calls s) (outs calls s′)
+  run-matches : (calls : List Call) → NoClose calls → (s s′ : List ℕ) → Near a d s s′ → AllMatch d (outs ours calls s) (outs ours calls s′)
   unfolding outs
   run-matches [] q s s′ h = tt
   run-matches (c ∷ calls) q s s′ h = let w = call-near c (q .0) s s′ h in (w .matches, run-matches calls (q .1) _ _ (w .near))
@@ -92,20 +93,20 @@ module _ (t : List ℕ) (l : length t ≡ shareLen) (slot : ℕ) (o room : List 
       (full-joins F (askedOf t) (countOf t) (drop heldAt t) is-on few (sym (ap length whole) ∙ l) o room full
       (sym (ap (λ (x : List ℕ). receiving F o room x .answer .number) whole) ∙ z))
 
-  pub joins-at : AllMatch (countOf t) (outs (receives slot o room ∷ after) t) (outs (receives slot o room ∷ after) (opened (askedOf t)))
+  pub joins-at : AllMatch (countOf t) (outs ours (receives slot o room ∷ after) t) (outs ours (receives slot o room ∷ after) (opened (askedOf t)))
   unfolding outs
   joins-at = (object-joins .matches, run-matches (askedOf t) is-on (countOf t) after q _ _ (object-joins .near))
 
-pub joins : Joins
-joins s l before slot o room after q full z = joins-at (shareAfter before s) (run-keeps before s l) slot o room after q full z
+pub joins : Joins ours
+joins s l before slot o room after q full z = joins-at (shareAfter ours before s) (run-keeps before s l) slot o room after q full z
 
 -- ---- the parameters
 
--- of an open share: an opening is refused
-opened-parameters : (s : List ℕ) → isOpen s ≡ true → (a : Asked) → take acceptedAt (opening Receiver a s .words) ≡ take acceptedAt s
+-- an opening of an open share is refused, and changes nothing
+refused-opening : (s : List ℕ) → isOpen s ≡ true → (a : Asked) → opening Receiver a s .words ≡ s
 unfolding opening onShare
-opened-parameters s p a =
-    climbs-all (λ (x : Out ℕ). take acceptedAt (x .words) ≡ take acceptedAt s) (λ k. out k s) (openRungs Receiver a s) (out 0 (opened a)) (λ k. refl)
+refused-opening s p a =
+    climbs-all (λ (x : Out ℕ). x .words ≡ s) (λ k. out k s) (openRungs Receiver a s) (out 0 (opened a)) (λ k. refl)
     (λ h. absurd (false≢true (sym (ap not p) ∙ h .1 .0)))
 
 group-parameters : (s : List ℕ) → length s ≡ shareLen → take acceptedAt (grouping Receiver s .words) ≡ take acceptedAt s
@@ -114,8 +115,8 @@ group-parameters s l =
     climbs-all (λ (x : Out ℕ). take acceptedAt (x .words) ≡ take acceptedAt s) (λ k. out k s) (openedRungs Receiver s) (out 0 (dropped s)) (λ k. refl)
     (λ h. dropped-parameters s l)
 
-call-parameters : (c : Call) → isClose c ≡ false → (s : List ℕ) → length s ≡ shareLen → isOpen s ≡ true → take acceptedAt (onShareOf c s .words) ≡ take acceptedAt s
-call-parameters (opens slot a) q s l p = opened-parameters s p a
+call-parameters : (c : Call) → isClose c ≡ false → (s : List ℕ) → length s ≡ shareLen → isOpen s ≡ true → take acceptedAt (onShareOf ours c s .words) ≡ take acceptedAt s
+call-parameters (opens slot a) q s l p = ap (take acceptedAt) (refused-opening s p a)
 call-parameters (closes slot) q s l p = absurd (false≢true (sym q))
 call-parameters (groups slot) q s l p = group-parameters s l
 call-parameters (receives slot o room) q s l p = receive-parameters s l o room
@@ -124,8 +125,8 @@ pub parameters-stay : ParametersStay
 unfolding shareAfter
 parameters-stay s l p [] q = refl
 parameters-stay s l p (c ∷ calls) q =
-    let e : take acceptedAt (onShareOf c s .words) ≡ take acceptedAt s = call-parameters c (q .0) s l p in
-    parameters-stay (onShareOf c s .words) (call-keeps c .keeps s l) (same-open (onShareOf c s .words) s e ∙ p) calls (q .1) ∙ e
+    let e : take acceptedAt (onShareOf ours c s .words) ≡ take acceptedAt s = call-parameters c (q .0) s l p in
+    parameters-stay (onShareOf ours c s .words) (call-keeps c .keeps s l) (same-open (onShareOf ours c s .words) s e ∙ p) calls (q .1) ∙ e
 
 -- ---- the number
 
@@ -151,8 +152,9 @@ group-count s l =
 pub number-runs : NumberRuns
 number-runs =
     record {
-      stands = λ slot o room s l z. number-stands F o room s l z;
-      by-one = λ slot o room s l z. counts-one F o room s l z;
-      refused = λ slot o room s l n. refused-count o room s l n;
-      group = λ slot s l. group-count s l;
+      stands = λ o room s l z. number-stands F o room s l z;
+      by-one = λ o room s l z. counts-one F o room s l z;
+      refused = λ o room s l n. refused-count o room s l n;
+      group = λ s l. group-count s l;
+      opening = λ a s p. ap countOf (refused-opening s p a);
     }

@@ -8,25 +8,22 @@ use mathlib.Core.Bool.{Bool, true, false, cond}
 use mathlib.Core.List.{List, [], _∷_, map}
 use lib.Dec.{eqb}
 use lib.ListN.{length, take}
+use Rattle.track.specs.declared.Asked.{Asked}
+use Rattle.slots.specs.declared.share.Side.the-variants.{Receiver}
 use Rattle.slots.specs.Share.{shareLen, acceptedAt, askedOf, isOpen, opened}
 use Rattle.slots.specs.Table.{Out, out, tableLen, shareAt}
+use Rattle.slots.specs.Calls.{opening, closing, grouping}
 use Rattle.exchange.specs.Took.{Took}
 use Rattle.receiver.specs.Object.{isDelta}
+use Rattle.receiver.specs.Receive.{receiving}
 use Rattle.joining.specs.Number.{numberIn}
 use Rattle.joining.specs.Matches.{frontOf, countOf, Matches}
 use Rattle.given.specs.Given.{F}
-use Rattle.demands.specs.Three.{Call, opens, closes, groups, receives, slotOf, onShareOf, call, tableAfter}
+use Rattle.demands.specs.Codec.{Codec, ours}
+use Rattle.demands.specs.One.{alone}
+use Rattle.demands.specs.Three.{Call, opens, closes, groups, receives, slotOf, call, tableAfter}
 
 -- ---- calls on one slot, by its share
-
--- what each call of a run gives and leaves, and the share after them all
-unfoldable pub outs : List Call → List ℕ → List (Out Took)
-outs [] s = []
-outs (a ∷ calls) s = onShareOf a s ∷ outs calls (onShareOf a s .words)
-
-unfoldable pub shareAfter : List Call → List ℕ → List ℕ
-shareAfter [] s = s
-shareAfter (a ∷ calls) s = shareAfter calls (onShareOf a s .words)
 
 abbrev pub isClose : Call → Bool
 isClose (opens slot a) = false
@@ -47,19 +44,37 @@ AllMatch d (a ∷ xs) (b ∷ ys) = Matches d a b × AllMatch d xs ys
 AllMatch d [] (b ∷ ys) = ⊥
 AllMatch d (a ∷ xs) [] = ⊥
 
--- "for an open slot and any calls on it": any share s, and any calls on it before the full object, closes and openings too. Where the object is then accepted, the
--- share is lawful and open (18, 2), and "the same parameters" are those that it has. "those from an accepted full object on": the object, and any calls after it
-abbrev pub Joins : Type 0
-Joins = (s : List ℕ) → length s ≡ shareLen → (before : List Call) (slot : ℕ) (o room : List ℕ) (after : List Call) → NoClose after
-    → let t = shareAfter before s in
-    let run = receives slot o room ∷ after in
-    isDelta F o ≡ false → onShareOf (receives slot o room) t .answer .number ≡ 0
-    → AllMatch (countOf t) (outs run t) (outs run (opened (askedOf t)))
+-- of any codec
+module _ (C : Codec) where
+  -- what a call gives on the share of its slot, and leaves there
+  abbrev pub onShareOf : Call → List ℕ → Out Took
+  onShareOf (opens slot a) s = alone (opening Receiver a s)
+  onShareOf (closes slot) s = alone (closing Receiver s)
+  onShareOf (groups slot) s = alone (grouping Receiver s)
+  onShareOf (receives slot o room) s = C .receive o room s
+
+  -- what each call of a run gives and leaves, and the share after them all
+  unfoldable pub outs : List Call → List ℕ → List (Out Took)
+  outs [] s = []
+  outs (a ∷ calls) s = onShareOf a s ∷ outs calls (onShareOf a s .words)
+
+  unfoldable pub shareAfter : List Call → List ℕ → List ℕ
+  shareAfter [] s = s
+  shareAfter (a ∷ calls) s = shareAfter calls (onShareOf a s .words)
+
+  -- "for an open slot and any calls on it": any share s, and any calls on it before the full object, closes and openings too. Where the object is then accepted, the
+  -- share is lawful and open (18, 2), and "the same parameters" are those that it has. "those from an accepted full object on": the object, and any calls after it
+  abbrev pub Joins : Type 0
+  Joins = (s : List ℕ) → length s ≡ shareLen → (before : List Call) (slot : ℕ) (o room : List ℕ) (after : List Call) → NoClose after
+      → let t = shareAfter before s in
+      let run = receives slot o room ∷ after in
+      isDelta F o ≡ false → C .receive o room t .answer .number ≡ 0
+      → AllMatch (countOf t) (outs run t) (outs run (opened (askedOf t)))
 
 -- no call on an open slot but a close changes its parameters: they are those of its opening
 abbrev pub ParametersStay : Type 0
 ParametersStay = (s : List ℕ) → length s ≡ shareLen → isOpen s ≡ true → (calls : List Call) → NoClose calls
-    → take acceptedAt (shareAfter calls s) ≡ take acceptedAt s
+    → take acceptedAt (shareAfter ours calls s) ≡ take acceptedAt s
 
 -- ---- the number that is excepted
 
@@ -67,13 +82,14 @@ ParametersStay = (s : List ℕ) → length s ≡ shareLen → isOpen s ≡ true 
 -- one with every accepted object; no other call of an open slot but a close changes it. So two receivers that are given the same calls stay as far apart as they
 -- were, modulo 2^32
 pub record NumberRuns : Type 0 where
-  pub stands : (slot : ℕ) (o room s : List ℕ) → length s ≡ shareLen → onShareOf (receives slot o room) s .answer .number ≡ 0
-      → numberIn (frontOf (onShareOf (receives slot o room) s .answer)) ≡ countOf (onShareOf (receives slot o room) s .words)
-  pub by-one : (slot : ℕ) (o room s : List ℕ) → length s ≡ shareLen → onShareOf (receives slot o room) s .answer .number ≡ 0
-      → countOf (onShareOf (receives slot o room) s .words) ≡ (countOf s + 1) % 2 ^ 32
-  pub refused : (slot : ℕ) (o room s : List ℕ) → length s ≡ shareLen → (onShareOf (receives slot o room) s .answer .number ≡ 0 → ⊥)
-      → countOf (onShareOf (receives slot o room) s .words) ≡ countOf s
-  pub group : (slot : ℕ) (s : List ℕ) → length s ≡ shareLen → countOf (onShareOf (groups slot) s .words) ≡ countOf s
+  pub stands : (o room s : List ℕ) → length s ≡ shareLen → receiving F o room s .answer .number ≡ 0
+      → numberIn (frontOf (receiving F o room s .answer)) ≡ countOf (receiving F o room s .words)
+  pub by-one : (o room s : List ℕ) → length s ≡ shareLen → receiving F o room s .answer .number ≡ 0
+      → countOf (receiving F o room s .words) ≡ (countOf s + 1) % 2 ^ 32
+  pub refused : (o room s : List ℕ) → length s ≡ shareLen → (receiving F o room s .answer .number ≡ 0 → ⊥)
+      → countOf (receiving F o room s .words) ≡ countOf s
+  pub group : (s : List ℕ) → length s ≡ shareLen → countOf (grouping Receiver s .words) ≡ countOf s
+  pub opening : (a : Asked) (s : List ℕ) → isOpen s ≡ true → countOf (opening Receiver a s .words) ≡ countOf s
 
 -- ---- the same on whole tables
 
@@ -92,8 +108,8 @@ outsAt slot (a ∷ calls) t =
 -- the calls on the other seven slots change nothing of it: it is what the slot's own calls give on its share, and so is what they leave
 abbrev pub OwnCalls : Type 0
 OwnCalls = (slot : ℕ) → slot < 8 → (calls : List Call) (t : List ℕ) → length t ≡ tableLen
-    → (outsAt slot calls t ≡ outs (only slot calls) (shareAt t slot))
-    × (shareAt (tableAfter calls t) slot ≡ shareAfter (only slot calls) (shareAt t slot))
+    → (outsAt slot calls t ≡ outs ours (only slot calls) (shareAt t slot))
+    × (shareAt (tableAfter calls t) slot ≡ shareAfter ours (only slot calls) (shareAt t slot))
 
 -- a call made on another slot
 abbrev pub moved : ℕ → Call → Call
@@ -102,20 +118,19 @@ moved j (closes slot) = closes j
 moved j (groups slot) = groups j
 moved j (receives slot o room) = receives j o room
 
--- any calls on the table t, a full object that slot i then accepts, and any calls after it; and beside it any table t′ where slot j could be opened with the same
--- parameters, the same object, and calls after it of which those on slot j are the same. What calls there are on other slots is all one
+-- any calls on the table t, a full object that slot i then accepts, and any calls after it; and beside it any table t′ where slot j is opened with the same parameters,
+-- and a run whose calls on slot j are the same from the object on. What calls there are on other slots is all one
 abbrev pub TablesJoin : Type 0
 TablesJoin = (i j : ℕ) → i < 8 → j < 8 → (t t′ : List ℕ) → length t ≡ tableLen → length t′ ≡ tableLen
-    → (before : List Call) (o room : List ℕ) (after after′ : List Call) → NoClose (only i after)
+    → (before : List Call) (o room : List ℕ) (after run′ : List Call) → NoClose (only i after)
     → let u = tableAfter before t in
     let u′ = call (opens j (askedOf (shareAt u i))) t′ in
     let run = receives i o room ∷ after in
-    isDelta F o ≡ false → call (receives i o room) u .answer .number ≡ 0 → u′ .answer .number ≡ 0
-    → map (moved j) (only i after) ≡ only j after′
-    → AllMatch (countOf (shareAt u i)) (outsAt i run u) (outsAt j (receives j o room ∷ after′) (u′ .words))
+    isDelta F o ≡ false → call (receives i o room) u .answer .number ≡ 0 → u′ .answer .number ≡ 0 → map (moved j) (only i run) ≡ only j run′
+    → AllMatch (countOf (shareAt u i)) (outsAt i run u) (outsAt j run′ (u′ .words))
 
 pub record JoiningInMidGroup : Type 0 where
-  pub share : Joins
+  pub share : Joins ours
   pub parameters : ParametersStay
   pub number : NumberRuns
   pub own-calls : OwnCalls

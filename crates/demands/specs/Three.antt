@@ -43,13 +43,6 @@ call (closes slot) t = alone (onTable itself (closing Receiver) t slot)
 call (groups slot) t = alone (onTable itself (grouping Receiver) t slot)
 call (receives slot o room) t = onTable (refused room) (receiving F o room) t slot
 
--- the same on the share of its slot
-abbrev pub onShareOf : Call → List ℕ → Out Took
-onShareOf (opens slot a) s = alone (opening Receiver a s)
-onShareOf (closes slot) s = alone (closing Receiver s)
-onShareOf (groups slot) s = alone (grouping Receiver s)
-onShareOf (receives slot o room) s = receiving F o room s
-
 -- a call with another room
 abbrev pub lent : List ℕ → Call → Call
 lent r (opens slot a) = opens slot a
