@@ -29,17 +29,16 @@ use Rattle.joining.proofs.NearCalls.{same-answer, receive-near, open-near, grou
 use Rattle.joining.proofs.FullJoins.{full-joins, counts-one, number-stands}
 use Rattle.given.specs.Given.{F}
 use Rattle.demands.specs.One.{alone}
-use Rattle.demands.specs.Codec.{ours}
 use Rattle.demands.specs.Three.{Call, opens, closes, groups, receives}
 use Rattle.demands.specs.Join.{isClose, NoClose, AllMatch, onShareOf, outs, shareAfter, Joins, ParametersStay, NumberRuns}
 use Rattle.demands.proofs.OneChange.{call-keeps}
 use Rattle.demands.proofs.Shares.{receive-parameters}
 
 -- a run keeps its share's length
-pub run-keeps : (calls : List Call) (s : List ℕ) → length s ≡ shareLen → length (shareAfter ours calls s) ≡ shareLen
+pub run-keeps : (calls : List Call) (s : List ℕ) → length s ≡ shareLen → length (shareAfter (receiving F) calls s) ≡ shareLen
 unfolding shareAfter
 run-keeps [] s l = l
-run-keeps (a ∷ calls) s l = run-keeps calls (onShareOf ours a s .words) (call-keeps a .keeps s l)
+run-keeps (a ∷ calls) s l = run-keeps calls (onShareOf (receiving F) a s .words) (call-keeps a .keeps s l)
 
 -- ---- a run on two shares that agree but for their counts
 
@@ -51,7 +50,7 @@ module _ (a : Asked) (is-on : eqb (a .track) 0 ≡ false) (d : ℕ) where
       subst (λ (z : List ℕ). Stays a d (f z) (f s′)) (sym (h .is))
       (subst (λ (z : List ℕ). Stays a d (f (made a (h .count) (h .rest))) (f z)) (sym (h .is′)) (g (h .count) (h .count′) (h .rest) (h .small) (h .apart)))
 
-  call-near : (c : Call) → isClose c ≡ false → (s s′ : List ℕ) → Near a d s s′ → Stays a d (onShareOf ours c s) (onShareOf ours c s′)
+  call-near : (c : Call) → isClose c ≡ false → (s s′ : List ℕ) → Near a d s s′ → Stays a d (onShareOf (receiving F) c s) (onShareOf (receiving F) c s′)
   call-near (opens slot x) q =
       on-near _ (λ n m r small apart. let w = open-near a d n m r small apart is-on x in same-answer a d _ _ (ap (refused []) (w .0)) (w .1))
   call-near (closes slot) q = absurd (false≢true (sym q))
@@ -59,7 +58,7 @@ module _ (a : Asked) (is-on : eqb (a .track) 0 ≡ false) (d : ℕ) where
       on-near _ (λ n m r small apart. let w = group-near a d n m r small apart is-on in same-answer a d _ _ (ap (refused []) (w .0)) (w .1))
   call-near (receives slot o room) q = on-near _ (λ n m r small apart. receive-near a d n m r small apart F o room is-on)
 
-  run-matches : (calls : List Call) → NoClose calls → (s s′ : List ℕ) → Near a d s s′ → AllMatch d (outs ours calls s) (outs ours calls s′)
+  run-matches : (calls : List Call) → NoClose calls → (s s′ : List ℕ) → Near a d s s′ → AllMatch d (outs (receiving F) calls s) (outs (receiving F) calls s′)
   unfolding outs
   run-matches [] q s s′ h = tt
   run-matches (c ∷ calls) q s s′ h = let w = call-near c (q .0) s s′ h in (w .matches, run-matches calls (q .1) _ _ (w .near))
@@ -93,12 +92,16 @@ module _ (t : List ℕ) (l : length t ≡ shareLen) (slot : ℕ) (o room : List 
       (full-joins F (askedOf t) (countOf t) (drop heldAt t) is-on few (sym (ap length whole) ∙ l) o room full
       (sym (ap (λ (x : List ℕ). receiving F o room x .answer .number) whole) ∙ z))
 
-  pub joins-at : AllMatch (countOf t) (outs ours (receives slot o room ∷ after) t) (outs ours (receives slot o room ∷ after) (opened (askedOf t)))
+  pub joins-at : AllMatch (countOf t) (outs (receiving F) (receives slot o room ∷ after) t) (outs (receiving F) (receives slot o room ∷ after) (opened (askedOf t)))
   unfolding outs
   joins-at = (object-joins .matches, run-matches (askedOf t) is-on (countOf t) after q _ _ (object-joins .near))
 
-pub joins : Joins ours
-joins s l before slot o room after q full z = joins-at (shareAfter ours before s) (run-keeps before s l) slot o room after q full z
+pub joins : Joins (receiving F)
+joins s l before slot o room after q full z = joins-at (shareAfter (receiving F) before s) (run-keeps before s l) slot o room after q full z
+
+-- and so does any receiver that gives what the rules define
+pub joins-by : {receive : (object room share : List ℕ) → Out Took} → ((o room s : List ℕ) → receiving F o room s ≡ receive o room s) → Joins receive
+joins-by e = subst Joins (λ j o room s. e o room s j) joins
 
 -- ---- the parameters
 
@@ -115,7 +118,7 @@ group-parameters s l =
     climbs-all (λ (x : Out ℕ). take acceptedAt (x .words) ≡ take acceptedAt s) (λ k. out k s) (openedRungs Receiver s) (out 0 (dropped s)) (λ k. refl)
     (λ h. dropped-parameters s l)
 
-call-parameters : (c : Call) → isClose c ≡ false → (s : List ℕ) → length s ≡ shareLen → isOpen s ≡ true → take acceptedAt (onShareOf ours c s .words) ≡ take acceptedAt s
+call-parameters : (c : Call) → isClose c ≡ false → (s : List ℕ) → length s ≡ shareLen → isOpen s ≡ true → take acceptedAt (onShareOf (receiving F) c s .words) ≡ take acceptedAt s
 call-parameters (opens slot a) q s l p = ap (take acceptedAt) (refused-opening s p a)
 call-parameters (closes slot) q s l p = absurd (false≢true (sym q))
 call-parameters (groups slot) q s l p = group-parameters s l
@@ -125,8 +128,8 @@ pub parameters-stay : ParametersStay
 unfolding shareAfter
 parameters-stay s l p [] q = refl
 parameters-stay s l p (c ∷ calls) q =
-    let e : take acceptedAt (onShareOf ours c s .words) ≡ take acceptedAt s = call-parameters c (q .0) s l p in
-    parameters-stay (onShareOf ours c s .words) (call-keeps c .keeps s l) (same-open (onShareOf ours c s .words) s e ∙ p) calls (q .1) ∙ e
+    let e : take acceptedAt (onShareOf (receiving F) c s .words) ≡ take acceptedAt s = call-parameters c (q .0) s l p in
+    parameters-stay (onShareOf (receiving F) c s .words) (call-keeps c .keeps s l) (same-open (onShareOf (receiving F) c s .words) s e ∙ p) calls (q .1) ∙ e
 
 -- ---- the number
 

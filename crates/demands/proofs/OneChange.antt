@@ -16,7 +16,6 @@ use Rattle.receiver.proofs.ObjectBytes.{order-unseen}
 use Rattle.given.specs.Given.{F}
 use Rattle.demands.specs.One.{alone}
 use Rattle.demands.specs.Three.{Call, opens, closes, groups, receives, slotOf, call, lent, told, Reordered}
-use Rattle.demands.specs.Codec.{ours}
 use Rattle.demands.specs.Join.{onShareOf}
 
 -- ---- a call by what it makes of a share, and what it answers if the table or the slot is wrong
@@ -28,7 +27,7 @@ refusedBy (groups slot) k = took k 0 [] []
 refusedBy (receives slot o room) k = refused room k
 
 abbrev pub shared : Call → List ℕ → Out Took
-shared a t = onTable (refusedBy a) (onShareOf ours a) t (slotOf a)
+shared a t = onTable (refusedBy a) (onShareOf (receiving F) a) t (slotOf a)
 
 pub call-shared : (a : Call) (t : List ℕ) → shared a t ≡ call a t
 unfolding call refusedBy
@@ -38,7 +37,7 @@ call-shared (groups slot) t = table-seen (λ k. took k 0 [] []) itself (grouping
 call-shared (receives slot o room) t = refl
 
 -- every call keeps its share's length
-pub call-keeps : (a : Call) → Keeps (onShareOf ours a)
+pub call-keeps : (a : Call) → Keeps (onShareOf (receiving F) a)
 call-keeps (opens slot a) = record { keeps = open-keeps Receiver a .keeps }
 call-keeps (closes slot) = record { keeps = close-keeps Receiver .keeps }
 call-keeps (groups slot) = record { keeps = group-keeps Receiver .keeps }
@@ -47,9 +46,9 @@ call-keeps (receives slot o room) = receive-keeps F o room
 -- ---- two calls on different slots
 
 module _ (a b : Call) (d : slotOf a ≡ slotOf b → ⊥) (t : List ℕ) where
-  abbrev calls-apart : Apart (refusedBy a) (onShareOf ours a) (refusedBy b) (onShareOf ours b) (slotOf a) (slotOf b) t
+  abbrev calls-apart : Apart (refusedBy a) (onShareOf (receiving F) a) (refusedBy b) (onShareOf (receiving F) b) (slotOf a) (slotOf b) t
   calls-apart =
-      apart Took Took (refusedBy a) (onShareOf ours a) (refusedBy b) (onShareOf ours b) (call-keeps a) (call-keeps b) (slotOf a) (slotOf b) d t
+      apart Took Took (refusedBy a) (onShareOf (receiving F) a) (refusedBy b) (onShareOf (receiving F) b) (call-keeps a) (call-keeps b) (slotOf a) (slotOf b) d t
 
   -- either order leaves the same table
   pub tables-same : call b (call a t .words) .words ≡ call a (call b t .words) .words

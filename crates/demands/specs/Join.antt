@@ -19,7 +19,6 @@ use Rattle.receiver.specs.Receive.{receiving}
 use Rattle.joining.specs.Number.{numberIn}
 use Rattle.joining.specs.Matches.{frontOf, countOf, Matches}
 use Rattle.given.specs.Given.{F}
-use Rattle.demands.specs.Codec.{Codec, ours}
 use Rattle.demands.specs.One.{alone}
 use Rattle.demands.specs.Three.{Call, opens, closes, groups, receives, slotOf, call, tableAfter}
 
@@ -44,14 +43,14 @@ AllMatch d (a ∷ xs) (b ∷ ys) = Matches d a b × AllMatch d xs ys
 AllMatch d [] (b ∷ ys) = ⊥
 AllMatch d (a ∷ xs) [] = ⊥
 
--- of any codec
-module _ (C : Codec) where
+-- of any receiver: what it makes of an object, the room that is lent and a share
+module _ (receive : (object room share : List ℕ) → Out Took) where
   -- what a call gives on the share of its slot, and leaves there
   abbrev pub onShareOf : Call → List ℕ → Out Took
   onShareOf (opens slot a) s = alone (opening Receiver a s)
   onShareOf (closes slot) s = alone (closing Receiver s)
   onShareOf (groups slot) s = alone (grouping Receiver s)
-  onShareOf (receives slot o room) s = C .receive o room s
+  onShareOf (receives slot o room) s = receive o room s
 
   -- what each call of a run gives and leaves, and the share after them all
   unfoldable pub outs : List Call → List ℕ → List (Out Took)
@@ -68,13 +67,13 @@ module _ (C : Codec) where
   Joins = (s : List ℕ) → length s ≡ shareLen → (before : List Call) (slot : ℕ) (o room : List ℕ) (after : List Call) → NoClose after
       → let t = shareAfter before s in
       let run = receives slot o room ∷ after in
-      isDelta F o ≡ false → C .receive o room t .answer .number ≡ 0
+      isDelta F o ≡ false → receive o room t .answer .number ≡ 0
       → AllMatch (countOf t) (outs run t) (outs run (opened (askedOf t)))
 
 -- no call on an open slot but a close changes its parameters: they are those of its opening
 abbrev pub ParametersStay : Type 0
 ParametersStay = (s : List ℕ) → length s ≡ shareLen → isOpen s ≡ true → (calls : List Call) → NoClose calls
-    → take acceptedAt (shareAfter ours calls s) ≡ take acceptedAt s
+    → take acceptedAt (shareAfter (receiving F) calls s) ≡ take acceptedAt s
 
 -- ---- the number that is excepted
 
@@ -108,8 +107,8 @@ outsAt slot (a ∷ calls) t =
 -- the calls on the other seven slots change nothing of it: it is what the slot's own calls give on its share, and so is what they leave
 abbrev pub OwnCalls : Type 0
 OwnCalls = (slot : ℕ) → slot < 8 → (calls : List Call) (t : List ℕ) → length t ≡ tableLen
-    → (outsAt slot calls t ≡ outs ours (only slot calls) (shareAt t slot))
-    × (shareAt (tableAfter calls t) slot ≡ shareAfter ours (only slot calls) (shareAt t slot))
+    → (outsAt slot calls t ≡ outs (receiving F) (only slot calls) (shareAt t slot))
+    × (shareAt (tableAfter calls t) slot ≡ shareAfter (receiving F) (only slot calls) (shareAt t slot))
 
 -- a call made on another slot
 abbrev pub moved : ℕ → Call → Call
@@ -130,7 +129,8 @@ TablesJoin = (i j : ℕ) → i < 8 → j < 8 → (t t′ : List ℕ) → length 
     → AllMatch (countOf (shareAt u i)) (outsAt i run u) (outsAt j run′ (u′ .words))
 
 pub record JoiningInMidGroup : Type 0 where
-  pub share : Joins ours
+  -- our receiver, by its contract
+  pub share : Joins (receiving F)
   pub parameters : ParametersStay
   pub number : NumberRuns
   pub own-calls : OwnCalls

@@ -1,3 +1,4 @@
 pub mod Computed
 pub mod Group
 pub mod Refuted
+pub mod Incident
