@@ -31,7 +31,7 @@ isClose (groups slot) = false
 isClose (receives slot o room) = false
 
 -- "a close or a second opening ends the claim": calls up to a close, so that none of them is one. An opening among them finds the slot open, and so it is refused with
--- 3 and ends nothing
+-- 3 and ends nothing (D139)
 abbrev pub NoClose : List Call → Type 0
 NoClose [] = Unit {0}
 NoClose (a ∷ calls) = (isClose a ≡ false) × NoClose calls
@@ -63,6 +63,7 @@ module _ (receive : (object room share : List ℕ) → Out Took) where
 
   -- "for an open slot and any calls on it": any share s, and any calls on it before the full object, closes and openings too. Where the object is then accepted, the
   -- share is lawful and open (18, 2), and "the same parameters" are those that it has. "those from an accepted full object on": the object, and any calls after it
+  -- (D137, D138)
   abbrev pub Joins : Type 0
   Joins = (s : List ℕ) → length s ≡ shareLen → (before : List Call) (slot : ℕ) (o room : List ℕ) (after : List Call) → NoClose after
       → let t = shareAfter before s in
@@ -79,7 +80,7 @@ ParametersStay = (s : List ℕ) → length s ≡ shareLen → isOpen s ≡ true 
 
 -- 01: "`mfhd` counts accepted objects since opening from 1, 0 following 2^32-1.": it is the share's count, in the four bytes that `unnumbered` puts to 0, and runs by
 -- one with every accepted object; no other call of an open slot but a close changes it. So two receivers that are given the same calls stay as far apart as they
--- were, modulo 2^32
+-- were, modulo 2^32 (D140)
 pub record NumberRuns : Type 0 where
   pub stands : (o room s : List ℕ) → length s ≡ shareLen → receiving F o room s .answer .number ≡ 0
       → numberIn (frontOf (receiving F o room s .answer)) ≡ countOf (receiving F o room s .words)
@@ -118,7 +119,7 @@ moved j (groups slot) = groups j
 moved j (receives slot o room) = receives j o room
 
 -- any calls on the table t, a full object that slot i then accepts, and any calls after it; and beside it any table t′ where slot j is opened with the same parameters,
--- and a run whose calls on slot j are the same from the object on. What calls there are on other slots is all one
+-- and a run whose calls on slot j are the same from the object on. What calls there are on other slots is all one (D141)
 abbrev pub TablesJoin : Type 0
 TablesJoin = (i j : ℕ) → i < 8 → j < 8 → (t t′ : List ℕ) → length t ≡ tableLen → length t′ ≡ tableLen
     → (before : List Call) (o room : List ℕ) (after run′ : List Call) → NoClose (only i after)

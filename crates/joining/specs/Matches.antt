@@ -17,7 +17,7 @@ frontOf a = take (a .front) (a .output)
 abbrev pub countOf : List ℕ → ℕ
 countOf s = getD s acceptedAt 0
 
--- the same but for the `mfhd` number, where the counts of the two shares are d apart
+-- the same but for the `mfhd` number, where the counts of the two shares are d apart (D140, D141)
 pub record Matches (d : ℕ) (a b : Out Took) : Type 0 where
   -- "answers": number, length of the front, payload
   pub number : a .answer .number ≡ b .answer .number
