@@ -7,7 +7,6 @@ use mathlib.Core.List.{List, [], _∷_}
 use borrow.Author.Tests.{not-true, leb-true}
 use lib.Dec.{eqb, leb}
 use lib.ListN.{length, take, drop}
-use lib.Seq.{getD-take}
 use Rattle.laws.proofs.LadderLaws.{climbs-all}
 use Rattle.track.specs.declared.Asked.{Asked}
 use Rattle.track.specs.Track.{u32}
@@ -28,7 +27,6 @@ use Rattle.joining.proofs.NearLaws.{parted}
 use Rattle.joining.proofs.NearCalls.{same-answer, receive-near, open-near, group-near}
 use Rattle.joining.proofs.FullJoins.{full-joins, counts-one, number-stands}
 use Rattle.given.specs.Given.{F}
-use Rattle.demands.specs.One.{alone}
 use Rattle.demands.specs.Three.{Call, opens, closes, groups, receives}
 use Rattle.demands.specs.Join.{isClose, NoClose, AllMatch, onShareOf, outs, shareAfter, Joins, ParametersStay, NumberRuns}
 use Rattle.demands.proofs.OneChange.{call-keeps}

@@ -9,8 +9,8 @@ use lib.Dec.{eqb}
 use lib.ListN.{length}
 use Rattle.track.specs.declared.Asked.{Asked}
 use Rattle.slots.specs.declared.share.Side.the-variants.{Receiver}
-use Rattle.slots.specs.Share.{shareLen, askedOf, opened}
-use Rattle.slots.specs.Table.{Out, out, tableLen, shareAt, putShare}
+use Rattle.slots.specs.Share.{askedOf, opened}
+use Rattle.slots.specs.Table.{Out, out, tableLen, shareAt}
 use Rattle.slots.proofs.TableLaws.{right-slot, share-long, left-there}
 use Rattle.slots.proofs.Apart.{table-long, others-stay}
 use Rattle.slots.proofs.Lawful.{open-stores}
@@ -19,8 +19,8 @@ use Rattle.receiver.specs.Receive.{receiving}
 use Rattle.joining.specs.Matches.{countOf}
 use Rattle.given.specs.Given.{F}
 use Rattle.demands.specs.Three.{Call, opens, closes, groups, receives, slotOf, call, tableAfter}
-use Rattle.demands.specs.Join.{AllMatch, onShareOf, outs, shareAfter, Joins, only, outsAt, OwnCalls, moved, TablesJoin, JoiningInMidGroup}
-use Rattle.demands.proofs.OneChange.{refusedBy, shared, call-shared, call-keeps}
+use Rattle.demands.specs.Join.{AllMatch, onShareOf, outs, shareAfter, only, outsAt, OwnCalls, moved, TablesJoin, JoiningInMidGroup}
+use Rattle.demands.proofs.OneChange.{refusedBy, call-shared, call-keeps}
 use Rattle.demands.proofs.JoinRuns.{joins-at, joins-by, parameters-stay, number-runs}
 
 -- ---- one call

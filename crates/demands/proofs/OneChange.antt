@@ -14,7 +14,6 @@ use Rattle.receiver.specs.Receive.{receiving}
 use Rattle.receiver.proofs.Theorems.{receive-keeps}
 use Rattle.receiver.proofs.ObjectBytes.{order-unseen}
 use Rattle.given.specs.Given.{F}
-use Rattle.demands.specs.One.{alone}
 use Rattle.demands.specs.Three.{Call, opens, closes, groups, receives, slotOf, call, lent, told, Reordered}
 use Rattle.demands.specs.Join.{onShareOf}
 

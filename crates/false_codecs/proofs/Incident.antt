@@ -5,8 +5,6 @@ use mathlib.Core.Path.{_≡_, refl, sym, _∙_, ap}
 use mathlib.Core.Bool.{false}
 use mathlib.Core.List.{List, [], _∷_}
 use lib.ListN.{length, getD, replicate, drop}
-use lib.Seq.{getD-drop}
-use Rattle.laws.specs.ByLength.{within, byLength}
 use Rattle.laws.specs.Bytes.{be, de}
 use Rattle.laws.specs.Gate.{gate}
 use Rattle.laws.specs.Ladder.{ladder}
@@ -83,7 +81,14 @@ record Computed : Type 0 where
   right : staleFlag delta room new .answer .front ≡ 100
 
 computed : Computed
-unfolding flagsAt within byLength be de gate ladder sum allZero allLe _and_ byFirst readF reached ranged unzigzag wideOf lawful inUse has valuesOf sameIvSize lawfulSet regionsOk marksOf regionOk saizOk setRules lineFor lineNumber absentValue wanted lines every mayHave sizesAgree samplesAgree toldSum openOk lawfulShare dropped setOk referenceOk prftOk opened isOpen entry body entriesAt says readable content member lawfulEntries wholly taken known numbersRun numberFront numbersF number tupleFront tupleF bodyF tuplesF kindOf tuplesRun fullBox box protection trunFlags emsgBoxes stypBox moofWhole tfhdBox plain sizeOf prftBox mfhdBox trunRows tfhdFlags trunBox tfdtBox trunRow front moofBox sentList packed sentOne carried oldValues cellOf sayingOf among regionsOf regionOf setWords moofField deletionsOk countReached stands subsamples countFrom setRungs brandsFit came cameOf fieldRungs countOf durationsOf bmdtOf idsOk prftOf samplesOk sizesOk protectedOk allFit listed fits boxed prftWords keptWords tuples lengthAt reads isDelta blockReads headerId blockEnd entries payload headerReads headRungs blockAt blockLength receiving newSet sumsOk splitRungs heldOk idsRight valuesOk afterRefusal accepted bmdt sequence valueRungs receiveRungs events chunk prft
+unfolding flagsAt be de gate ladder sum allZero allLe _and_ byFirst readF reached ranged unzigzag wideOf lawful inUse has valuesOf sameIvSize lawfulSet regionsOk
+    marksOf regionOk saizOk setRules lineFor lineNumber absentValue wanted lines every mayHave sizesAgree samplesAgree toldSum openOk lawfulShare dropped setOk
+    referenceOk prftOk opened isOpen entry body entriesAt says readable content member lawfulEntries wholly taken known numbersRun numberFront numbersF number
+    tupleFront tupleF bodyF tuplesF kindOf tuplesRun fullBox box protection trunFlags emsgBoxes stypBox moofWhole tfhdBox plain sizeOf prftBox mfhdBox trunRows
+    tfhdFlags trunBox tfdtBox trunRow front moofBox sentList packed sentOne carried oldValues cellOf sayingOf among regionsOf regionOf setWords moofField deletionsOk
+    countReached stands subsamples countFrom setRungs brandsFit came cameOf fieldRungs countOf durationsOf bmdtOf idsOk prftOf samplesOk sizesOk protectedOk allFit
+    listed fits boxed prftWords keptWords tuples lengthAt reads isDelta blockReads headerId blockEnd entries payload headerReads headRungs blockAt blockLength receiving
+    newSet sumsOk splitRungs heldOk idsRight valuesOk afterRefusal accepted bmdt sequence valueRungs receiveRungs events chunk prft
 computed = record { long = refl; full = refl; done = refl; stands = refl; lacks = refl; shows = refl; right = refl }
 
 -- it doesn't join: the flags of the first object stay in the reference of the one share, and were never in that of the other

@@ -19,7 +19,6 @@ use Rattle.media.specs.Clocks.{onTrack}
 use Rattle.block.specs.declared.records.Record.{Record}
 use Rattle.block.specs.Records.{recordsF}
 use Rattle.block.specs.Events.{Event, eventOf, eventsF}
-use Rattle.block.specs.Index.{bytesOf}
 use Rattle.fields.specs.Said.{numbers}
 use Rattle.object.specs.Events.{fromBmdt}
 use Rattle.object.specs.Values.{listed, withTime, boxed, boxes}

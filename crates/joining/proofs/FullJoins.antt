@@ -3,23 +3,22 @@
 use Prim.Native.Nat.{ℕ, _+_, _%_, _^_, _≤_}
 use native.Mathlib.Omega.{arith}
 use mathlib.Core.Path.{_≡_, refl, sym, _∙_, ap, subst}
-use mathlib.Core.Bool.{Bool, true, false, cond, _&&_}
+use mathlib.Core.Bool.{true, false}
 use mathlib.Core.List.{List}
-use lib.Dec.{eqb, leb}
+use lib.Dec.{eqb}
 use lib.ListN.{length, drop, replicate}
 use lib.Seq.{take-append-seam}
-use Rattle.laws.proofs.LadderLaws.{climbs-all}
 use Rattle.wire.specs.declared.form.Row.{Row}
 use Rattle.track.specs.declared.Asked.{Asked}
 use Rattle.track.specs.Track.{u32}
 use Rattle.slots.specs.declared.share.Side.the-variants.{Receiver}
-use Rattle.slots.specs.Share.{shareLen, acceptedAt, isOpen, lawful, opened, dropped}
+use Rattle.slots.specs.Share.{shareLen, isOpen, lawful, opened, dropped}
 use Rattle.slots.specs.Table.{Out, out}
 use Rattle.slots.proofs.Lawful.{dropped-long, dropped-lawful}
 use Rattle.exchange.specs.Took.{Took}
 use Rattle.exchange.specs.Kept.{keptWords}
 use Rattle.receiver.specs.Object.{isDelta}
-use Rattle.receiver.specs.Receive.{prft, newSet, sequence, chunk, accepted, done, receiving}
+use Rattle.receiver.specs.Receive.{prft, newSet, sequence, chunk, accepted, receiving}
 use Rattle.receiver.proofs.PassedLaws.{passed}
 use Rattle.receiver.proofs.AlikeTheorems.{full-forgets, done-holds, done-is}
 use Rattle.joining.specs.Number.{numberIn}

@@ -5,7 +5,7 @@ use mathlib.Core.Path.{_≡_, refl, sym, _∙_, ap, subst}
 use mathlib.Core.Bool.{Bool, true, false, cond, not, _&&_, false≢true}
 use mathlib.Core.List.{List, [], _∷_, _++_}
 use lib.Dec.{eqb, leb}
-use lib.ListN.{length, drop, take, replicate}
+use lib.ListN.{length, drop, replicate}
 use lib.Seq.{slice, take-append-seam, drop-append-seam}
 use Rattle.laws.specs.Ladder.{Rung, _else_, ladder, Hold}
 use Rattle.laws.proofs.LadderLaws.{climbs-both}

@@ -9,7 +9,7 @@ use borrow.Author.Tests.{le-leb}
 use lib.Dec.{eqb, leb}
 use lib.ListN.{length, getD, drop}
 use Rattle.laws.specs.Tests.{_and_}
-use Rattle.laws.specs.Ladder.{Rung, _else_}
+use Rattle.laws.specs.Ladder.{_else_}
 use Rattle.wire.specs.declared.form.Row.{Row}
 use Rattle.track.specs.declared.Asked.{Asked}
 use Rattle.track.specs.Track.{u32}
