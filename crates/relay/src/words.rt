@@ -55,7 +55,10 @@ pub fn meaning(fd: i32, n: u64) {
 }
 
 pub fn usage(fd: i32) {
-    io::write_all(fd, b"usage: relay [--every N | --sync] [FOLDER ..]\n\n");
+    io::write_all(
+        fd,
+        b"usage: relay [--every N | --sync] [--join N] [FOLDER ..]\n\n",
+    );
     io::write_all(
         fd,
         b"Encodes the chunks of each track, receives the objects, and encodes the rebuilt chunks again.\n\n",
@@ -80,6 +83,14 @@ pub fn usage(fd: i32) {
         fd,
         b"  --sync     a full object at each chunk whose first sample is a sync sample, deltas between\n",
     );
+    io::write_all(
+        fd,
+        b"  --join N   at each track's Nth full object a second receiver starts, just opened, as if the capture were cut there:\n",
+    );
+    io::write_all(
+        fd,
+        b"             it has to make the same chunks, but for mfhd numbers all less by the same, and keep the same reference\n",
+    );
     io::write_all(fd, b"  --help     this text\n\n");
     io::write_all(
         fd,
@@ -87,6 +98,6 @@ pub fn usage(fd: i32) {
     );
     io::write_all(
         fd,
-        b"Exit status: 0 all is well (a refused chunk is), 1 a file is bad or an object differed, 2 bad arguments.\n",
+        b"Exit status: 0 all is well (a refused chunk is), 1 a file is bad, or an object or a second receiver differed, 2 bad arguments.\n",
     );
 }

@@ -51,17 +51,8 @@ same-length c = search needs
 returns-4 : tie.Need-returns-4
 returns-4 c = search needs
 
-wish-requires : tie.Need-wish-requires
-wish-requires c κs = search needs
-
-pass-requires : tie.Need-pass-requires
-pass-requires c κs = search needs
-
-chunk-requires : tie.Need-chunk-requires
-chunk-requires c κs = search needs
-
-with-chunk-requires : tie.Need-with-chunk-requires
-with-chunk-requires c κs = search needs
+send-requires : tie.Need-send-requires
+send-requires c κs = search needs
 
 same-length-2 : tie.Need-same-length-2
 same-length-2 c = search needs
@@ -83,6 +74,12 @@ same-length-7 c = search needs
 
 same-length-8 : tie.Need-same-length-8
 same-length-8 c = search needs
+
+same-length-9 : tie.Need-same-length-9
+same-length-9 c = search needs
+
+same-length-10 : tie.Need-same-length-10
+same-length-10 c = search needs
 
 returns-5 : tie.Need-returns-5
 returns-5 c = search needs
@@ -106,10 +103,7 @@ step-spec =
     spoiled-requires-3
     same-length
     returns-4
-    wish-requires
-    pass-requires
-    chunk-requires
-    with-chunk-requires
+    send-requires
     same-length-2
     same-length-3
     same-length-4
@@ -117,4 +111,6 @@ step-spec =
     same-length-6
     same-length-7
     same-length-8
+    same-length-9
+    same-length-10
     returns-5)
