@@ -111,8 +111,26 @@ fn send(
     counted(o, t, p, object, rebuilt, receiver, joiner, joined)
 }
 
-// The chunk of a line of chunks.txt, and the sums with it; a bad line or a file that ends too early is counted in `bad`, and what follows
-// it is left alone.
+// The chunk of a line of chunks.txt at the front of a buffer: its length, or 0 where the line is bad or the file ends too early, which has been explained.
+fn read_chunk(folder: &[u8], line: u64, n: Number, fd: i32, chunk: &mut [u8]) -> usize
+    ensures { λ r. ⌜ Counts r (now (chunk .exit)) ⌝ }
+{
+    if !length_ok(folder, line, n) {
+        return 0;
+    }
+    let length = n.value;
+    if (chunk.len() as u64) < length {
+        return 0;
+    }
+    let k = length as usize;
+    if io::read_full(fd, &mut chunk[..k]) != k {
+        files::wrong_line(folder, line, b"chunks.bin ends before this chunk does");
+        return 0;
+    }
+    k
+}
+
+// The chunk of a line of chunks.txt, and the sums with it; a chunk that can't be read is counted in `bad`, and what follows it is left alone.
 fn step(
     folder: &[u8],
     params: &[u64; 8],
@@ -133,24 +151,15 @@ fn step(
     if t.bad != 0 {
         return t;
     }
-    let line = tally::more(t.chunks, 1);
-    if !length_ok(folder, line, n) {
-        return tally::spoiled();
-    }
-    let length = n.value;
-    if (chunk.len() as u64) < length {
-        return tally::spoiled();
-    }
-    let c = &mut chunk[..length as usize];
-    if io::read_full(fd, &mut *c) != c.len() {
-        files::wrong_line(folder, line, b"chunks.bin ends before this chunk does");
+    let k = read_chunk(folder, tally::more(t.chunks, 1), n, fd, &mut *chunk);
+    if k == 0 {
         return tally::spoiled();
     }
     send(
         params,
         o,
         t,
-        c,
+        &chunk[..k],
         encoder,
         receiver,
         again,
