@@ -3,19 +3,22 @@ use crate::numbers;
 use crate::tally;
 use libc::STDERR_FILENO;
 
-// What is asked for, and while the words are read, whether the number of `--every` comes next.
+// What is asked for, where `join` is 0 without `--join`; and while the words are read, whether a number comes next, and whether that of `--join`.
 pub struct Options {
     pub every: u64,
+    pub join: u64,
     pub sync: bool,
     pub folders: u64,
     pub help: bool,
     pub bad: bool,
     pub waits: bool,
+    pub joins: bool,
 }
 
 // What a word is.
 pub enum Word {
     Every,
+    Join,
     Sync,
     Help,
     Count,
@@ -29,6 +32,9 @@ fn option(word: &[u8]) -> Word {
     if check::same(word, b"--every") {
         return Word::Every;
     }
+    if check::same(word, b"--join") {
+        return Word::Join;
+    }
     if check::same(word, b"--sync") {
         return Word::Sync;
     }
@@ -38,7 +44,7 @@ fn option(word: &[u8]) -> Word {
     Word::Unknown
 }
 
-// What a word is, where the number of `--every` is waited for or not.
+// What a word is, where a number is waited for or not.
 pub fn kind(waits: bool, word: &[u8]) -> Word {
     if waits {
         return Word::Count;
@@ -60,27 +66,37 @@ fn complain(text: &[u8], word: &[u8]) {
 }
 
 fn bad(o: Options) -> Options {
-    Options {
-        every: o.every,
-        sync: o.sync,
-        folders: o.folders,
-        help: o.help,
-        bad: true,
-        waits: false,
+    let mut r = o;
+    r.bad = true;
+    r.waits = false;
+    r
+}
+
+// The number of an option is no number, or is missing.
+fn no_count(joins: bool, text: &[u8], word: &[u8]) {
+    if joins {
+        io::write_all(STDERR_FILENO, b"relay: --join");
+    } else {
+        io::write_all(STDERR_FILENO, b"relay: --every");
     }
+    io::write_all(STDERR_FILENO, b" takes a number from 1 on");
+    io::write_all(STDERR_FILENO, text);
+    io::write_all(STDERR_FILENO, word);
+    io::write_all(STDERR_FILENO, b"\n");
 }
 
 fn count(o: Options, word: &[u8]) -> Options {
     let n = numbers::number_at(word, 0);
     if !n.stands | (n.next != word.len()) | (n.value == 0) {
-        complain(
-            b"--every takes a number from 1 on, and this is none: ",
-            word,
-        );
+        no_count(o.joins, b", and this is none: ", word);
         return bad(o);
     }
     let mut r = o;
-    r.every = n.value;
+    if o.joins {
+        r.join = n.value;
+    } else {
+        r.every = n.value;
+    }
     r.waits = false;
     r
 }
@@ -91,12 +107,20 @@ fn folder(o: Options) -> Options {
     r
 }
 
+fn waiting(o: Options, joins: bool) -> Options {
+    let mut r = o;
+    r.waits = true;
+    r.joins = joins;
+    r
+}
+
 // The options after a further word.
 fn take(o: Options, word: &[u8]) -> Options {
     let mut r = o;
     let k = kind(o.waits, word);
     match k {
-        Word::Every => r.waits = true,
+        Word::Every => return waiting(o, false),
+        Word::Join => return waiting(o, true),
         Word::Sync => r.sync = true,
         Word::Help => r.help = true,
         Word::Count => return count(o, word),
@@ -135,14 +159,16 @@ fn take_all(before: Options) -> Options {
 pub fn read_all() -> Options {
     let o = take_all(Options {
         every: EVERY,
+        join: 0,
         sync: false,
         folders: 0,
         help: false,
         bad: false,
         waits: false,
+        joins: false,
     });
     if o.waits {
-        complain(b"--every takes a number from 1 on", b"");
+        no_count(o.joins, b"", b"");
         return bad(o);
     }
     o

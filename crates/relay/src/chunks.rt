@@ -1,9 +1,12 @@
 // The chunks of a track one after another.
+ghost use Rattle.io.specs.Counts.{Counts};
 use crate::arguments::Options;
 use crate::files;
+use crate::join;
 use crate::numbers;
 use crate::numbers::Number;
 use crate::passage;
+use crate::passage::Passage;
 use crate::report;
 use crate::sync;
 use crate::tally;
@@ -40,8 +43,94 @@ fn wish(o: Options, before: u64, params: &[u64; 8], chunk: &[u8]) -> u64 {
     (before % o.every != 0) as u64
 }
 
-// The chunk of a line of chunks.txt, and the sums with it; a bad line or a file that ends too early is counted in `bad`, and what follows
-// it is left alone.
+// The line of a chunk that has passed, and the sums with it. The second receiver gets its object too, where one was asked for and there is an object.
+fn counted(
+    o: Options,
+    t: Tally,
+    p: Passage,
+    object: &[u8],
+    rebuilt: &[u8],
+    receiver: &[u64],
+    joiner: &mut [u64],
+    joined: &mut [u8],
+) -> Tally
+    requires { ⌜ Counts (p .object) (now object) × Counts (p .rebuilt .end) (now rebuilt) ⌝ }
+{
+    let passed = p.passed;
+    let mut r = tally::with_chunk(t, passed);
+    report::chunk(r.chunks, passed);
+    if (o.join == 0) | (passed.number != 0) {
+        return r;
+    }
+    let before = t.join;
+    let first = p.rebuilt;
+    let n = p.object;
+    let m = first.end;
+    let j = join::follow(
+        before,
+        o.join,
+        r.chunks,
+        passed.delta,
+        &object[..n],
+        first,
+        &rebuilt[..m],
+        receiver,
+        joiner,
+        joined,
+    );
+    r.join = j;
+    r
+}
+
+// A chunk on all tables.
+fn send(
+    params: &[u64; 8],
+    o: Options,
+    t: Tally,
+    c: &[u8],
+    encoder: &mut [u64],
+    receiver: &mut [u64],
+    again: &mut [u64],
+    joiner: &mut [u64],
+    object: &mut [u8],
+    rebuilt: &mut [u8],
+    second: &mut [u8],
+    joined: &mut [u8],
+) -> Tally {
+    let w = wish(o, t.chunks, params, c);
+    let p = passage::pass(
+        encoder,
+        &mut *receiver,
+        again,
+        w,
+        c,
+        &mut *object,
+        &mut *rebuilt,
+        second,
+    );
+    counted(o, t, p, object, rebuilt, receiver, joiner, joined)
+}
+
+// The chunk of a line of chunks.txt at the front of a buffer: its length, or 0 where the line is bad or the file ends too early, which has been explained.
+fn read_chunk(folder: &[u8], line: u64, n: Number, fd: i32, chunk: &mut [u8]) -> usize
+    ensures { λ r. ⌜ Counts r (now (chunk .exit)) ⌝ }
+{
+    if !length_ok(folder, line, n) {
+        return 0;
+    }
+    let length = n.value;
+    if (chunk.len() as u64) < length {
+        return 0;
+    }
+    let k = length as usize;
+    if io::read_full(fd, &mut chunk[..k]) != k {
+        files::wrong_line(folder, line, b"chunks.bin ends before this chunk does");
+        return 0;
+    }
+    k
+}
+
+// The chunk of a line of chunks.txt, and the sums with it; a chunk that can't be read is counted in `bad`, and what follows it is left alone.
 fn step(
     folder: &[u8],
     params: &[u64; 8],
@@ -52,31 +141,34 @@ fn step(
     encoder: &mut [u64],
     receiver: &mut [u64],
     again: &mut [u64],
+    joiner: &mut [u64],
     chunk: &mut [u8],
     object: &mut [u8],
     rebuilt: &mut [u8],
     second: &mut [u8],
+    joined: &mut [u8],
 ) -> Tally {
     if t.bad != 0 {
         return t;
     }
-    let line = tally::more(t.chunks, 1);
-    if !length_ok(folder, line, n) {
+    let k = read_chunk(folder, tally::more(t.chunks, 1), n, fd, &mut *chunk);
+    if k == 0 {
         return tally::spoiled();
     }
-    let length = n.value;
-    if (chunk.len() as u64) < length {
-        return tally::spoiled();
-    }
-    let c = &mut chunk[..length as usize];
-    if io::read_full(fd, &mut *c) != c.len() {
-        files::wrong_line(folder, line, b"chunks.bin ends before this chunk does");
-        return tally::spoiled();
-    }
-    let w = wish(o, t.chunks, params, c);
-    let p = passage::pass(encoder, receiver, again, w, c, object, rebuilt, second);
-    report::chunk(line, p);
-    tally::with_chunk(t, p)
+    send(
+        params,
+        o,
+        t,
+        &chunk[..k],
+        encoder,
+        receiver,
+        again,
+        joiner,
+        object,
+        rebuilt,
+        second,
+        joined,
+    )
 }
 
 // All lines of chunks.txt.
@@ -89,10 +181,12 @@ pub fn steps(
     encoder: &mut [u64],
     receiver: &mut [u64],
     again: &mut [u64],
+    joiner: &mut [u64],
     chunk: &mut [u8],
     object: &mut [u8],
     rebuilt: &mut [u8],
     second: &mut [u8],
+    joined: &mut [u8],
 ) -> Tally {
     let mut t = tally::nothing();
     let mut p = 0;
@@ -108,10 +202,12 @@ pub fn steps(
             encoder,
             receiver,
             again,
+            joiner,
             chunk,
             object,
             rebuilt,
             second,
+            joined,
         );
         p = numbers::next_line(text, p);
     }

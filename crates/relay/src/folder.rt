@@ -25,17 +25,19 @@ fn open_slot(side: Side, table: &mut [u64], p: &[u64; 8]) -> u64 {
     )
 }
 
-// The three tables opened: the number of the first, since all three answer the same.
+// The four tables opened: the number of the first, since all four answer the same.
 fn open_slots(
     folder: &[u8],
     params: &[u64; 8],
     encoder: &mut [u64],
     receiver: &mut [u64],
     again: &mut [u64],
+    joiner: &mut [u64],
 ) -> bool {
     let n = open_slot(Side::Encoder, encoder, params);
     open_slot(Side::Receiver, receiver, params);
     open_slot(Side::Encoder, again, params);
+    open_slot(Side::Receiver, joiner, params);
     if n != 0 {
         files::wrong_number(folder, n);
         return false;
@@ -48,7 +50,15 @@ fn with_room(folder: &[u8], params: &[u64; 8], o: Options, text: &[u8], fd: i32)
     let mut encoder = [0u64; 7968];
     let mut receiver = [0u64; 7968];
     let mut again = [0u64; 7968];
-    if !open_slots(folder, params, &mut encoder, &mut receiver, &mut again) {
+    let mut joiner = [0u64; 7968];
+    if !open_slots(
+        folder,
+        params,
+        &mut encoder,
+        &mut receiver,
+        &mut again,
+        &mut joiner,
+    ) {
         return tally::spoiled();
     }
     report::head(folder, params);
@@ -56,6 +66,7 @@ fn with_room(folder: &[u8], params: &[u64; 8], o: Options, text: &[u8], fd: i32)
     let mut object = [0u8; 278528];
     let mut rebuilt = [0u8; 278528];
     let mut second = [0u8; 278528];
+    let mut joined = [0u8; 278528];
     chunks::steps(
         folder,
         params,
@@ -65,15 +76,17 @@ fn with_room(folder: &[u8], params: &[u64; 8], o: Options, text: &[u8], fd: i32)
         &mut encoder,
         &mut receiver,
         &mut again,
+        &mut joiner,
         &mut chunk,
         &mut object,
         &mut rebuilt,
         &mut second,
+        &mut joined,
     )
 }
 
 // The totals of a track whose files were all good.
-fn finish(folder: &[u8], t: Tally, fd: i32) -> Tally {
+fn finish(o: Options, folder: &[u8], t: Tally, fd: i32) -> Tally {
     let more = files::goes_on(fd);
     libc::close(fd);
     if t.bad != 0 {
@@ -88,6 +101,10 @@ fn finish(folder: &[u8], t: Tally, fd: i32) -> Tally {
         return tally::spoiled();
     }
     report::totals(t);
+    if o.join != 0 {
+        let j = t.join;
+        report::joined(o.join, j);
+    }
     let mut r = t;
     r.tracks = 1;
     r
@@ -126,5 +143,5 @@ pub fn run(o: Options, folder: &[u8]) -> Tally {
         return tally::spoiled();
     }
     let t = with_room(folder, &params, o, &text[..n], fd);
-    finish(folder, t, fd)
+    finish(o, folder, t, fd)
 }

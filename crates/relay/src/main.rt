@@ -3,9 +3,11 @@
 //
 // A proved program can't hand back an exit status, so its last line on standard output is its verdict, and the script `relay` makes the status of it.
 mod arguments; // arguments.rt: the words that the program is started with
+mod calls; // calls.rt: the two calls, with front and payload put together
 mod chunks; // chunks.rt: the chunks of a track one after another
 mod files; // files.rt: a track's files, and what is wrong with them
 mod folder; // folder.rt: a track's folder
+mod join; // join.rt: a second receiver that starts at a full object
 mod numbers; // numbers.rt: numbers that stand in text
 mod passage; // passage.rt: one chunk from end to end
 mod report; // report.rt: the lines that people read
@@ -37,5 +39,5 @@ fn main() {
         words::usage(STDOUT_FILENO);
         return;
     }
-    report::all(all_tracks(o));
+    report::all(o.join, all_tracks(o));
 }

@@ -1,93 +1,32 @@
 // One chunk from end to end: as an object, as a chunk again, and once more as an object.
 ghost use Rattle.io.specs.Counts.{Counts};
-use crate::files;
+use crate::calls;
+use crate::calls::Whole;
 use crate::tally::Passed;
 
-// The number of a call, and with 0 how many bytes its output has, front and payload, and how many of them are the front.
-struct Whole {
-    number: u64,
-    front: u64,
-    end: usize,
+// What is counted of a chunk's way, the length of its object, and what the receiver made of that: its front and payload stand where the chunk was rebuilt.
+pub struct Passage {
+    pub passed: Passed,
+    pub object: usize,
+    pub rebuilt: Whole,
 }
 
 // The first byte of a delta object: the header id 25.
 const DELTA: u8 = 25;
 
-// The payload behind the front in the output.
-fn put_together(number: u64, front: u64, payload: &[u8], output: &mut [u8]) -> Whole
-    ensures { λ r. ⌜ Counts (r .end) (now (output .exit)) ⌝ }
-{
-    let end = output.len();
-    if (number != 0) | ((end as u64) < front) {
-        return Whole {
-            number,
-            front: 0,
-            end: 0,
-        };
-    }
-    let j = files::append(output, front as usize, payload);
-    if !j.fits {
-        return Whole {
-            number: 17,
-            front: 0,
-            end: 0,
-        };
-    }
-    Whole {
-        number,
-        front,
-        end: j.end,
-    }
-}
-
-fn encoded(table: &mut [u64], wish: u64, chunk: &[u8], object: &mut [u8]) -> Whole
-    ensures { λ r. ⌜ Counts (r .end) (now (object .exit)) ⌝ }
-{
-    let mut number = 0;
-    let mut front = 0;
-    let payload = encoder::encode::encode(
-        table,
-        0,
-        wish,
-        chunk,
-        &mut *object,
-        &mut number,
-        &mut front,
-    );
-    put_together(number, front, payload, object)
-}
-
-fn received(table: &mut [u64], object: &[u8], chunk: &mut [u8]) -> Whole
-    ensures { λ r. ⌜ Counts (r .end) (now (chunk .exit)) ⌝ }
-{
-    let mut number = 0;
-    let mut front = 0;
-    let payload = receiver::receive::receive(
-        table,
-        0,
-        object,
-        &mut *chunk,
-        &mut number,
-        &mut front,
-    );
-    put_together(number, front, payload, chunk)
-}
-
-// Whether the object comes back from a receiver as a chunk that gives the same object again.
+// Whether the chunk that a receiver rebuilt gives the same object again.
 fn comes_back(
-    receiver: &mut [u64],
     again: &mut [u64],
     wish: u64,
     object: &[u8],
-    rebuilt: &mut [u8],
+    number: u64,
+    chunk: &[u8],
     second: &mut [u8],
 ) -> bool {
-    let r = received(receiver, object, rebuilt);
-    if r.number != 0 {
+    if number != 0 {
         return false;
     }
-    let n = r.end;
-    let e = encoded(again, wish, &rebuilt[..n], second);
+    let e = calls::encoded(again, wish, chunk, second);
     if e.number != 0 {
         return false;
     }
@@ -95,6 +34,7 @@ fn comes_back(
     check::same(object, &second[..m])
 }
 
+// A chunk that became no object.
 fn refused(number: u64) -> Passed {
     Passed {
         number,
@@ -128,19 +68,38 @@ pub fn pass(
     object: &mut [u8],
     rebuilt: &mut [u8],
     second: &mut [u8],
-) -> Passed {
-    let e = encoded(encoder, wish, chunk, object);
+) -> Passage
+    ensures { λ r. ⌜ Counts (r .object) (now (object .exit)) × Counts (r .rebuilt .end) (now (rebuilt .exit)) ⌝ }
+{
+    let e = calls::encoded(encoder, wish, chunk, &mut *object);
     if e.number != 0 {
-        return refused(e.number);
+        let rebuilt = Whole {
+            number: e.number,
+            front: 0,
+            end: 0,
+        };
+        return Passage {
+            passed: refused(e.number),
+            object: 0,
+            rebuilt,
+        };
     }
     let n = e.end;
+    let r = calls::received(receiver, &object[..n], &mut *rebuilt);
+    let m = r.end;
+    let same = comes_back(again, wish, &object[..n], r.number, &rebuilt[..m], second);
     let payload = less(n as u64, e.front);
-    Passed {
+    let passed = Passed {
         number: 0,
         delta: is_delta(&object[..n]),
         cmaf: less(chunk.len() as u64, payload),
         locmaf: e.front,
         payload,
-        same: comes_back(receiver, again, wish, &object[..n], rebuilt, second),
+        same,
+    };
+    Passage {
+        passed,
+        object: n,
+        rebuilt: r,
     }
 }

@@ -1,5 +1,6 @@
 // The lines that people read.
 use crate::tally;
+use crate::tally::Join;
 use crate::tally::Passed;
 use crate::tally::Tally;
 use crate::words;
@@ -131,20 +132,61 @@ pub fn totals(t: Tally) {
     say(b"\n")
 }
 
+fn apart(j: Join) {
+    named(b", another chunk or reference first at chunk ", j.differs);
+    say(b"\n")
+}
+
+// What came of a second receiver that starts at a track's full object `at`.
+pub fn joined(at: u64, j: Join) {
+    if j.chunk == 0 {
+        named(b"  not joined: the track has fewer than ", at);
+        return say(b" full objects\n");
+    }
+    named(b"  joined at full object ", at);
+    named(b", chunk ", j.chunk);
+    named(b": objects ", j.objects);
+    if j.differs != 0 {
+        return apart(j);
+    }
+    named(b", each chunk the same but for an mfhd number ", j.less);
+    say(b" less, each reference the same\n")
+}
+
+// What came of them on all tracks.
+fn all_joined(at: u64, j: Join) {
+    if j.tracks == 0 {
+        named(b"  not joined: each track has fewer than ", at);
+        return say(b" full objects\n");
+    }
+    named(b"  joined at full object ", at);
+    named(b": tracks ", j.tracks);
+    named(b", objects ", j.objects);
+    if j.differs != 0 {
+        return apart(j);
+    }
+    say(b", each chunk the same but for its mfhd number, each reference the same\n")
+}
+
 // Whether all is well, in words that the script `relay` looks for.
 fn verdict(t: Tally) {
-    if (t.bad == 0) & (t.differs == 0) {
+    let j = t.join;
+    if (t.bad == 0) & (t.differs == 0) & (j.differs == 0) {
         return say(b"all is well\n");
     }
     say(b"not all is well\n")
 }
 
-// After the last track: the totals of all where there are several, and the verdict.
-pub fn all(t: Tally) {
+// After the last track: the totals of all where there are several, and the verdict. With `at` other than 0 a second receiver started at that full object.
+pub fn all(at: u64, t: Tally) {
     if 1 < t.tracks {
         named(b"all ", t.tracks);
         say(b" tracks\n");
         totals(t);
+        if at != 0 {
+            let j = t.join;
+            all_joined(at, j);
+        }
     }
     if t.bad != 0 {
         named(b"tracks left out for a bad file: ", t.bad);

@@ -12,6 +12,18 @@ pub struct Passed {
     pub same: bool,
 }
 
+// What came of a second receiver that starts at a full object. Of a track: how many full objects the first receiver accepted, the chunk that the second one
+// started at, counted from 1, or 0, and by how much its numbers in the `mfhd` are less. Of any: the tracks where it started, the objects that both receivers
+// got, and the first chunk of which they made something else, or 0.
+pub struct Join {
+    pub full: u64,
+    pub chunk: u64,
+    pub less: u64,
+    pub tracks: u64,
+    pub objects: u64,
+    pub differs: u64,
+}
+
 // Sums over chunks. `bad` counts tracks with a bad file, `differs` is the number of the first chunk whose object differed, counted from 1, or 0.
 pub struct Tally {
     pub tracks: u64,
@@ -24,9 +36,22 @@ pub struct Tally {
     pub locmaf: u64,
     pub payload: u64,
     pub differs: u64,
+    pub join: Join,
+}
+
+fn no_join() -> Join {
+    Join {
+        full: 0,
+        chunk: 0,
+        less: 0,
+        tracks: 0,
+        objects: 0,
+        differs: 0,
+    }
 }
 
 pub fn nothing() -> Tally {
+    let join = no_join();
     Tally {
         tracks: 0,
         bad: 0,
@@ -38,6 +63,7 @@ pub fn nothing() -> Tally {
         locmaf: 0,
         payload: 0,
         differs: 0,
+        join,
     }
 }
 
@@ -82,8 +108,19 @@ fn first(a: u64, b: u64) -> u64 {
     if a != 0 { a } else { b }
 }
 
+fn with_join(a: Join, b: Join) -> Join {
+    let mut r = no_join();
+    r.tracks = more(a.tracks, b.tracks);
+    r.objects = more(a.objects, b.objects);
+    r.differs = first(a.differs, b.differs);
+    r
+}
+
 // The sums of several tracks; of `differs` only whether it is 0 counts here.
 pub fn with_track(a: Tally, b: Tally) -> Tally {
+    let one = a.join;
+    let two = b.join;
+    let join = with_join(one, two);
     Tally {
         tracks: more(a.tracks, b.tracks),
         bad: more(a.bad, b.bad),
@@ -95,6 +132,7 @@ pub fn with_track(a: Tally, b: Tally) -> Tally {
         locmaf: more(a.locmaf, b.locmaf),
         payload: more(a.payload, b.payload),
         differs: first(a.differs, b.differs),
+        join,
     }
 }
 

@@ -10,14 +10,14 @@ use crate::numbers;
 use crate::tally;
 use crate::tally::Tally;
 
-// Whether a word of the program is the number of `--every`.
+// Whether a word of the program is the number of `--every` or `--join`.
 fn is_count(i: usize) -> bool {
     if i < 2 {
         return false;
     }
     let mut word = io::buffer();
     let n = os::arg(i - 1, &mut word);
-    check::same(&word[..n], b"--every")
+    check::same(&word[..n], b"--every") | check::same(&word[..n], b"--join")
 }
 
 // The track that a word of the program names, if it is a folder.

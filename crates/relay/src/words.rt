@@ -55,38 +55,23 @@ pub fn meaning(fd: i32, n: u64) {
 }
 
 pub fn usage(fd: i32) {
-    io::write_all(fd, b"usage: relay [--every N | --sync] [FOLDER ..]\n\n");
     io::write_all(
         fd,
-        b"Encodes the chunks of each track, receives the objects, and encodes the rebuilt chunks again.\n\n",
-    );
-    io::write_all(
-        fd,
-        b"  FOLDER     a track: params.txt (track_ID, timescale, description, duration, size, flags, protection,\n",
-    );
-    io::write_all(
-        fd,
-        b"             IV size), chunks.txt (a line a chunk, which begins with its length in bytes) and chunks.bin\n",
-    );
-    io::write_all(
-        fd,
-        b"             (the chunks); without one, the tracks that captures/tracks.txt names\n",
-    );
-    io::write_all(
-        fd,
-        b"  --every N  a full object at the first chunk and at every Nth after it, deltas between (N is 8 if not said)\n",
-    );
-    io::write_all(
-        fd,
-        b"  --sync     a full object at each chunk whose first sample is a sync sample, deltas between\n",
-    );
-    io::write_all(fd, b"  --help     this text\n\n");
-    io::write_all(
-        fd,
-        b"A chunk has up to 262,144 bytes, and chunks.txt up to 65,536.\n",
-    );
-    io::write_all(
-        fd,
-        b"Exit status: 0 all is well (a refused chunk is), 1 a file is bad or an object differed, 2 bad arguments.\n",
+        b"usage: relay [--every N | --sync] [--join N] [FOLDER ..]
+
+Encodes the chunks of each track, receives the objects, and encodes the rebuilt chunks again.
+
+  FOLDER     a track: params.txt (track_ID, timescale, description, duration, size, flags, protection,
+             IV size), chunks.txt (a line a chunk, which begins with its length in bytes) and chunks.bin
+             (the chunks); without one, the tracks that captures/tracks.txt names
+  --every N  a full object at the first chunk and at every Nth after it, deltas between (N is 8 if not said)
+  --sync     a full object at each chunk whose first sample is a sync sample, deltas between
+  --join N   at each track's Nth full object a second receiver starts, just opened, as if the capture were cut there:
+             it has to make the same chunks, but for mfhd numbers all less by the same, and keep the same reference
+  --help     this text
+
+A chunk has up to 262,144 bytes, and chunks.txt up to 65,536.
+Exit status: 0 all is well (a refused chunk is), 1 a file is bad, or an object or a second receiver differed, 2 bad arguments.
+",
     );
 }
