@@ -22,10 +22,10 @@ use Rattle.exchange.specs.Kept.{prftWords, keptWords}
 use Rattle.receiver.specs.Object.{isDelta}
 use Rattle.receiver.specs.Receive.{bmdt, prft, newSet, sequence, chunk, accepted, afterRefusal, refusing, done, receiveRungs, receiving}
 use Rattle.receiver.proofs.PassedLaws.{passed}
-use Rattle.joining.specs.Number.{unnumbered}
+use Rattle.joining.specs.Number.{numberAt, unnumbered}
 use Rattle.joining.specs.Matches.{frontOf, countOf}
 use Rattle.joining.specs.Near.{made, Near, Stays}
-use Rattle.joining.proofs.NearLaws.{lawful-near, time-same, front-same, chunk-long, rungs-same, sequence-few, chunk-unnumbered}
+use Rattle.joining.proofs.NearLaws.{lawful-near, time-same, front-same, chunk-long, rungs-same, sequence-few, chunk-place, chunk-unnumbered}
 
 -- ---- what a call leaves
 
@@ -44,6 +44,7 @@ same-answer a d x y e h =
             number = ap (λ (q : Took). q .number) e;
             long = ap (λ (q : Took). q .front) e;
             payload = ap (λ (q : Took). q .payload) e;
+            place = ap (λ (q : Took). numberAt (frontOf q)) e;
             front = ap (λ (q : Took). unnumbered (frontOf q)) e;
             past = ap (λ (q : Took). drop (q .front) (q .output)) e;
             reference = near-reference a d (x .words) (y .words) h;
@@ -113,6 +114,11 @@ module _ (a : Asked) (d n m : ℕ) (r : List ℕ) (small : m ≤ u32) (apart : n
                 number = refl;
                 long = long;
                 payload = refl;
+                place =
+                    ap numberAt (written s)
+                    ∙ chunk-place F o s (passed F o room s h .values)
+                    ∙ ap numberAt (front-same F o a n m r 0)
+                    ∙ sym (ap numberAt (written s′) ∙ chunk-place F o s′ (passed F o room s′ h′ .values));
                 front =
                     ap unnumbered (written s)
                     ∙ chunk-unnumbered F o s (passed F o room s h .values)

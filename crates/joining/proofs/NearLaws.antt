@@ -23,9 +23,9 @@ use Rattle.object.specs.Values.{allFit, boxes}
 use Rattle.object.proofs.PrftLaws.{prft-none, prft-some}
 use Rattle.receiver.specs.Object.{isDelta, headRungs, saying, payload}
 use Rattle.receiver.specs.Receive.{track, reference, bmdt, prft, events, brands, newSet, valuesOk, sumsOk, heldOk, idsRight, splitRungs, valueRungs, sequence, chunk, receiveRungs}
-use Rattle.joining.specs.Number.{numberIn, unnumbered}
+use Rattle.joining.specs.Number.{numberAt, numberIn, unnumbered}
 use Rattle.joining.specs.Near.{made}
-use Rattle.joining.proofs.NumberLaws.{front-unnumbered, front-number, front-long}
+use Rattle.joining.proofs.NumberLaws.{front-place, front-unnumbered, front-number, front-long}
 use Rattle.joining.proofs.EventLaws.{brands-few, events-short}
 
 -- ---- a share by its parts
@@ -112,10 +112,19 @@ module _ (F : List Row) (o s : List ℕ) where
   unfolding sequence
   sequence-few = omega arith
 
+  -- its front with the number 0
+  abbrev without : List ℕ
+  without = front (track F o s) 0 (newSet F o s) (length (payload F o)) (prft F o s .prft) (boxes (track F o s) (bmdt F o s) (events F o s)) (brands F o s)
+
   module _ (h : valuesOk F o s ≡ true) where
-    -- the front of an object whose values are right, with its number put to 0
-    pub chunk-unnumbered : unnumbered (chunk F o s)
-        ≡ front (track F o s) 0 (newSet F o s) (length (payload F o)) (prft F o s .prft) (boxes (track F o s) (bmdt F o s) (events F o s)) (brands F o s)
+    -- is the front of an object whose values are right with its number put to 0, and has the number's place
+    pub chunk-place : numberAt (chunk F o s) ≡ numberAt without
+    unfolding chunk
+    chunk-place =
+        front-place (track F o s) (newSet F o s) (length (payload F o)) (prft F o s .prft) (boxes (track F o s) (bmdt F o s) (events F o s)) (brands F o s)
+        (brands-few F o s h) (events-short F o s h) (sequence F o s)
+
+    pub chunk-unnumbered : unnumbered (chunk F o s) ≡ without
     unfolding chunk
     chunk-unnumbered =
         front-unnumbered (track F o s) (newSet F o s) (length (payload F o)) (prft F o s .prft) (boxes (track F o s) (bmdt F o s) (events F o s)) (brands F o s)

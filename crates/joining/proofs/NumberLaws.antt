@@ -88,6 +88,10 @@ module _ (t : Track) (w : List ℕ) (payload : ℕ) (p : Prft) (es : List Event)
         moof-place t p es brands l kind few short in
         omega (arith, place, length-append (stypBox brands) (prftBox t p ++ emsgBoxes es), length-append (prftBox t p) (emsgBoxes es))
 
+    -- the same with every number
+    pub front-place : (n : ℕ) → numberAt (numbered n) ≡ numberAt (numbered 0)
+    front-place n = number-place n ∙ sym (number-place 0)
+
     -- with its number put to 0 it is the front that has the number 0
     pub front-unnumbered : (n : ℕ) → unnumbered (numbered n) ≡ numbered 0
     front-unnumbered n =

@@ -7,7 +7,7 @@ use lib.ListN.{getD, take, drop}
 use Rattle.slots.specs.Share.{acceptedAt, heldAt}
 use Rattle.slots.specs.Table.{Out}
 use Rattle.exchange.specs.Took.{Took}
-use Rattle.joining.specs.Number.{unnumbered}
+use Rattle.joining.specs.Number.{numberAt, unnumbered}
 
 -- the front that a call wrote: none where it was refused
 abbrev pub frontOf : Took → List ℕ
@@ -23,7 +23,8 @@ pub record Matches (d : ℕ) (a b : Out Took) : Type 0 where
   pub number : a .answer .number ≡ b .answer .number
   pub long : a .answer .front ≡ b .answer .front
   pub payload : a .answer .payload ≡ b .answer .payload
-  -- "fronts": all their bytes but the four of the number, and all bytes of the room past them
+  -- "fronts": the number has the same place in both, and all their bytes but its four are the same; and so are all bytes of the room past them
+  pub place : numberAt (frontOf (a .answer)) ≡ numberAt (frontOf (b .answer))
   pub front : unnumbered (frontOf (a .answer)) ≡ unnumbered (frontOf (b .answer))
   pub past : drop (a .answer .front) (a .answer .output) ≡ drop (b .answer .front) (b .answer .output)
   -- "and reference"
