@@ -1,6 +1,12 @@
-// The two calls on slot 0 of a table, with the payload put behind the front that is written.
+// The two calls on a slot of a table, with the payload put behind the front that is written.
 ghost use Rattle.io.specs.Counts.{Counts};
 use crate::files;
+
+// The slots. 0 of each table is the track's. 1 of the encoder's is for an encoder that sees only what was rebuilt, 1 of the receiver's for a receiver that
+// starts later.
+pub const FIRST: u64 = 0;
+
+pub const SECOND: u64 = 1;
 
 // The number of a call, and with 0 how many bytes its output has, front and payload, and how many of them are the front.
 pub struct Whole {
@@ -36,14 +42,14 @@ fn put_together(number: u64, front: u64, payload: &[u8], output: &mut [u8]) -> W
     }
 }
 
-pub fn encoded(table: &mut [u64], wish: u64, chunk: &[u8], object: &mut [u8]) -> Whole
+pub fn encoded(table: &mut [u64], slot: u64, wish: u64, chunk: &[u8], object: &mut [u8]) -> Whole
     ensures { λ r. ⌜ Counts (r .end) (now (object .exit)) ⌝ }
 {
     let mut number = 0;
     let mut front = 0;
     let payload = encoder::encode::encode(
         table,
-        0,
+        slot,
         wish,
         chunk,
         &mut *object,
@@ -53,14 +59,14 @@ pub fn encoded(table: &mut [u64], wish: u64, chunk: &[u8], object: &mut [u8]) ->
     put_together(number, front, payload, object)
 }
 
-pub fn received(table: &mut [u64], object: &[u8], chunk: &mut [u8]) -> Whole
+pub fn received(table: &mut [u64], slot: u64, object: &[u8], chunk: &mut [u8]) -> Whole
     ensures { λ r. ⌜ Counts (r .end) (now (chunk .exit)) ⌝ }
 {
     let mut number = 0;
     let mut front = 0;
     let payload = receiver::receive::receive(
         table,
-        0,
+        slot,
         object,
         &mut *chunk,
         &mut number,

@@ -43,15 +43,15 @@ fn wish(o: Options, before: u64, params: &[u64; 8], chunk: &[u8]) -> u64 {
     (before % o.every != 0) as u64
 }
 
-// The line of a chunk that has passed, and the sums with it. The second receiver gets its object too, where one was asked for and there is an object.
+// The line of a chunk that has passed, and the sums with it. The second receiver gets its object too, where one was asked for and there is an object; the last
+// buffer is room for what it rebuilds.
 fn counted(
     o: Options,
     t: Tally,
     p: Passage,
     object: &[u8],
     rebuilt: &[u8],
-    receiver: &[u64],
-    joiner: &mut [u64],
+    receiver: &mut [u64],
     joined: &mut [u8],
 ) -> Tally
     requires { ⌜ Counts (p .object) (now object) × Counts (p .rebuilt .end) (now rebuilt) ⌝ }
@@ -75,14 +75,13 @@ fn counted(
         first,
         &rebuilt[..m],
         receiver,
-        joiner,
         joined,
     );
     r.join = j;
     r
 }
 
-// A chunk on all tables.
+// A chunk on both tables. The room for the second object is used again, once that has been compared.
 fn send(
     params: &[u64; 8],
     o: Options,
@@ -90,25 +89,21 @@ fn send(
     c: &[u8],
     encoder: &mut [u64],
     receiver: &mut [u64],
-    again: &mut [u64],
-    joiner: &mut [u64],
     object: &mut [u8],
     rebuilt: &mut [u8],
     second: &mut [u8],
-    joined: &mut [u8],
 ) -> Tally {
     let w = wish(o, t.chunks, params, c);
     let p = passage::pass(
         encoder,
         &mut *receiver,
-        again,
         w,
         c,
         &mut *object,
         &mut *rebuilt,
-        second,
+        &mut *second,
     );
-    counted(o, t, p, object, rebuilt, receiver, joiner, joined)
+    counted(o, t, p, object, rebuilt, receiver, second)
 }
 
 // The chunk of a line of chunks.txt at the front of a buffer: its length, or 0 where the line is bad or the file ends too early, which has been explained.
@@ -140,13 +135,10 @@ fn step(
     fd: i32,
     encoder: &mut [u64],
     receiver: &mut [u64],
-    again: &mut [u64],
-    joiner: &mut [u64],
     chunk: &mut [u8],
     object: &mut [u8],
     rebuilt: &mut [u8],
     second: &mut [u8],
-    joined: &mut [u8],
 ) -> Tally {
     if t.bad != 0 {
         return t;
@@ -162,12 +154,9 @@ fn step(
         &chunk[..k],
         encoder,
         receiver,
-        again,
-        joiner,
         object,
         rebuilt,
         second,
-        joined,
     )
 }
 
@@ -180,13 +169,10 @@ pub fn steps(
     fd: i32,
     encoder: &mut [u64],
     receiver: &mut [u64],
-    again: &mut [u64],
-    joiner: &mut [u64],
     chunk: &mut [u8],
     object: &mut [u8],
     rebuilt: &mut [u8],
     second: &mut [u8],
-    joined: &mut [u8],
 ) -> Tally {
     let mut t = tally::nothing();
     let mut p = 0;
@@ -201,13 +187,10 @@ pub fn steps(
             fd,
             encoder,
             receiver,
-            again,
-            joiner,
             chunk,
             object,
             rebuilt,
             second,
-            joined,
         );
         p = numbers::next_line(text, p);
     }

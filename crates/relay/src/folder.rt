@@ -1,19 +1,19 @@
 // A track's folder: its parameters, tables and room, and what comes of it.
 use crate::arguments::Options;
+use crate::calls;
 use crate::chunks;
 use crate::files;
 use crate::numbers;
 use crate::report;
 use crate::tally;
 use crate::tally::Tally;
-use slots::calls;
 use slots::share::Side;
 
-fn open_slot(side: Side, table: &mut [u64], p: &[u64; 8]) -> u64 {
-    calls::open(
+fn open_slot(side: Side, table: &mut [u64], slot: u64, p: &[u64; 8]) -> u64 {
+    slots::calls::open(
         side,
         table,
-        0,
+        slot,
         p[0],
         p[1],
         p[2],
@@ -25,19 +25,12 @@ fn open_slot(side: Side, table: &mut [u64], p: &[u64; 8]) -> u64 {
     )
 }
 
-// The four tables opened: the number of the first, since all four answer the same.
-fn open_slots(
-    folder: &[u8],
-    params: &[u64; 8],
-    encoder: &mut [u64],
-    receiver: &mut [u64],
-    again: &mut [u64],
-    joiner: &mut [u64],
-) -> bool {
-    let n = open_slot(Side::Encoder, encoder, params);
-    open_slot(Side::Receiver, receiver, params);
-    open_slot(Side::Encoder, again, params);
-    open_slot(Side::Receiver, joiner, params);
+// Both slots of both tables opened: the number of the first, since all four answer the same.
+fn open_slots(folder: &[u8], params: &[u64; 8], encoder: &mut [u64], receiver: &mut [u64]) -> bool {
+    let n = open_slot(Side::Encoder, &mut *encoder, calls::FIRST, params);
+    open_slot(Side::Encoder, encoder, calls::SECOND, params);
+    open_slot(Side::Receiver, &mut *receiver, calls::FIRST, params);
+    open_slot(Side::Receiver, receiver, calls::SECOND, params);
     if n != 0 {
         files::wrong_number(folder, n);
         return false;
@@ -49,16 +42,7 @@ fn open_slots(
 fn with_room(folder: &[u8], params: &[u64; 8], o: Options, text: &[u8], fd: i32) -> Tally {
     let mut encoder = [0u64; 7968];
     let mut receiver = [0u64; 7968];
-    let mut again = [0u64; 7968];
-    let mut joiner = [0u64; 7968];
-    if !open_slots(
-        folder,
-        params,
-        &mut encoder,
-        &mut receiver,
-        &mut again,
-        &mut joiner,
-    ) {
+    if !open_slots(folder, params, &mut encoder, &mut receiver) {
         return tally::spoiled();
     }
     report::head(folder, params);
@@ -66,7 +50,6 @@ fn with_room(folder: &[u8], params: &[u64; 8], o: Options, text: &[u8], fd: i32)
     let mut object = [0u8; 278528];
     let mut rebuilt = [0u8; 278528];
     let mut second = [0u8; 278528];
-    let mut joined = [0u8; 278528];
     chunks::steps(
         folder,
         params,
@@ -75,13 +58,10 @@ fn with_room(folder: &[u8], params: &[u64; 8], o: Options, text: &[u8], fd: i32)
         fd,
         &mut encoder,
         &mut receiver,
-        &mut again,
-        &mut joiner,
         &mut chunk,
         &mut object,
         &mut rebuilt,
         &mut second,
-        &mut joined,
     )
 }
 

@@ -75,17 +75,14 @@ fn compare(front: u64, a: &[u8], b: &[u8]) -> Compared {
     }
 }
 
-// Whether slot 0 of two tables keeps the same reference: all words of the share behind the parameters and the count.
-fn same_reference(a: &[u64], b: &[u64]) -> bool {
-    if a.len() < share::SHARE {
-        return false;
-    }
-    if b.len() < share::SHARE {
+// Whether the first two slots of a table keep the same reference: all words of their shares behind the parameters and the count.
+fn same_reference(table: &[u64]) -> bool {
+    if table.len() < share::SHARE + share::SHARE {
         return false;
     }
     let mut i = share::HELD;
     while i < share::SHARE {
-        if a[i] != b[i] {
+        if table[i] != table[share::SHARE + i] {
             return false;
         }
         i += 1;
@@ -124,8 +121,8 @@ fn with_object(j: Join, chunk: u64, same: bool, less: u64) -> Join {
     r
 }
 
-// After an object of which the first receiver made a chunk: the second one gets it too, if it has started or starts now, at full object `at`. The
-// last buffer is room for its chunk. An object that both refuse has no chunk, so that only number and reference are left to compare.
+// After an object of which the first receiver made a chunk: the second one, in another slot of its table, gets it too, if it has started or starts now, at
+// full object `at`. The last buffer is room for its chunk. An object that both refuse has no chunk, so that only number and reference are left to compare.
 pub fn follow(
     j: Join,
     at: u64,
@@ -134,17 +131,16 @@ pub fn follow(
     object: &[u8],
     first: Whole,
     chunk: &[u8],
-    receiver: &[u64],
-    joiner: &mut [u64],
+    receiver: &mut [u64],
     joined: &mut [u8],
 ) -> Join {
     let k = counted(j, at, line, delta, first.number);
     if k.chunk == 0 {
         return k;
     }
-    let second = calls::received(&mut *joiner, object, &mut *joined);
+    let second = calls::received(&mut *receiver, calls::SECOND, object, &mut *joined);
     let n = second.end;
-    let same = same_answer(first, second) & same_reference(receiver, joiner);
+    let same = same_answer(first, second) & same_reference(receiver);
     if !same | (first.number != 0) {
         return with_object(k, line, same, k.less);
     }

@@ -16,7 +16,7 @@ const DELTA: u8 = 25;
 
 // Whether the chunk that a receiver rebuilt gives the same object again.
 fn comes_back(
-    again: &mut [u64],
+    encoder: &mut [u64],
     wish: u64,
     object: &[u8],
     number: u64,
@@ -26,7 +26,7 @@ fn comes_back(
     if number != 0 {
         return false;
     }
-    let e = calls::encoded(again, wish, chunk, second);
+    let e = calls::encoded(encoder, calls::SECOND, wish, chunk, second);
     if e.number != 0 {
         return false;
     }
@@ -57,12 +57,10 @@ fn less(a: u64, b: u64) -> u64 {
     if a < b { 0 } else { a - b }
 }
 
-// A chunk on the tables of an encoder, a receiver, and an encoder that sees only what was rebuilt. The last three buffers are room for the two objects
-// and the rebuilt chunk.
+// A chunk on the tables of an encoder and a receiver. The last three buffers are room for its object, the rebuilt chunk, and the object of that.
 pub fn pass(
     encoder: &mut [u64],
     receiver: &mut [u64],
-    again: &mut [u64],
     wish: u64,
     chunk: &[u8],
     object: &mut [u8],
@@ -71,7 +69,7 @@ pub fn pass(
 ) -> Passage
     ensures { λ r. ⌜ Counts (r .object) (now (object .exit)) × Counts (r .rebuilt .end) (now (rebuilt .exit)) ⌝ }
 {
-    let e = calls::encoded(encoder, wish, chunk, &mut *object);
+    let e = calls::encoded(&mut *encoder, calls::FIRST, wish, chunk, &mut *object);
     if e.number != 0 {
         let rebuilt = Whole {
             number: e.number,
@@ -85,9 +83,9 @@ pub fn pass(
         };
     }
     let n = e.end;
-    let r = calls::received(receiver, &object[..n], &mut *rebuilt);
+    let r = calls::received(receiver, calls::FIRST, &object[..n], &mut *rebuilt);
     let m = r.end;
-    let same = comes_back(again, wish, &object[..n], r.number, &rebuilt[..m], second);
+    let same = comes_back(encoder, wish, &object[..n], r.number, &rebuilt[..m], second);
     let payload = less(n as u64, e.front);
     let passed = Passed {
         number: 0,

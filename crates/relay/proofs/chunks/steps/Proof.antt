@@ -8,13 +8,12 @@ use Rattle.relay.proofs.chunks.steps.Statement.{statement}
 use Rattle.relay.proofs.chunks.steps.Tie as tie
 
 abbrev Inv-loop : tie.InvT-loop
-Inv-loop folder params o text fd encoder₀ receiver₀ again₀ joiner₀ chunk₀ object₀ rebuilt₀ second₀ joined₀ t₀ p₀ encoder receiver again joiner chunk object rebuilt second joined t p =
-    (p ≤ length text) × (length encoder ≡ length encoder₀) × (length receiver ≡ length receiver₀) × (length again ≡ length again₀)
-    × (length joiner ≡ length joiner₀) × (length chunk ≡ length chunk₀) × (length object ≡ length object₀) × (length rebuilt ≡ length rebuilt₀)
-    × (length second ≡ length second₀) × (length joined ≡ length joined₀)
+Inv-loop folder params o text fd encoder₀ receiver₀ chunk₀ object₀ rebuilt₀ second₀ t₀ p₀ encoder receiver chunk object rebuilt second t p =
+    (p ≤ length text) × (length encoder ≡ length encoder₀) × (length receiver ≡ length receiver₀) × (length chunk ≡ length chunk₀)
+    × (length object ≡ length object₀) × (length rebuilt ≡ length rebuilt₀) × (length second ≡ length second₀)
 
 abbrev μ-loop : tie.MeasureT-loop
-μ-loop folder params o text fd encoder₀ receiver₀ again₀ joiner₀ chunk₀ object₀ rebuilt₀ second₀ joined₀ t₀ p₀ encoder receiver again joiner chunk object rebuilt second joined t p =
+μ-loop folder params o text fd encoder₀ receiver₀ chunk₀ object₀ rebuilt₀ second₀ t₀ p₀ encoder receiver chunk object rebuilt second t p =
     length text - p
 
 nothing-requires : tie.Need-nothing-requires Inv-loop μ-loop
@@ -37,8 +36,8 @@ loop-less c = search needs
 
 loop-again : tie.Need-loop-again Inv-loop μ-loop
 loop-again c =
-    let i = c .before .before .before .before .before .before .before .before .before .before .before .before .before .before .before .before .before .before .before .before .before .before .before .before .before .before .before .before .before .before .before .loop .inv in
-    (search needs, omega (arith, i .1), omega (arith, i .2), omega (arith, i .3), omega (arith, i .4), omega (arith, i .5), omega (arith, i .6), omega (arith, i .7), omega (arith, i .8), omega (arith, i .9))
+    let i = c .before .before .before .before .before .before .before .before .before .before .before .before .before .before .before .before .before .before .before .before .before .before .loop .inv in
+    (search needs, omega (arith, i .1), omega (arith, i .2), omega (arith, i .3), omega (arith, i .4), omega (arith, i .5), omega (arith, i .6))
 
 same-length : tie.Need-same-length Inv-loop μ-loop
 same-length c = search needs
@@ -57,15 +56,6 @@ same-length-5 c = search needs
 
 same-length-6 : tie.Need-same-length-6 Inv-loop μ-loop
 same-length-6 c = search needs
-
-same-length-7 : tie.Need-same-length-7 Inv-loop μ-loop
-same-length-7 c = search needs
-
-same-length-8 : tie.Need-same-length-8 Inv-loop μ-loop
-same-length-8 c = search needs
-
-same-length-9 : tie.Need-same-length-9 Inv-loop μ-loop
-same-length-9 c = search needs
 
 returns : tie.Need-returns Inv-loop μ-loop
 returns c = search needs
@@ -89,7 +79,4 @@ steps-spec =
     same-length-4
     same-length-5
     same-length-6
-    same-length-7
-    same-length-8
-    same-length-9
     returns)

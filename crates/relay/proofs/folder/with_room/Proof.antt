@@ -12,12 +12,6 @@ slice-aggregate-open-slots c = sym (length-replicate {A = ℕ} 7968 0)
 slice-aggregate-open-slots-2 : tie.Need-slice-aggregate-open-slots-2
 slice-aggregate-open-slots-2 c = sym (length-replicate {A = ℕ} 7968 0)
 
-slice-aggregate-open-slots-3 : tie.Need-slice-aggregate-open-slots-3
-slice-aggregate-open-slots-3 c = sym (length-replicate {A = ℕ} 7968 0)
-
-slice-aggregate-open-slots-4 : tie.Need-slice-aggregate-open-slots-4
-slice-aggregate-open-slots-4 c = sym (length-replicate {A = ℕ} 7968 0)
-
 open-slots-requires : tie.Need-open-slots-requires
 open-slots-requires c κs = search needs
 
@@ -37,25 +31,16 @@ slice-aggregate-steps-2 : tie.Need-slice-aggregate-steps-2
 slice-aggregate-steps-2 c = search needs
 
 slice-aggregate-steps-3 : tie.Need-slice-aggregate-steps-3
-slice-aggregate-steps-3 c = search needs
+slice-aggregate-steps-3 c = sym (length-replicate {A = ℕ} 262144 0)
 
 slice-aggregate-steps-4 : tie.Need-slice-aggregate-steps-4
-slice-aggregate-steps-4 c = search needs
+slice-aggregate-steps-4 c = sym (length-replicate {A = ℕ} 278528 0)
 
 slice-aggregate-steps-5 : tie.Need-slice-aggregate-steps-5
-slice-aggregate-steps-5 c = sym (length-replicate {A = ℕ} 262144 0)
+slice-aggregate-steps-5 c = sym (length-replicate {A = ℕ} 278528 0)
 
 slice-aggregate-steps-6 : tie.Need-slice-aggregate-steps-6
 slice-aggregate-steps-6 c = sym (length-replicate {A = ℕ} 278528 0)
-
-slice-aggregate-steps-7 : tie.Need-slice-aggregate-steps-7
-slice-aggregate-steps-7 c = sym (length-replicate {A = ℕ} 278528 0)
-
-slice-aggregate-steps-8 : tie.Need-slice-aggregate-steps-8
-slice-aggregate-steps-8 c = sym (length-replicate {A = ℕ} 278528 0)
-
-slice-aggregate-steps-9 : tie.Need-slice-aggregate-steps-9
-slice-aggregate-steps-9 c = sym (length-replicate {A = ℕ} 278528 0)
 
 steps-requires : tie.Need-steps-requires
 steps-requires c κs = search needs
@@ -69,8 +54,6 @@ with-room-spec =
     (tie.spec
     slice-aggregate-open-slots
     slice-aggregate-open-slots-2
-    slice-aggregate-open-slots-3
-    slice-aggregate-open-slots-4
     open-slots-requires
     spoiled-requires
     returns
@@ -81,8 +64,5 @@ with-room-spec =
     slice-aggregate-steps-4
     slice-aggregate-steps-5
     slice-aggregate-steps-6
-    slice-aggregate-steps-7
-    slice-aggregate-steps-8
-    slice-aggregate-steps-9
     steps-requires
     returns-2)
