@@ -2,10 +2,10 @@
 use Prim.Native.Nat.{ℕ, _+_, _%_, _^_, _≤_}
 use native.Mathlib.Omega.{arith}
 use mathlib.Core.Path.{_≡_, refl, sym, _∙_, ap, subst}
-use mathlib.Core.Bool.{Bool, true, false, cond, not, _&&_, false≢true}
+use mathlib.Core.Bool.{true, false, not, false≢true}
 use mathlib.Core.List.{List, [], _∷_}
 use borrow.Author.Tests.{not-true, leb-true}
-use lib.Dec.{eqb, leb}
+use lib.Dec.{eqb}
 use lib.ListN.{length, take, drop}
 use Rattle.laws.proofs.LadderLaws.{climbs-all}
 use Rattle.track.specs.declared.Asked.{Asked}
@@ -18,8 +18,9 @@ use Rattle.slots.proofs.ShareParts.{same-open, dropped-parameters}
 use Rattle.exchange.specs.Took.{Took, refused}
 use Rattle.exchange.proofs.OpenLaws.{opened-facts}
 use Rattle.receiver.specs.Object.{isDelta}
-use Rattle.receiver.specs.Receive.{afterRefusal, receiveRungs, refusing, done, receiving}
+use Rattle.receiver.specs.Receive.{receiveRungs, refusing, done, receiving}
 use Rattle.receiver.proofs.PassedLaws.{passed}
+use Rattle.receiver.proofs.Theorems.{refusal-either}
 use Rattle.receiver.proofs.AlikeTheorems.{done-holds}
 use Rattle.joining.specs.Matches.{countOf}
 use Rattle.joining.specs.Near.{made, Near, Stays}
@@ -98,8 +99,8 @@ pub joins : Joins (receiving F)
 joins s l before slot o room after q full z = joins-at (shareAfter (receiving F) before s) (run-keeps before s l) slot o room after q full z
 
 -- and so does any receiver that gives what the rules define
-pub joins-by : {receive : (object room share : List ℕ) → Out Took} → ((o room s : List ℕ) → receiving F o room s ≡ receive o room s) → Joins receive
-joins-by e = subst Joins (λ j o room s. e o room s j) joins
+pub joins-by : (receive : (object room share : List ℕ) → Out Took) → ((o room s : List ℕ) → receiving F o room s ≡ receive o room s) → Joins receive
+joins-by receive e = subst Joins (λ j o room s. e o room s j) joins
 
 -- ---- the parameters
 
@@ -110,16 +111,15 @@ refused-opening s p a =
     climbs-all (λ (x : Out ℕ). x .words ≡ s) (λ k. out k s) (openRungs Receiver a s) (out 0 (opened a)) (λ k. refl)
     (λ h. absurd (false≢true (sym (ap not p) ∙ h .1 .0)))
 
-group-parameters : (s : List ℕ) → length s ≡ shareLen → take acceptedAt (grouping Receiver s .words) ≡ take acceptedAt s
+-- the start of a group leaves a share as it was, or without its reference
+group-either : (P : List ℕ → Type 0) (s : List ℕ) → P s → P (dropped s) → P (grouping Receiver s .words)
 unfolding grouping onShare
-group-parameters s l =
-    climbs-all (λ (x : Out ℕ). take acceptedAt (x .words) ≡ take acceptedAt s) (λ k. out k s) (openedRungs Receiver s) (out 0 (dropped s)) (λ k. refl)
-    (λ h. dropped-parameters s l)
+group-either P s h d = climbs-all (λ (x : Out ℕ). P (x .words)) (λ k. out k s) (openedRungs Receiver s) (out 0 (dropped s)) (λ k. h) (λ _. d)
 
 call-parameters : (c : Call) → isClose c ≡ false → (s : List ℕ) → length s ≡ shareLen → isOpen s ≡ true → take acceptedAt (onShareOf (receiving F) c s .words) ≡ take acceptedAt s
 call-parameters (opens slot a) q s l p = ap (take acceptedAt) (refused-opening s p a)
 call-parameters (closes slot) q s l p = absurd (false≢true (sym q))
-call-parameters (groups slot) q s l p = group-parameters s l
+call-parameters (groups slot) q s l p = group-either (λ x. take acceptedAt x ≡ take acceptedAt s) s refl (dropped-parameters s l)
 call-parameters (receives slot o room) q s l p = receive-parameters s l o room
 
 pub parameters-stay : ParametersStay
@@ -136,19 +136,10 @@ unfolding dropped
 dropped-count s l = ap (λ (x : List ℕ). countOf (dropped x)) (parted s (omega arith))
 
 refused-count : (o room s : List ℕ) → length s ≡ shareLen → (receiving F o room s .answer .number ≡ 0 → ⊥) → countOf (receiving F o room s .words) ≡ countOf s
-unfolding receiving afterRefusal
+unfolding receiving
 refused-count o room s l =
     climbs-all (λ (x : Out Took). (x .answer .number ≡ 0 → ⊥) → countOf (x .words) ≡ countOf s) (refusing room s) (receiveRungs F o room s) (done F o room s)
-    (λ k n. by (leb 12 k && leb k 16)) (λ h n. absurd (n refl))
-  where
-    by : (b : Bool) → countOf (cond b (dropped s) s) ≡ countOf s
-    by true = dropped-count s l
-    by false = refl
-
-group-count : (s : List ℕ) → length s ≡ shareLen → countOf (grouping Receiver s .words) ≡ countOf s
-unfolding grouping onShare
-group-count s l =
-    climbs-all (λ (x : Out ℕ). countOf (x .words) ≡ countOf s) (λ k. out k s) (openedRungs Receiver s) (out 0 (dropped s)) (λ k. refl) (λ h. dropped-count s l)
+    (λ k n. refusal-either s (λ x. countOf x ≡ countOf s) k refl (dropped-count s l)) (λ h n. absurd (n refl))
 
 pub number-runs : NumberRuns
 number-runs =
@@ -156,6 +147,6 @@ number-runs =
       stands = λ o room s l z. number-stands F o room s l z;
       by-one = λ o room s l z. counts-one F o room s l z;
       refused = λ o room s l n. refused-count o room s l n;
-      group = λ s l. group-count s l;
-      opening = λ a s p. ap countOf (refused-opening s p a);
+      group = λ s l. group-either (λ x. countOf x ≡ countOf s) s refl (dropped-count s l);
+      second-opening = λ a s p. ap countOf (refused-opening s p a);
     }

@@ -19,7 +19,7 @@ use Rattle.receiver.specs.Receive.{receiving}
 use Rattle.joining.specs.Matches.{countOf}
 use Rattle.given.specs.Given.{F}
 use Rattle.demands.specs.Three.{Call, opens, closes, groups, receives, slotOf, call, tableAfter}
-use Rattle.demands.specs.Join.{AllMatch, onShareOf, outs, shareAfter, only, outsAt, OwnCalls, moved, TablesJoin, JoiningInMidGroup}
+use Rattle.demands.specs.Join.{AllMatch, onShareOf, outs, shareAfter, only, outsAt, OwnCalls, moved, TablesJoin, ourReceiver, JoiningInMidGroup}
 use Rattle.demands.proofs.OneChange.{refusedBy, call-shared, call-keeps}
 use Rattle.demands.proofs.JoinRuns.{joins-at, joins-by, parameters-stay, number-runs}
 
@@ -125,4 +125,4 @@ tables-join i j hi hj t t′ l l′ before o room after run′ q full z zo e =
     (joins-at s (share-long u i lu hi) i o room (only i after) q full zs))
 
 pub joining-in-mid-group : JoiningInMidGroup
-joining-in-mid-group = record { share = joins-by (λ o room s. refl); parameters = parameters-stay; number = number-runs; own-calls = own-calls; table = tables-join }
+joining-in-mid-group = record { share = joins-by ourReceiver (λ o room s. refl); parameters = parameters-stay; number = number-runs; own-calls = own-calls; table = tables-join }

@@ -1,9 +1,8 @@
 -- Paired shares stay paired when an object is read; they become so again when both sides start a group; and shares that were opened alike are. Assumes nothing.
 use Prim.Native.Nat.{ℕ, _<_}
 use mathlib.Core.Path.{_≡_, refl, sym, _∙_, ap, subst}
-use mathlib.Core.Bool.{Bool, true, false, cond, _&&_}
+use mathlib.Core.Bool.{Bool, true}
 use mathlib.Core.List.{List}
-use lib.Dec.{leb}
 use lib.ListN.{length, take, drop, replicate, length-replicate}
 use Rattle.laws.specs.Tests.{allLe}
 use Rattle.laws.specs.Gate.{gate}
@@ -13,7 +12,7 @@ use Rattle.track.specs.declared.Asked.{Asked}
 use Rattle.wire.specs.declared.form.Form.the-variants.{Rfc9000}
 use Rattle.slots.specs.declared.share.Side.{Side}
 use Rattle.slots.specs.declared.share.Side.the-variants.{Encoder, Receiver}
-use Rattle.slots.specs.Share.{acceptedAt, heldAt, shareLen, fresh, dropped}
+use Rattle.slots.specs.Share.{acceptedAt, heldAt, shareLen, fresh}
 use Rattle.slots.specs.Table.{Out, itself, tableLen, onShare}
 use Rattle.slots.specs.Calls.{opening, grouping}
 use Rattle.slots.proofs.Lawful.{open-keeps, group-keeps, open-stays-lawful, group-stays-lawful, fresh-lawful}
@@ -23,9 +22,9 @@ use Rattle.exchange.specs.Took.{Took}
 use Rattle.exchange.proofs.KeptLaws.{kept-parameters}
 use Rattle.encoder.specs.Encode.{encodeRungs, refusing, kept, done, encoding}
 use Rattle.encoder.proofs.Theorems.{encode-keeps, encode-stays-lawful}
-use Rattle.receiver.specs.Receive.{afterRefusal, receiveRungs, accepted, receiving}
+use Rattle.receiver.specs.Receive.{receiveRungs, accepted, receiving}
 use Rattle.receiver.specs.Receive.{refusing as refusingObject, done as doneObject}
-use Rattle.receiver.proofs.Theorems.{receive-keeps}
+use Rattle.receiver.proofs.Theorems.{receive-keeps, refusal-either}
 use Rattle.given.specs.Given.{F}
 use Rattle.demands.specs.Codec.{ours, gave}
 use Rattle.demands.specs.Two.{Send, Sends, Roomy, Beside, Paired, sent, got, openedAt}
@@ -43,13 +42,10 @@ module _ (s : List ℕ) (l : length s ≡ shareLen) where
       climbs-all Same (refusing room s) (encodeRungs F wish c room s) (done F wish c room s) (λ k. refl) (λ h. kept-parameters _ _ _ _ s l)
 
   pub receive-parameters : (o room : List ℕ) → Same (receiving F o room s)
-  unfolding receiving accepted afterRefusal
+  unfolding receiving accepted
   receive-parameters o room =
-      climbs-all Same (refusingObject room s) (receiveRungs F o room s) (doneObject F o room s) (λ k. by (leb 12 k && leb k 16)) (λ h. kept-parameters _ _ _ _ s l)
-    where
-      by : (b : Bool) → take acceptedAt (cond b (dropped s) s) ≡ take acceptedAt s
-      by true = dropped-parameters s l
-      by false = refl
+      climbs-all Same (refusingObject room s) (receiveRungs F o room s) (doneObject F o room s)
+      (λ k. refusal-either s (λ x. take acceptedAt x ≡ take acceptedAt s) k refl (dropped-parameters s l)) (λ h. kept-parameters _ _ _ _ s l)
 
 -- ---- after a chunk, and after an object
 

@@ -17,7 +17,7 @@ use Rattle.exchange.specs.Took.{Took}
 use Rattle.receiver.specs.Object.{isDelta}
 use Rattle.receiver.specs.Receive.{receiving}
 use Rattle.joining.specs.Number.{numberIn}
-use Rattle.joining.specs.Matches.{frontOf, countOf, Matches}
+use Rattle.joining.specs.Matches.{frontBytes, countOf, Matches}
 use Rattle.given.specs.Given.{F}
 use Rattle.demands.specs.One.{alone}
 use Rattle.demands.specs.Three.{Call, opens, closes, groups, receives, slotOf, call, tableAfter}
@@ -83,13 +83,13 @@ ParametersStay = (s : List ℕ) → length s ≡ shareLen → isOpen s ≡ true 
 -- were, modulo 2^32 (D140)
 pub record NumberRuns : Type 0 where
   pub stands : (o room s : List ℕ) → length s ≡ shareLen → receiving F o room s .answer .number ≡ 0
-      → numberIn (frontOf (receiving F o room s .answer)) ≡ countOf (receiving F o room s .words)
+      → numberIn (frontBytes (receiving F o room s .answer)) ≡ countOf (receiving F o room s .words)
   pub by-one : (o room s : List ℕ) → length s ≡ shareLen → receiving F o room s .answer .number ≡ 0
       → countOf (receiving F o room s .words) ≡ (countOf s + 1) % 2 ^ 32
   pub refused : (o room s : List ℕ) → length s ≡ shareLen → (receiving F o room s .answer .number ≡ 0 → ⊥)
       → countOf (receiving F o room s .words) ≡ countOf s
   pub group : (s : List ℕ) → length s ≡ shareLen → countOf (grouping Receiver s .words) ≡ countOf s
-  pub opening : (a : Asked) (s : List ℕ) → isOpen s ≡ true → countOf (opening Receiver a s .words) ≡ countOf s
+  pub second-opening : (a : Asked) (s : List ℕ) → isOpen s ≡ true → countOf (opening Receiver a s .words) ≡ countOf s
 
 -- ---- the same on whole tables
 
@@ -129,9 +129,12 @@ TablesJoin = (i j : ℕ) → i < 8 → j < 8 → (t t′ : List ℕ) → length 
     isDelta F o ≡ false → call (receives i o room) u .answer .number ≡ 0 → u′ .answer .number ≡ 0 → map (moved j) (only i run) ≡ only j run′
     → AllMatch (countOf (shareAt u i)) (outsAt i run u) (outsAt j run′ (u′ .words))
 
+-- what the contract of our receiver says
+abbrev pub ourReceiver : (object room share : List ℕ) → Out Took
+ourReceiver = receiving F
+
 pub record JoiningInMidGroup : Type 0 where
-  -- our receiver, by its contract
-  pub share : Joins (receiving F)
+  pub share : Joins ourReceiver
   pub parameters : ParametersStay
   pub number : NumberRuns
   pub own-calls : OwnCalls

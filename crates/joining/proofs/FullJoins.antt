@@ -22,7 +22,7 @@ use Rattle.receiver.specs.Receive.{prft, newSet, sequence, chunk, accepted, rec
 use Rattle.receiver.proofs.PassedLaws.{passed}
 use Rattle.receiver.proofs.AlikeTheorems.{full-forgets, done-holds, done-is}
 use Rattle.joining.specs.Number.{numberIn}
-use Rattle.joining.specs.Matches.{frontOf, countOf}
+use Rattle.joining.specs.Matches.{frontBytes, countOf}
 use Rattle.joining.specs.Near.{made, Near, Stays}
 use Rattle.joining.proofs.NearLaws.{parted, chunk-number}
 use Rattle.joining.proofs.NearCalls.{receive-near}
@@ -72,10 +72,10 @@ module _ (F : List Row) (o room s : List ℕ) (l : length s ≡ shareLen) (z : r
   counts-one = ap (λ (x : Out Took). countOf (x .words)) (done-is F o room s z) ∙ count-kept
 
   -- and its count is the number in its front
-  pub number-stands : numberIn (frontOf (receiving F o room s .answer)) ≡ countOf (receiving F o room s .words)
+  pub number-stands : numberIn (frontBytes (receiving F o room s .answer)) ≡ countOf (receiving F o room s .words)
   number-stands =
       let e = done-is F o room s z in
-      ap (λ (x : Out Took). numberIn (frontOf (x .answer))) e
+      ap (λ (x : Out Took). numberIn (frontBytes (x .answer))) e
       ∙ ap numberIn (take-append-seam (chunk F o s) (drop (length (chunk F o s)) room))
       ∙ chunk-number F o s (passed F o room s (done-holds F o room s z) .values)
       ∙ sym (ap (λ (x : Out Took). countOf (x .words)) e ∙ count-kept)

@@ -23,7 +23,7 @@ use Rattle.receiver.specs.Object.{isDelta}
 use Rattle.receiver.specs.Receive.{bmdt, prft, newSet, sequence, chunk, accepted, afterRefusal, refusing, done, receiveRungs, receiving}
 use Rattle.receiver.proofs.PassedLaws.{passed}
 use Rattle.joining.specs.Number.{numberAt, unnumbered}
-use Rattle.joining.specs.Matches.{frontOf, countOf}
+use Rattle.joining.specs.Matches.{frontBytes, countOf}
 use Rattle.joining.specs.Near.{made, Near, Stays}
 use Rattle.joining.proofs.NearLaws.{lawful-near, time-same, front-same, chunk-long, rungs-same, sequence-few, chunk-place, chunk-unnumbered}
 
@@ -44,8 +44,8 @@ same-answer a d x y e h =
             number = ap (λ (q : Took). q .number) e;
             long = ap (λ (q : Took). q .front) e;
             payload = ap (λ (q : Took). q .payload) e;
-            place = ap (λ (q : Took). numberAt (frontOf q)) e;
-            front = ap (λ (q : Took). unnumbered (frontOf q)) e;
+            place = ap (λ (q : Took). numberAt (frontBytes q)) e;
+            front = ap (λ (q : Took). unnumbered (frontBytes q)) e;
             past = ap (λ (q : Took). drop (q .front) (q .output)) e;
             reference = near-reference a d (x .words) (y .words) h;
             count = near-count a d (x .words) (y .words) h;
@@ -97,7 +97,7 @@ module _ (a : Asked) (d n m : ℕ) (r : List ℕ) (small : m ≤ u32) (apart : n
         }
 
     -- the front that was written, and what stays behind it
-    written : (s : List ℕ) → frontOf (done F o room s .answer) ≡ chunk F o s
+    written : (s : List ℕ) → frontBytes (done F o room s .answer) ≡ chunk F o s
     written s = take-append-seam (chunk F o s) (drop (length (chunk F o s)) room)
 
     stayed : (s : List ℕ) → drop (length (chunk F o s)) (chunk F o s ++ drop (length (chunk F o s)) room) ≡ drop (length (chunk F o s)) room

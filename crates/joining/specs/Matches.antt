@@ -10,8 +10,8 @@ use Rattle.exchange.specs.Took.{Took}
 use Rattle.joining.specs.Number.{numberAt, unnumbered}
 
 -- the front that a call wrote: none where it was refused
-abbrev pub frontOf : Took → List ℕ
-frontOf a = take (a .front) (a .output)
+abbrev pub frontBytes : Took → List ℕ
+frontBytes a = take (a .front) (a .output)
 
 -- the count of accepted objects in a share
 abbrev pub countOf : List ℕ → ℕ
@@ -24,8 +24,8 @@ pub record Matches (d : ℕ) (a b : Out Took) : Type 0 where
   pub long : a .answer .front ≡ b .answer .front
   pub payload : a .answer .payload ≡ b .answer .payload
   -- "fronts": the number has the same place in both, and all their bytes but its four are the same; and so are all bytes of the room past them
-  pub place : numberAt (frontOf (a .answer)) ≡ numberAt (frontOf (b .answer))
-  pub front : unnumbered (frontOf (a .answer)) ≡ unnumbered (frontOf (b .answer))
+  pub place : numberAt (frontBytes (a .answer)) ≡ numberAt (frontBytes (b .answer))
+  pub front : unnumbered (frontBytes (a .answer)) ≡ unnumbered (frontBytes (b .answer))
   pub past : drop (a .answer .front) (a .answer .output) ≡ drop (b .answer .front) (b .answer .output)
   -- "and reference"
   pub reference : drop heldAt (a .words) ≡ drop heldAt (b .words)

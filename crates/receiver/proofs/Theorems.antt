@@ -70,7 +70,7 @@ module _ (s : List ℕ) where
   refusal-drops k e = rw e
 
   -- what holds of the share, and of the share without its reference
-  refusal-either : (P : List ℕ → Type 0) (k : ℕ) → P s → P (dropped s) → P (afterRefusal k s)
+  pub refusal-either : (P : List ℕ → Type 0) (k : ℕ) → P s → P (dropped s) → P (afterRefusal k s)
   refusal-either P k a b = go (leb 12 k && leb k 16) refl
     where
       go : (c : Bool) → leb 12 k && leb k 16 ≡ c → P (afterRefusal k s)
