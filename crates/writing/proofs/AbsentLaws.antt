@@ -24,6 +24,10 @@ use Rattle.writing.proofs.LinesLaws.{between, fieldAt, lines-none, line
 pub mark-in : (i : ℕ) → i < 14 → (p : ℕ) → p ≡ placeOf i → (x : List ℕ) → length x ≡ setLen → p < length x
 mark-in i lt p e x h = omega (arith, e, place-of i lt, shaped i lt .inside, h)
 
+-- so does that of a line that a chunk has
+pub chunk-mark : (i : ℕ) → i < 13 → (p : ℕ) → p ≡ placeOf i → (x : List ℕ) → length x ≡ setLen → p < length x
+chunk-mark i lt = mark-in i (omega arith)
+
 module _ (F : List Row) (t : Track) (delta : Bool) (r x : List ℕ) where
   -- a field without its mark, deleted or not
   line-absent : (l : Line) → getD x (l .place) 0 ≡ 0 → nothing ≡ lineItems t delta r x l F
@@ -38,6 +42,9 @@ module _ (F : List Row) (t : Track) (delta : Bool) (r x : List ℕ) where
   pub absent-at : (i : ℕ) → i < 14 → (p : ℕ) → p ≡ placeOf i → getD x p 0 ≡ 0 → nothing ≡ fieldAt F t delta r x i
   absent-at i lt p e z = line-absent (getD lines i spare) (ap (λ (n : ℕ). getD x n 0) (sym (e ∙ place-of i lt)) ∙ z)
 
+  pub chunk-absent : (i : ℕ) → i < 13 → (p : ℕ) → p ≡ placeOf i → getD x p 0 ≡ 0 → nothing ≡ fieldAt F t delta r x i
+  chunk-absent i lt = absent-at i (omega arith)
+
   -- a field without its mark before others that have none
   passed : (i to : ℕ) → i < to → to ≤ 14 → nothing ≡ fieldAt F t delta r x i → nothing ≡ between F t delta r x (i + 1) to
       → nothing ≡ between F t delta r x i to
@@ -47,14 +54,10 @@ module _ (F : List Row) (t : Track) (delta : Bool) (r x : List ℕ) where
       ∙ ap (λ (is : Items). is before between F t delta r x (i + 1) to) e
       ∙ sym (lines-cons F t delta r x i to h k)
 
-  -- the lines after the sample count
-  pub high-absent : (eqb (getD x 722 0) 0 && eqb (getD x 979 0) 0) ≡ true → nothing ≡ between F t delta r x 12 14
+  -- the line after the sample count
+  pub high-absent : getD x 722 0 ≡ 0 → nothing ≡ between F t delta r x 12 13
   unfolding placeOf lines
-  high-absent e =
-      let p = and-left (eqb (getD x 722 0) 0) (eqb (getD x 979 0) 0) e in
-      let q = and-right (eqb (getD x 722 0) 0) (eqb (getD x 979 0) 0) e in
-      passed 12 14 (omega arith) (omega arith) (absent-at 12 (omega arith) 722 refl (eqb-true _ _ p))
-      (passed 13 14 (omega arith) (omega arith) (absent-at 13 (omega arith) 979 refl (eqb-true _ _ q)) (sym (lines-none F t delta r x 14)))
+  high-absent e = passed 12 13 (omega arith) (omega arith) (absent-at 12 (omega arith) 722 refl e) (sym (lines-none F t delta r x 13))
 
   -- those between BMDT and the sample count
   pub middle-absent : ((eqb (getD x 398 0) 0 && eqb (getD x 463 0) 0) && eqb (getD x 465 0) 0) ≡ true → nothing ≡ between F t delta r x 9 12

@@ -93,6 +93,11 @@ field-of t b r x i l h k =
       low = ltb-true _ _ (left _ _ s);
     })
 
+-- of the lines that a chunk has
+pub chunk-field : (t : Track) (b : Basis) (r x : List ℕ) (i : ℕ) (l : Line)
+    → Writable t (b .delta) r x × (b ≡ basisOf t (b .delta) r x) → (i < 13) × (l ≡ getD lines i spare) → Field t b r x l
+chunk-field t b r x i l h k = field-of t b r x i l h (omega (arith, k .0), k .1)
+
 -- ---- old values
 
 module _ (held : Bool) (r : List ℕ) (was : Measure) (l : Line) where

@@ -24,7 +24,7 @@ module _ (F : List Row) (t : Track) (delta : Bool) (r x : List ℕ) where
   -- what follows the middle lines, BMDT and the low lines
 
   abbrev last : Items
-  last = countItems F t delta r x before between F t delta r x 12 14
+  last = countItems F t delta r x before between F t delta r x 12 13
 
   abbrev rest : Items
   rest = between F t delta r x 9 12 before last
@@ -33,12 +33,12 @@ module _ (F : List Row) (t : Track) (delta : Bool) (r x : List ℕ) where
   later = bmdtItems F t delta r x before rest
 
   -- all were weighed: the lines in one walk, and then the two numbers that stand between them
-  pub set-weighed : {a b c : Weight} → WeighedAs F (between F t delta r x 0 14) 28896 a → WeighedAs F (bmdtItems F t delta r x) 16 b
-      → WeighedAs F (countItems F t delta r x) 16 c → (u z : Weight) → Sum b c u → Sum a u z → WeighedAs F (fieldItems F t delta r x) 28928 z
+  pub set-weighed : {a b c : Weight} → WeighedAs F (between F t delta r x 0 13) 26832 a → WeighedAs F (bmdtItems F t delta r x) 16 b
+      → WeighedAs F (countItems F t delta r x) 16 c → (u z : Weight) → Sum b c u → Sum a u z → WeighedAs F (fieldItems F t delta r x) 26864 z
   unfolding fieldItems
   set-weighed p q s u z g h =
       weighed-alike F
-      (interleaved F (between F t delta r x 0 9) (between F t delta r x 9 12) (between F t delta r x 12 14) (bmdtItems F t delta r x) (countItems F t delta r x))
+      (interleaved F (between F t delta r x 0 9) (between F t delta r x 9 12) (between F t delta r x 12 13) (bmdtItems F t delta r x) (countItems F t delta r x))
       (weighed-both (weighed-as (three-parts F t delta r x) p) (weighed-both q s g) h)
 
   -- all are left to be written; then all but the low lines, and so on
@@ -61,5 +61,5 @@ module _ (F : List Row) (t : Track) (delta : Bool) (r x : List ℕ) where
           before-count = left-next F (fieldItems F t delta r x) l at _ _ _ _ before-middle o u w₃
 
           module _ (k : List ℕ) (v : ℕ) (w₄ : Wrote o u (bytesOf F (countItems F t delta r x)) k v) where
-            pub before-high : Left F (fieldItems F t delta r x) l at (between F t delta r x 12 14) k v
+            pub before-high : Left F (fieldItems F t delta r x) l at (between F t delta r x 12 13) k v
             before-high = left-next F (fieldItems F t delta r x) l at _ _ _ _ before-count k v w₄

@@ -49,10 +49,11 @@ module _ (F : List Row) (t : Track) (delta : Bool) (r x : List ℕ) where
   unfoldable pub countItems : Items
   countItems = itemsIf (countStands t delta r x) (numberItem 14 (codeOf F (codingFor delta) (getD r countAt 0) (getD x countAt 0)))
 
-  -- ids 1 to 16: the lines of the table, and ids 10 and 14 between them
+  -- ids 1 to 15: the lines of the table but the last, and ids 10 and 14 between them. 02, order 9: "no accepted chunk reaches the encoder's case for id 16. Show
+  -- that, and take the case out." (D142)
   unfoldable pub fieldItems : Items
   fieldItems =
-      linesItems (slice 0 9 lines) before bmdtItems before linesItems (slice 9 12 lines) before countItems before linesItems (slice 12 14 lines)
+      linesItems (slice 0 9 lines) before bmdtItems before linesItems (slice 9 12 lines) before countItems before linesItems (slice 12 13 lines)
 
   unfoldable pub deletionItems : Items
   deletionItems = itemsIf (not (eqb (length (goneOf t delta r x lines)) 0)) (runItem F Plain 27 0 [] (goneOf t delta r x lines))

@@ -1,4 +1,4 @@
-// The set of moof fields in an object: every line of the table, with BMDT and the sample count among them by their ids.
+// The set of moof fields of a chunk in an object: every line of the table but that of id 16, with BMDT and the sample count among them by their ids.
 ghost use mathlib.Core.Path.{_≡_};
 ghost use mathlib.Core.Bool.{true};
 ghost use Prim.Native.Nat.{_+_, _-_, _*_, _≤_, _<_};
@@ -31,6 +31,9 @@ const COUNT: u64 = 14;
 const BEFORE_BMDT: usize = 9;
 
 const BEFORE_COUNT: usize = 12;
+
+// The lines that a chunk's set can have: all but the last, id 16's, since the track's parameter cuts a chunk's IVs.
+const CHUNK_LINES: usize = 13;
 
 // What the set x is written against: in a delta the reference r, in a full object nothing.
 pub fn basis_of(t: Track, delta: bool, r: &[u64], x: &[u64]) -> Basis
@@ -152,7 +155,7 @@ fn lines_size(
     to: usize,
 ) -> Weight
     requires { ⌜ Writable t (b .delta) (now r) (now x) × (b ≡ basisOf t (b .delta) (now r) (now x)) ⌝ }
-    requires { ⌜ (from ≤ to) × (to ≤ 14) ⌝ }
+    requires { ⌜ (from ≤ to) × (to ≤ 13) ⌝ }
     ensures { λ w. ⌜ WeighedAs (rows form) (linesItems (rows form) t (b .delta) (now (r .entry)) (now (x .entry)) (slice from to lines)) (2064 * (to - from)) w ⌝ }
 {
     let mut sum = tuples::whole(0);
@@ -177,7 +180,7 @@ fn put_lines(
     at: usize,
 ) -> usize
     requires { ⌜ Writable t (b .delta) (now r) (now x) × (b ≡ basisOf t (b .delta) (now r) (now x)) ⌝ }
-    requires { ⌜ (from ≤ to) × (to ≤ 14) ⌝ }
+    requires { ⌜ (from ≤ to) × (to ≤ 13) ⌝ }
     requires { ⌜ isSome (linesItems (rows form) t (b .delta) (now r) (now x) (slice from to lines)) ≡ true ⌝ }
     requires { ⌜ at + length (bytesOf (rows form) (linesItems (rows form) t (b .delta) (now r) (now x) (slice from to lines))) ≤ length (now out) ⌝ }
     ensures { λ p. ⌜ Wrote (now (out .entry)) at (bytesOf (rows form) (linesItems (rows form) t (b .delta) (now (r .entry)) (now (x .entry)) (slice from to lines))) (now (out .exit)) p ⌝ }
@@ -191,7 +194,7 @@ fn put_lines(
     p
 }
 
-// The lines between BMDT and the sample count, and those after it, seldom stand: one test of their marks passes over them all.
+// The lines between BMDT and the sample count seldom stand: one test of their marks passes over them all.
 fn put_middle(
     form: Form,
     t: Track,
@@ -212,6 +215,7 @@ fn put_middle(
     put_lines(form, t, b, r, x, BEFORE_BMDT, BEFORE_COUNT, out, at)
 }
 
+// So does the one after it, id 15's.
 fn put_high(
     form: Form,
     t: Track,
@@ -222,24 +226,24 @@ fn put_high(
     at: usize,
 ) -> usize
     requires { ⌜ Writable t (b .delta) (now r) (now x) × (b ≡ basisOf t (b .delta) (now r) (now x)) ⌝ }
-    requires { ⌜ isSome (linesItems (rows form) t (b .delta) (now r) (now x) (slice 12 14 lines)) ≡ true ⌝ }
-    requires { ⌜ at + length (bytesOf (rows form) (linesItems (rows form) t (b .delta) (now r) (now x) (slice 12 14 lines))) ≤ length (now out) ⌝ }
-    ensures { λ p. ⌜ Wrote (now (out .entry)) at (bytesOf (rows form) (linesItems (rows form) t (b .delta) (now (r .entry)) (now (x .entry)) (slice 12 14 lines))) (now (out .exit)) p ⌝ }
+    requires { ⌜ isSome (linesItems (rows form) t (b .delta) (now r) (now x) (slice 12 13 lines)) ≡ true ⌝ }
+    requires { ⌜ at + length (bytesOf (rows form) (linesItems (rows form) t (b .delta) (now r) (now x) (slice 12 13 lines))) ≤ length (now out) ⌝ }
+    ensures { λ p. ⌜ Wrote (now (out .entry)) at (bytesOf (rows form) (linesItems (rows form) t (b .delta) (now (r .entry)) (now (x .entry)) (slice 12 13 lines))) (now (out .exit)) p ⌝ }
 {
-    if (x[lines::PROTECTED] == 0) & (x[lines::IV_SIZE] == 0) {
+    if x[lines::PROTECTED] == 0 {
         return at;
     }
-    put_lines(form, t, b, r, x, BEFORE_COUNT, lines::LINES, out, at)
+    put_lines(form, t, b, r, x, BEFORE_COUNT, CHUNK_LINES, out, at)
 }
 
-// ---- ids 1 to 16
+// ---- ids 1 to 15
 
 // A sum is the same in any order, so the lines are weighed in one walk, whatever stands between them in the object.
 pub fn set_size(form: Form, t: Track, b: Basis, r: &[u64], x: &[u64]) -> Weight
     requires { ⌜ Writable t (b .delta) (now r) (now x) × (b ≡ basisOf t (b .delta) (now r) (now x)) ⌝ }
-    ensures { λ w. ⌜ WeighedAs (rows form) (fieldItems (rows form) t (b .delta) (now (r .entry)) (now (x .entry))) 28928 w ⌝ }
+    ensures { λ w. ⌜ WeighedAs (rows form) (fieldItems (rows form) t (b .delta) (now (r .entry)) (now (x .entry))) 26864 w ⌝ }
 {
-    let fields = lines_size(form, t, b, r, x, 0, lines::LINES);
+    let fields = lines_size(form, t, b, r, x, 0, CHUNK_LINES);
     let bmdt = bmdt_size(form, t, b.delta, r, x);
     let count = count_size(form, t, b.delta, r, x);
     let numbers = tuples::both(bmdt, count);

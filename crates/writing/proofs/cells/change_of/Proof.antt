@@ -3,7 +3,7 @@ use borrow.Author.Needs.{needs}
 use native.Mathlib.Omega.{arith}
 use mathlib.Core.Path.{sym, _∙_, ap₂}
 use Rattle.writing.specs.Changes.{same}
-use Rattle.writing.proofs.FieldLaws.{Field, field-of}
+use Rattle.writing.proofs.FieldLaws.{Field, chunk-field}
 use Rattle.writing.proofs.SentLaws.{new-room, news-lent, olds-lent}
 use Rattle.writing.proofs.ChangeLaws.{vanished, never, afresh, compared}
 use Rattle.writing.proofs.cells.change_of.Statement.{statement}
@@ -11,7 +11,7 @@ use Rattle.writing.proofs.cells.change_of.Tie as tie
 
 -- the field that the call is about
 the-field : (s : tie.Start) → let a = s .args in Field (a .t) (a .b) (a .r .now) (a .x .now) (a .l)
-the-field s = let a = s .args in field-of (a .t) (a .b) (a .r .now) (a .x .now) (a .i) (a .l) (s .pre .0) (s .pre .1)
+the-field s = let a = s .args in chunk-field (a .t) (a .b) (a .r .now) (a .x .now) (a .i) (a .l) (s .pre .0) (s .pre .1)
 
 add-from : tie.Need-add-from
 add-from c = omega (arith, the-field (c .before .before) .here)

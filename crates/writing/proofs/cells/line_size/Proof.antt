@@ -6,7 +6,7 @@ use mathlib.Core.List.{[], _∷_}
 use types.Run.{miss}
 use Rattle.wire.specs.Form.{rows}
 use Rattle.writing.proofs.ItemLaws.{weighed-nothing, weighed-as}
-use Rattle.writing.proofs.AbsentLaws.{mark-in, absent-at}
+use Rattle.writing.proofs.AbsentLaws.{chunk-mark, chunk-absent}
 use Rattle.writing.proofs.ChangeLaws.{sent-stands, line-sent, line-unsent}
 use Rattle.writing.proofs.cells.line_size.Statement.{statement}
 use Rattle.writing.proofs.cells.line_size.Tie as tie
@@ -18,12 +18,12 @@ mul-if1 : tie.Need-mul-if1
 mul-if1 c =
     let b = c .before .before .before in
     let w = b .pre .0 .0 .new-words in
-    omega (arith, mark-in _ (b .pre .1) _ (c .place-at .ensures) (b .args .x .now) w, w)
+    omega (arith, chunk-mark _ (b .pre .1) _ (c .place-at .ensures) (b .args .x .now) w, w)
 
 shared-slice-read-if1 : tie.Need-shared-slice-read-if1
 shared-slice-read-if1 c =
     let b = c .before .before .before .before in
-    mark-in _ (b .pre .1) _ (c .before .place-at .ensures) (b .args .x .now) (b .pre .0 .0 .new-words)
+    chunk-mark _ (b .pre .1) _ (c .before .place-at .ensures) (b .args .x .now) (b .pre .0 .0 .new-words)
 
 whole-requires : tie.Need-whole-requires
 whole-requires c κs = tt
@@ -35,7 +35,7 @@ returns c =
     let b₃ = b₂ .before .before .before in
     let a = b₃ .args in
     weighed-as
-    (absent-at (rows (a .form)) (a .t) (a .b .delta) (a .r .now) (a .x .now) _ (b₃ .pre .1) _ (b₂ .place-at .ensures) (b₁ .if1 .taken))
+    (chunk-absent (rows (a .form)) (a .t) (a .b .delta) (a .r .now) (a .x .now) _ (b₃ .pre .1) _ (b₂ .place-at .ensures) (b₁ .if1 .taken))
     (weighed-nothing (c .whole .ensures))
 
 line-at-requires : tie.Need-line-at-requires

@@ -6,7 +6,7 @@ use mathlib.Core.List.{[], _∷_}
 use types.Run.{miss}
 use Rattle.wire.specs.Form.{rows}
 use Rattle.writing.proofs.ItemLaws.{some-as, room-as}
-use Rattle.writing.proofs.AbsentLaws.{mark-in, absent-at}
+use Rattle.writing.proofs.AbsentLaws.{chunk-mark, chunk-absent}
 use Rattle.writing.proofs.ChangeLaws.{sent-stands, line-sent, line-unsent}
 use Rattle.writing.proofs.cells.put_line.Statement.{statement}
 use Rattle.writing.proofs.cells.put_line.Tie as tie
@@ -19,12 +19,12 @@ mul-if1 : tie.Need-mul-if1
 mul-if1 c =
     let b = c .before .before .before .before in
     let w = b .pre .0 .0 .new-words in
-    omega (arith, mark-in _ (b .pre .1 .0) _ (c .place-at .ensures) (b .args .x .now) w, w)
+    omega (arith, chunk-mark _ (b .pre .1 .0) _ (c .place-at .ensures) (b .args .x .now) w, w)
 
 shared-slice-read-if1 : tie.Need-shared-slice-read-if1
 shared-slice-read-if1 c =
     let b = c .before .before .before .before .before in
-    mark-in _ (b .pre .1 .0) _ (c .before .place-at .ensures) (b .args .x .now) (b .pre .0 .0 .new-words)
+    chunk-mark _ (b .pre .1 .0) _ (c .before .place-at .ensures) (b .args .x .now) (b .pre .0 .0 .new-words)
 
 returns : tie.Need-returns
 returns c =
@@ -33,7 +33,7 @@ returns c =
     let a = b₂ .args in
     let F = rows (a .form) in
     put-as F
-    (absent-at F (a .t) (a .b .delta) (a .r .now) (a .x .now) _ (b₂ .pre .1 .0) _ (b₁ .place-at .ensures) (c .if1 .taken))
+    (chunk-absent F (a .t) (a .b .delta) (a .r .now) (a .x .now) _ (b₂ .pre .1 .0) _ (b₁ .place-at .ensures) (c .if1 .taken))
     (put-nothing F _ _ (omega (arith, b₂ .pre .1 .1 .1)))
 
 line-at-requires : tie.Need-line-at-requires

@@ -4,7 +4,7 @@ use native.Mathlib.Omega.{arith}
 use mathlib.Core.Path.{sym, _∙_}
 use Rattle.wire.specs.Form.{rows}
 use Rattle.writing.proofs.ItemLaws.{some-as, room-as}
-use Rattle.writing.proofs.FieldLaws.{Field, field-of}
+use Rattle.writing.proofs.FieldLaws.{Field, chunk-field}
 use Rattle.laws.proofs.PartLaws.{parts-room, parts-then, parts-none}
 use Rattle.writing.proofs.WideLaws.{wide-room}
 use Rattle.writing.proofs.SentLaws.{new-room, new-few, ivs-parts, number-is, list-lent}
@@ -14,7 +14,7 @@ use Rattle.writing.proofs.PutLaws.{put-as}
 
 -- the field that the call is about
 the-field : (s : tie.Start) → let a = s .args in Field (a .t) (a .b) (a .r .now) (a .x .now) (a .l)
-the-field s = let a = s .args in field-of (a .t) (a .b) (a .r .now) (a .x .now) (a .i) (a .l) (s .pre .0) (s .pre .1 .0)
+the-field s = let a = s .args in chunk-field (a .t) (a .b) (a .r .now) (a .x .now) (a .i) (a .l) (s .pre .0) (s .pre .1 .0)
 
 add-from : tie.Need-add-from
 add-from c = omega (arith, the-field (c .before .before .before .before .before) .here)

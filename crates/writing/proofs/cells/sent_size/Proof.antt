@@ -3,7 +3,7 @@ use borrow.Author.Needs.{needs}
 use native.Mathlib.Omega.{arith}
 use mathlib.Core.Path.{sym, _∙_}
 use Rattle.wire.specs.Form.{rows}
-use Rattle.writing.proofs.FieldLaws.{Field, field-of}
+use Rattle.writing.proofs.FieldLaws.{Field, chunk-field}
 use Rattle.writing.proofs.ItemLaws.{made-is, weighed-as, weighed-within}
 use Rattle.writing.proofs.SentLaws.{new-room, new-few, lent-length, weighed-ivs, number-is, list-lent}
 use Rattle.writing.proofs.cells.sent_size.Statement.{statement}
@@ -11,7 +11,7 @@ use Rattle.writing.proofs.cells.sent_size.Tie as tie
 
 -- the field that the call is about
 the-field : (s : tie.Start) → let a = s .args in Field (a .t) (a .b) (a .r .now) (a .x .now) (a .l)
-the-field s = let a = s .args in field-of (a .t) (a .b) (a .r .now) (a .x .now) (a .i) (a .l) (s .pre .0) (s .pre .1 .0)
+the-field s = let a = s .args in chunk-field (a .t) (a .b) (a .r .now) (a .x .now) (a .i) (a .l) (s .pre .0) (s .pre .1 .0)
 
 add-from : tie.Need-add-from
 add-from c = omega (arith, the-field (c .before .before .before .before) .here)

@@ -9,16 +9,13 @@ use Rattle.writing.proofs.set.put_high.Tie as tie
 shared-slice-read-if1 : tie.Need-shared-slice-read-if1
 shared-slice-read-if1 c = search needs
 
-shared-slice-read-if1-2 : tie.Need-shared-slice-read-if1-2
-shared-slice-read-if1-2 c = search needs
-
 returns : tie.Need-returns
 returns c =
-    let b = c .before .before .before .before .before .before in
+    let b = c .before .before .before .before .before in
     put-as _ (high-absent _ _ _ _ _ (c .if1 .taken)) (put-nothing _ _ _ (omega (arith, b .pre .1 .1)))
 
 put-lines-requires : tie.Need-put-lines-requires
-put-lines-requires c κs = let b = c .before .before .before .before .before .before .before in (b .pre .0, ((omega arith, omega arith), b .pre .1))
+put-lines-requires c κs = let b = c .before .before .before .before .before .before in (b .pre .0, ((omega arith, omega arith), b .pre .1))
 
 same-length : tie.Need-same-length
 same-length c = search needs
@@ -31,7 +28,6 @@ put-high-spec =
     tie.close
     (tie.spec
     shared-slice-read-if1
-    shared-slice-read-if1-2
     returns
     put-lines-requires
     same-length
