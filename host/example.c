@@ -5,7 +5,7 @@
 
 /* One chunk to an object and back. The payload is never copied by a call: it is the end of the bytes that were lent. */
 int main(void) {
-    uint8_t chunk[364], object[12367 + 364], rebuilt[8577 + 364];
+    uint8_t chunk[364], object[12343 + 364], rebuilt[8577 + 364];
     uint64_t words = locmaf_encoder_words(), others = locmaf_receiver_words(), number, front, payload, length;
     uint64_t *encoder = calloc(words, sizeof *encoder), *receiver = calloc(others, sizeof *receiver);
     FILE *file = fopen("captures/ff5-aac-1/chunks.bin", "rb");

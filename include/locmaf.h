@@ -80,7 +80,7 @@ uint64_t locmaf_encoder_start_group(uint64_t *table, size_t words, uint64_t slot
 /* Encodes one chunk. `delta` is 0 for a full object; any other value wishes for a delta, which is given where a reference is held and every number
  * fits, and else a full object. *number is the number: 0, 1, 2, 5 to 9, 17 or 18. Where it is 0, the first *front bytes of the output are the object
  * up to its payload, the bytes past them stay as they were, and the answer is the length of the payload: the last so many bytes of the chunk, which
- * follow the front in the object and are never copied. Otherwise *front and the answer are 0. No front has more than 12,367 bytes. */
+ * follow the front in the object and are never copied. Otherwise *front and the answer are 0. No front has more than 12,343 bytes. */
 uint64_t locmaf_encode(uint64_t *table, size_t words, uint64_t slot, uint64_t delta, const uint8_t *chunk, size_t chunk_len, uint8_t *output,
                        size_t output_len, uint64_t *number, uint64_t *front);
 

@@ -44,7 +44,7 @@ pub record Facts (t : Track) (c : List ℕ) : Type 0 where
 
 module _ (F : List Row) (t : Track) (c : List ℕ) (h : Hold (acceptRungs F t c)) where
   -- every field of its set has room
-  set-fits : t .«iv_size» ≤ 16 → AllFit (fieldOf t c (inner c))
+  pub set-fits : t .«iv_size» ≤ 16 → AllFit (fieldOf t c (inner c))
   set-fits iv = all-fit t c (inner c) (gatherable t c (top c) (inner c) refl refl (boxes-right F t c h) (counts-right F t c h) iv)
 
   pub chunk-facts : allLe 255 c ≡ true → ivOk (t .protection) (t .«iv_size») ≡ true → Facts t c

@@ -9,3 +9,4 @@ pub mod SetRules
 pub mod LawfulSet
 pub mod BrandLaws
 pub mod ChunkFacts
+pub mod NoIvSize

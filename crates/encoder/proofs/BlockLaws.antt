@@ -67,7 +67,7 @@ module _ {F : List Row} {t : Track} {s c : List ℕ} {k : Chunk} {ws x : List �
   events-is = ap (λ (u : Track). eventItems F (events u c)) (h .on-share .track-is)
 
   -- all were weighed
-  pub block-weighed : {p q r n f a g : Weight} → WeighedAs F (fieldItems F t (b .delta) (lent s) x) 28928 p
+  pub block-weighed : {p q r n f a g : Weight} → WeighedAs F (fieldItems F t (b .delta) (lent s) x) 26864 p
       → WeighedAs F (timesItems F delta s (k .prft)) 32 q → WeighedAs F (versionItems F delta s (k .prft)) 16 r
       → WeighedAs F (brandItems delta (brands c)) 80 n → WeighedAs F (flagsItems F delta s (k .prft)) 16 f
       → WeighedAs F (eventItems F (events t c)) 4112 a → WeighedAs F (deletionItems F t (b .delta) (lent s) x) 128 g
@@ -75,7 +75,7 @@ module _ {F : List Row} {t : Track} {s c : List ℕ} {k : Chunk} {ws x : List �
       → WeighedAs F (blockItems F s c delta) 40000 o
   unfolding blockItems
   block-weighed wp wq wr wn wf wa wg u v w y z o i₁ i₂ i₃ i₄ i₅ i₆ =
-      let p : WeighedAs F (setPart F s c delta) 28928 _ = rw set-is at wp in
+      let p : WeighedAs F (setPart F s c delta) 26864 _ = rw set-is at wp in
       let q : WeighedAs F (timesItems F delta s (prft c)) 32 _ = rw (prft-is h) at wq in
       let r : WeighedAs F (versionItems F delta s (prft c)) 16 _ = rw (prft-is h) at wr in
       let f : WeighedAs F (flagsItems F delta s (prft c)) 16 _ = rw (prft-is h) at wf in

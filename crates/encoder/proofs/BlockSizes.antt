@@ -166,7 +166,7 @@ module _ (F : List Row) (eight : longest F ≤ 8) where
         go true h = omega arith
         go false h = omega arith
 
-    -- ids 1 to 16, and id 27
+    -- ids 1 to 15, and id 27
     module _ (good : lawful t x ≡ true) (iv : t .«iv_size» ≤ 16) where
       few : getD x countAt 0 ≤ 64
       unfolding lawful
@@ -192,17 +192,17 @@ module _ (F : List Row) (eight : longest F ≤ 8) where
       unfolding lines wanted
       middle = let n = few in let k = sums in (omega (arith, n), (omega arith, (omega (arith, k), tt)))
 
-      high : Roomy (slice 12 14 lines)
+      high : Roomy (slice 12 13 lines)
       unfolding lines wanted
-      high = let k = sums in (omega (arith, k), (omega arith, tt))
+      high = let k = sums in (omega (arith, k), tt)
 
-      pub fields-most : Most F 7976 (fieldItems F t delta r x)
+      pub fields-most : Most F 7952 (fieldItems F t delta r x)
       unfolding fieldItems bmdtItems countItems lines
       fields-most =
-          before-most 3240 4736 _ _ (lines-most (slice 0 9 lines) low)
-          (before-most 16 4720 _ _ (if-most 16 _ _ (number-most 10 _))
-          (before-most 2616 2104 _ _ (lines-most (slice 9 12 lines) middle)
-          (before-most 16 2088 _ _ (if-most 16 _ _ (number-most 14 _)) (lines-most (slice 12 14 lines) high))))
+          before-most 3240 4712 _ _ (lines-most (slice 0 9 lines) low)
+          (before-most 16 4696 _ _ (if-most 16 _ _ (number-most 10 _))
+          (before-most 2616 2080 _ _ (lines-most (slice 9 12 lines) middle)
+          (before-most 16 2064 _ _ (if-most 16 _ _ (number-most 14 _)) (lines-most (slice 12 13 lines) high))))
 
     pub deletions-most : Most F 128 (deletionItems F t delta r x)
     unfolding deletionItems lines

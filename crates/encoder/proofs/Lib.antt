@@ -9,3 +9,4 @@ pub mod EncodeLaws
 pub mod FitLaws
 pub mod BlockSizes
 pub mod Theorems
+pub mod WithoutIvSize

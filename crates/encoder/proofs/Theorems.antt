@@ -234,15 +234,15 @@ encode-makes F wish c output s e =
       rest = ap (λ (a : Out Took). a .answer .payload) q;
     }
 
--- a block has at most 12,364 bytes
+-- a block has at most 12,340 bytes
 block-most : (F : List Row) (wish : Bool) (c output s : List ℕ) → longest F ≤ 8 → allLe 255 c ≡ true → length s ≡ shareLen → Passed F wish c output s
-    → (delta : Bool) → Most F 12364 (blockItems F s c delta)
+    → (delta : Bool) → Most F 12340 (blockItems F s c delta)
 unfolding blockItems
 block-most F wish c output s w b l h delta =
     let o = opened F wish c output s l h in
     let t = trackOf s in
     let x = fields t c in
-    before-most F w 7976 4388 _ _
+    before-most F w 7952 4388 _ _
     (fields-most F w t delta (drop setAt s) x
     (chunk-lawful F t c b (iv-right s (o .track)) (h .accepted) (bmdt-small F s c wish (h .fits))) (ranges (askedOf s) (o .track) .iv-size))
     (before-most F w 32 4356 _ _ (times-most F w delta s (prft c))

@@ -2,20 +2,27 @@
 -- ==== What is shown of the rules
 use Prim.Native.Nat.{ℕ, _≤_}
 use mathlib.Core.Path.{_≡_}
-use mathlib.Core.Bool.{Bool, true}
+use mathlib.Core.Bool.{Bool, true, _&&_}
 use mathlib.Core.List.{List, [], _++_}
 use lib.ListN.{length, take}
 use Rattle.laws.specs.Tests.{allLe}
-use Rattle.laws.specs.Ladder.{Given}
+use Rattle.laws.specs.Ladder.{Given, Hold}
 use Rattle.wire.specs.declared.form.Row.{Row}
 use Rattle.wire.specs.declared.form.Form.{Form}
 use Rattle.wire.specs.Form.{rows}
+use Rattle.track.specs.declared.Track.{Track}
+use Rattle.track.specs.Track.{ivOk}
+use Rattle.fieldset.specs.Lines.{lines, lineFor}
+use Rattle.fieldset.specs.Lawful.{has}
+use Rattle.fields.specs.Said.{among}
 use Rattle.slots.specs.declared.share.Side.the-variants.{Encoder}
 use Rattle.slots.specs.Share.{shareLen, lawful}
 use Rattle.slots.specs.Table.{Out, shareAt, tableRungs, onTable}
 use Rattle.exchange.specs.Took.{Took, refused, PastStays}
-use Rattle.writing.specs.Items.{bytesOf}
-use Rattle.accepted.specs.Accepted.{payload}
+use Rattle.writing.specs.Items.{_before_, bytesOf}
+use Rattle.writing.specs.Changes.{lineItems}
+use Rattle.writing.specs.Fields.{goneOf, fieldItems}
+use Rattle.accepted.specs.Accepted.{payload, fields, acceptRungs}
 use Rattle.encoder.specs.Object.{blockItems, givesDelta, front}
 use Rattle.encoder.specs.Encode.{encodeRungs, encoding}
 
@@ -62,3 +69,14 @@ abbrev pub BlockFits : Type 0
 BlockFits = (form : Form) (wish : Bool) (c output s : List ℕ) → allLe 255 c ≡ true → length s ≡ shareLen
     → encoding (rows form) wish c output s .answer .number ≡ 0
     → length (bytesOf (rows form) (blockItems (rows form) s c (givesDelta (rows form) s c wish))) ≤ 16384
+
+-- 02, order 9: "no accepted chunk reaches the encoder's case for id 16. Show that, and take the case out." Against any reference r, in a delta and in a full object
+pub record WithoutCase (F : List Row) (t : Track) (c : List ℕ) : Type 0 where
+  -- a line for id 16 as for every other id would add nothing to the fields of an accepted chunk
+  pub same : (delta : Bool) (r : List ℕ)
+      → fieldItems F t delta r (fields t c) before lineItems t delta r (fields t c) (lineFor 16 lines) F ≡ fieldItems F t delta r (fields t c)
+  -- and 16 is listed in id 27 exactly where a delta's reference has an id 16, which only a table that came so can hold
+  pub deleted : (delta : Bool) (r : List ℕ) → among 16 (goneOf t delta r (fields t c) lines) ≡ (delta && has 16 r)
+
+abbrev pub CaseTakenOut : Type 0
+CaseTakenOut = (F : List Row) (t : Track) (c : List ℕ) → ivOk (t .protection) (t .«iv_size») ≡ true → Hold (acceptRungs F t c) → WithoutCase F t c

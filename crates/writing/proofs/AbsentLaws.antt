@@ -30,7 +30,7 @@ chunk-mark i lt = mark-in i (omega arith)
 
 module _ (F : List Row) (t : Track) (delta : Bool) (r x : List ℕ) where
   -- a field without its mark, deleted or not
-  line-absent : (l : Line) → getD x (l .place) 0 ≡ 0 → nothing ≡ lineItems t delta r x l F
+  pub line-absent : (l : Line) → getD x (l .place) 0 ≡ 0 → nothing ≡ lineItems t delta r x l F
   unfolding lineItems changeOf
   line-absent l z = rw (eq-eqb (getD x (l .place) 0) 0 z) (go (stood delta r l))
     where

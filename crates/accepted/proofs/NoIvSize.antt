@@ -1,0 +1,38 @@
+-- No chunk reaches the case for id 16, and the set of an accepted one has none. Assumes nothing.
+use Prim.Native.Nat.{ℕ}
+use mathlib.Core.Path.{_≡_, refl, sym, _∙_, ap}
+use mathlib.Core.Bool.{Bool, false, and-false}
+use mathlib.Core.List.{List, [], _∷_}
+use mathlib.Core.Option.{none}
+use borrow.Author.Tests.{eq-eqb}
+use Rattle.track.specs.declared.Track.{Track}
+use Rattle.track.proofs.TrackLaws.{iv-size-le}
+use Rattle.encryption.proofs.SencLaws.{entries-iv}
+use Rattle.gather.specs.Set.{heldIf, heldFor}
+use Rattle.gather.proofs.SetSays.{set-says}
+use Rattle.accepted.specs.Accepted.{inner, fields}
+use Rattle.accepted.specs.IvSize.{ivSize, ivSizeDiffers, NoIvSize}
+use Rattle.accepted.proofs.ChunkFacts.{set-fits}
+
+-- the entries are cut by the parameter
+never : (t : Track) (c : List ℕ) → ivSizeDiffers t c ≡ false
+unfolding ivSizeDiffers ivSize
+never t c = rw (eq-eqb _ _ (entries-iv t c (inner c .senc)), and-false) refl
+
+-- and the definition of the set says nothing of id 16
+silent : (t : Track) (c : List ℕ) → heldFor t c (inner c) 16 ≡ none
+unfolding heldFor
+silent t c = refl
+
+absent-case : (values : List ℕ) → none ≡ heldIf false values
+unfolding heldIf
+absent-case values = refl
+
+pub no-iv-size : NoIvSize
+unfolding fields
+no-iv-size =
+    record {
+      unreached = never;
+      as-ruled = λ t c. silent t c ∙ absent-case (ivSize t c ∷ []) ∙ ap (λ (b : Bool). heldIf b (ivSize t c ∷ [])) (sym (never t c));
+      absent = λ F t c iv h. set-says t c (inner c) (set-fits F t c h (iv-size-le (t .protection) (t .«iv_size») iv)) .iv-size;
+    }
