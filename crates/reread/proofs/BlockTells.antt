@@ -5,8 +5,8 @@ use mathlib.Core.Path.{_≡_, refl, sym, _∙_, ap}
 use mathlib.Core.Bool.{Bool, true, false, cond}
 use mathlib.Core.List.{List, [], _∷_}
 use mathlib.Core.Option.{none, some}
-use borrow.Author.Tests.{lt-ltb, le-leb, lt-leb, ltb-true}
-use lib.Dec.{ltb}
+use borrow.Author.Tests.{lt-ltb, le-leb, lt-leb, ltb-true, not-false}
+use lib.Dec.{eqb, ltb}
 use lib.ListN.{getD, drop}
 use Rattle.laws.specs.Tests.{_and_}
 use Rattle.wire.specs.declared.form.Form.the-variants.{Rfc9000}
@@ -18,20 +18,26 @@ use Rattle.block.specs.Events.{Event, encEvents, AllSayable}
 use Rattle.block.specs.Written.{run}
 use Rattle.block.proofs.EventsWritten.{body-events}
 use Rattle.block.proofs.WiresLaws.{plain-wires}
-use Rattle.fieldset.specs.Lines.{lines, spare, every}
+use Rattle.track.specs.declared.Track.{Track}
+use Rattle.fieldset.specs.declared.lines.Line.{Line}
+use Rattle.fieldset.specs.Lines.{lines, spare, lineFor, every}
+use Rattle.fieldset.specs.Lawful.{has}
 use Rattle.fieldset.proofs.LineLaws.{line-count, every-at}
 use Rattle.slots.specs.Share.{setAt, trackOf}
 use Rattle.fields.specs.Said.{Says}
+use Rattle.fields.specs.Cells.{stood}
 use Rattle.reading.specs.Deletions.{moofField}
 use Rattle.emsgs.specs.Records.{timesFit}
 use Rattle.accepted.specs.Accepted.{brands, fields}
+use Rattle.writing.specs.declared.cells.Change.the-variants.{Omitted, Deleted}
 use Rattle.writing.specs.Items.{listOf}
-use Rattle.writing.specs.Changes.{lineItems}
+use Rattle.writing.specs.Changes.{changeOf, lineItems}
 use Rattle.writing.specs.Fields.{linesItems, bmdtItems, countItems, fieldItems, deletionItems}
 use Rattle.writing.specs.Prft.{timesItems, unlessItems, versionItems, flagsItems}
 use Rattle.encoder.specs.Object.{brandItems, eventItems, blockItems}
 use Rattle.given.specs.Given.{F}
 use Rattle.reread.specs.Telling.{Tell, Tells}
+use Rattle.reread.specs.Sayings.{numbersBy, sentNumbers, lineSays}
 use Rattle.reread.specs.Block.{eventSays, blockSays}
 use Rattle.reread.proofs.Known.{Known}
 use Rattle.reread.proofs.BlockSaid.{line-said}
@@ -54,6 +60,15 @@ all-read : every lineReads lines ≡ true
 unfolding every lines lineReads numeric bytesAs odd known _and_
 all-read = refl
 
+-- nothing is said of a field that doesn't stand, deleted or not
+unsaid : (t : Track) (delta : Bool) (r x : List ℕ) (l : Line) → eqb (getD x (l .place) 0) 0 ≡ true → lineSays t delta r x l ≡ none
+unfolding lineSays changeOf
+unsaid t delta r x l e = rw e (by (stood delta r l))
+  where
+    by : (old : Bool) → numbersBy (cond old Deleted Omitted) (sentNumbers t delta r x l) ≡ none
+    by true = refl
+    by false = refl
+
 module _ {s c : List ℕ} {delta : Bool} (k : Known s c delta) where
   abbrev f : Says
   f = blockSays s c delta
@@ -63,6 +78,13 @@ module _ {s c : List ℕ} {delta : Bool} (k : Known s c delta) where
   line i e =
       let lt : i < 14 = ltb-true _ _ e in
       line-tells _ _ _ _ (getD lines i spare) (every-at lineReads lines i spare all-read (omega (arith, line-count))) (line-said k i lt)
+
+  -- nothing is said of id 16, which no chunk has
+  no-sixteen : f 16 ≡ none
+  unfolding has lines lineFor
+  no-sixteen =
+      line-said k 13 (omega arith)
+      ∙ unsaid (trackOf s) delta (drop setAt s) (fields (trackOf s) c) (getD lines 13 spare) (not-false _ (k .given .set .no-iv-size))
 
   -- nothing is said of an id past the last
   past : (id : ℕ) → 28 ≤ id → f id ≡ none
@@ -79,7 +101,7 @@ module _ {s c : List ℕ} {delta : Bool} (k : Known s c delta) where
       then number-if 10 _ _ _ _ refl refl
       then (line 9 refl then line 10 refl then line 11 refl then done)
       then number-if 14 _ _ _ _ refl refl
-      then (line 12 refl then line 13 refl then done)
+      then (line 12 refl then gap no-sixteen done)
 
   -- the whole block, and the ids between its parts
   pub tell-block : Tell f 0 (listOf (blockItems F s c delta))
