@@ -33,6 +33,7 @@ int main(void) {
                     {"small stacks", test_stacks},
                     {"two threads", test_threads},
                     {"each object received and encoded again", test_again},
+                    {"an id 16 that only a table holds", test_iv_size},
                     {"every number answered", every_number}};
     for (unsigned i = 0; i < sizeof subjects / sizeof subjects[0]; i++) {
         unsigned long made = checks_made(), failed = checks_failed();

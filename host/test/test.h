@@ -113,6 +113,6 @@ void for_each_conversation(const char *beginning, void (*each)(struct talk *talk
 
 /* The subjects. */
 void test_worked(void), test_slips(void), test_numbers(void), test_lengths(void);
-void test_damage(void), test_stacks(void), test_threads(void), test_again(void);
+void test_damage(void), test_stacks(void), test_threads(void), test_again(void), test_iv_size(void);
 
 #endif

@@ -14,7 +14,7 @@ use Rattle.encryption.specs.Entries.{entriesOf}
 use Rattle.gather.specs.Set.{heldIf, heldFor}
 use Rattle.accepted.specs.Accepted.{inner, fields, acceptRungs}
 
--- the size of a chunk's IVs: the one that cuts the entries of its `senc`
+-- the size of a chunk's IVs: the one that cuts the entries of its `senc` (D25, D142)
 unfoldable pub ivSize : Track → List ℕ → ℕ
 ivSize t c = entriesOf t c (inner c .senc) .iv
 

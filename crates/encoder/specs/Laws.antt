@@ -70,12 +70,12 @@ BlockFits = (form : Form) (wish : Bool) (c output s : List ℕ) → allLe 255 c 
     → encoding (rows form) wish c output s .answer .number ≡ 0
     → length (bytesOf (rows form) (blockItems (rows form) s c (givesDelta (rows form) s c wish))) ≤ 16384
 
--- 02, order 9: "no accepted chunk reaches the encoder's case for id 16. Show that, and take the case out." Against any reference r, in a delta and in a full object
+-- 02, order 9: "no accepted chunk reaches the encoder's case for id 16. Show that, and take the case out." In a full object and in a delta, against any reference r
 pub record WithoutCase (F : List Row) (t : Track) (c : List ℕ) : Type 0 where
-  -- a line for id 16 as for every other id would add nothing to the fields of an accepted chunk
+  -- a line for id 16, as for every other id, would add nothing to the fields of an accepted chunk (D142)
   pub same : (delta : Bool) (r : List ℕ)
       → fieldItems F t delta r (fields t c) before lineItems t delta r (fields t c) (lineFor 16 lines) F ≡ fieldItems F t delta r (fields t c)
-  -- and 16 is listed in id 27 exactly where a delta's reference has an id 16, which only a table that came so can hold
+  -- and 16 is listed in id 27 exactly where a delta's reference has an id 16 (D143)
   pub deleted : (delta : Bool) (r : List ℕ) → among 16 (goneOf t delta r (fields t c) lines) ≡ (delta && has 16 r)
 
 abbrev pub CaseTakenOut : Type 0

@@ -68,8 +68,8 @@ module _ (t : Track) (c : List ℕ) (f : Inner) where
   hasMap = not (eqb (f .senc .len) 0) && entries .map
 
   -- 01: "Id 2, 4, 8: `tfhd` has it and it differs from trex. Id 3, 5, 7, 12: `trun` has it. Samples above 1: sizes unequal, id 1 with all but the last;
-  -- equal, id 6, unless trex is that size and not 0 .. Ids 9, 11, 13, 15 as `senc` has them. Id 16 if the IV size differs from the parameter", which cuts
-  -- the entries, so that it doesn't (D51, D69, D70, D71).
+  -- equal, id 6, unless trex is that size and not 0 .. Ids 9, 11, 13, 15 as `senc` has them." (D51, D69, D70, D71) And of id 16 02, order 9: "no accepted chunk
+  -- reaches the encoder's case for id 16. Show that, and take the case out." It is shown by `no-iv-size` of crate `accepted` (D142).
   unfoldable pub heldFor : ℕ → Held
   heldFor id =
       cond (eqb id 1) (heldIf (several && not equal) (take (run .count - 1) sizes))

@@ -69,7 +69,7 @@ module _ (t : Track) (c : List ℕ) (a : Facts t c) where
       ap (λ (x : ℕ). 8 * (x / 8)) q ∙ iv-eights (t .protection) (t .«iv_size») (a .iv) ∙ sym q
 
   -- whether the fields stand, by whether a `senc` does
-  ivs-stand : {b : Bool} → eqb (inner c .senc .len) 0 ≡ b → has 9 w ≡ (not b && not (eqb (e .iv) 0))
+  pub ivs-stand : {b : Bool} → eqb (inner c .senc .len) 0 ≡ b → has 9 w ≡ (not b && not (eqb (e .iv) 0))
   ivs-stand z = a .said .ivs .stands ∙ ap (λ (x : Bool). not x && not (eqb (e .iv) 0)) z
 
   map-stands : {b : Bool} → eqb (inner c .senc .len) 0 ≡ b → has 11 w ≡ (not b && e .map)

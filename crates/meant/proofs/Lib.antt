@@ -4,3 +4,4 @@ pub mod EntryMeans
 pub mod EventMeans
 pub mod BrandMeans
 pub mod Means
+pub mod IvSizes

@@ -1,1 +1,2 @@
 pub mod BySet
+pub mod IvSizes

@@ -25,7 +25,7 @@ isDeleted Omitted = false
 isDeleted Sent = false
 
 module _ (t : Track) (delta : Bool) (r x : List ℕ) where
-  -- 01: "a vanished one is listed in id 27, ascending"
+  -- 01: "a vanished one is listed in id 27, ascending"; id 16 too, if a reference came with one (D143)
   unfoldable pub goneOf : List Line → List ℕ
   goneOf [] = []
   goneOf (l ∷ ls) = cond (isDeleted (changeOf t delta r x l)) (l .id ∷ goneOf ls) (goneOf ls)
@@ -49,8 +49,7 @@ module _ (F : List Row) (t : Track) (delta : Bool) (r x : List ℕ) where
   unfoldable pub countItems : Items
   countItems = itemsIf (countStands t delta r x) (numberItem 14 (codeOf F (codingFor delta) (getD r countAt 0) (getD x countAt 0)))
 
-  -- ids 1 to 15: the lines of the table but the last, and ids 10 and 14 between them. 02, order 9: "no accepted chunk reaches the encoder's case for id 16. Show
-  -- that, and take the case out." (D142)
+  -- ids 1 to 15: the lines of the table but the last, and ids 10 and 14 between them. 02, order 9, on id 16: "take the case out" (D142)
   unfoldable pub fieldItems : Items
   fieldItems =
       linesItems (slice 0 9 lines) before bmdtItems before linesItems (slice 9 12 lines) before countItems before linesItems (slice 12 13 lines)
