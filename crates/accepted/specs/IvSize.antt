@@ -23,7 +23,7 @@ unfoldable pub ivSizeDiffers : Track → List ℕ → Bool
 ivSizeDiffers t c = not (eqb (inner c .senc .len) 0) && not (eqb (ivSize t c) (t .«iv_size»))
 
 pub record NoIvSize : Type 0 where
-  -- no chunk reaches it, whatever its bytes, on no track
+  -- no chunk reaches it, whatever its bytes and whatever the track
   pub unreached : (t : Track) (c : List ℕ) → ivSizeDiffers t c ≡ false
   -- so a set that is said without it is the one that is said with it
   pub as-ruled : (t : Track) (c : List ℕ) → heldFor t c (inner c) 16 ≡ heldIf (ivSizeDiffers t c) (ivSize t c ∷ [])

@@ -37,7 +37,7 @@ use Rattle.emsgs.specs.Records.{textBytes, recordBytes, listBytes, timesFit}
 use Rattle.writing.specs.declared.cells.Change.{Change}
 use Rattle.writing.specs.declared.cells.Change.the-variants.{Omitted, Deleted, Sent}
 use Rattle.writing.specs.Items.{Items, nothing, _before_, itemsIf, numberItem, onMeasured, runItem, wideBytes, bytesOf}
-use Rattle.writing.specs.Changes.{onChange, news, olds, changeOf, sentItems, lineItems}
+use Rattle.writing.specs.Changes.{chunkLines, onChange, news, olds, changeOf, sentItems, lineItems}
 use Rattle.writing.specs.Fields.{isDeleted, goneOf, linesItems, bmdtItems, countItems, fieldItems, deletionItems}
 use Rattle.writing.specs.Prft.{timesItems, unlessItems, versionItems, flagsItems}
 use Rattle.writing.proofs.WideLaws.{wide-length}
@@ -192,7 +192,7 @@ module _ (F : List Row) (eight : longest F ≤ 8) where
       unfolding lines wanted
       middle = let n = few in let k = sums in (omega (arith, n), (omega arith, (omega (arith, k), tt)))
 
-      high : Roomy (slice 12 13 lines)
+      high : Roomy (slice 12 chunkLines lines)
       unfolding lines wanted
       high = let k = sums in (omega (arith, k), tt)
 
@@ -202,7 +202,7 @@ module _ (F : List Row) (eight : longest F ≤ 8) where
           before-most 3240 4712 _ _ (lines-most (slice 0 9 lines) low)
           (before-most 16 4696 _ _ (if-most 16 _ _ (number-most 10 _))
           (before-most 2616 2080 _ _ (lines-most (slice 9 12 lines) middle)
-          (before-most 16 2064 _ _ (if-most 16 _ _ (number-most 14 _)) (lines-most (slice 12 13 lines) high))))
+          (before-most 16 2064 _ _ (if-most 16 _ _ (number-most 14 _)) (lines-most (slice 12 chunkLines lines) high))))
 
     pub deletions-most : Most F 128 (deletionItems F t delta r x)
     unfolding deletionItems lines

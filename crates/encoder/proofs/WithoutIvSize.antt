@@ -2,7 +2,7 @@
 use Prim.Native.Nat.{ℕ}
 use native.Mathlib.Omega.{arith}
 use mathlib.Core.Path.{_≡_, refl, sym, _∙_, ap}
-use mathlib.Core.Bool.{Bool, true, false, not, _&&_, and-true}
+use mathlib.Core.Bool.{Bool, true, false, _&&_, and-true}
 use mathlib.Core.List.{List}
 use borrow.Author.Tests.{eqb-true, not-false}
 use lib.Dec.{eqb}
@@ -12,7 +12,7 @@ use Rattle.track.specs.declared.Track.{Track}
 use Rattle.fieldset.specs.Lines.{lines, lineFor}
 use Rattle.fieldset.specs.Lawful.{has}
 use Rattle.fields.specs.Said.{among}
-use Rattle.writing.specs.Items.{Items, nothing, _before_}
+use Rattle.writing.specs.Items.{Items, _before_}
 use Rattle.writing.specs.Changes.{lineItems}
 use Rattle.writing.specs.Fields.{goneOf, fieldItems}
 use Rattle.writing.proofs.ItemLaws.{before-nothing}

@@ -16,7 +16,7 @@ use Rattle.fieldset.proofs.LineLaws.{place-of, shaped}
 use Rattle.fields.specs.Cells.{stood}
 use Rattle.writing.specs.declared.cells.Change.the-variants.{Omitted, Deleted}
 use Rattle.writing.specs.Items.{Items, nothing, _before_}
-use Rattle.writing.specs.Changes.{onChange, changeOf, sentItems, lineItems}
+use Rattle.writing.specs.Changes.{chunkLines, onChange, changeOf, sentItems, lineItems}
 use Rattle.writing.proofs.ItemLaws.{nothing-before}
 use Rattle.writing.proofs.LinesLaws.{between, fieldAt, lines-none, lines-cons}
 
@@ -25,7 +25,7 @@ pub mark-in : (i : ℕ) → i < 14 → (p : ℕ) → p ≡ placeOf i → (x : Li
 mark-in i lt p e x h = omega (arith, e, place-of i lt, shaped i lt .inside, h)
 
 -- so does that of a line that a chunk has
-pub chunk-mark : (i : ℕ) → i < 13 → (p : ℕ) → p ≡ placeOf i → (x : List ℕ) → length x ≡ setLen → p < length x
+pub chunk-mark : (i : ℕ) → i < chunkLines → (p : ℕ) → p ≡ placeOf i → (x : List ℕ) → length x ≡ setLen → p < length x
 chunk-mark i lt = mark-in i (omega arith)
 
 module _ (F : List Row) (t : Track) (delta : Bool) (r x : List ℕ) where
@@ -42,7 +42,7 @@ module _ (F : List Row) (t : Track) (delta : Bool) (r x : List ℕ) where
   pub absent-at : (i : ℕ) → i < 14 → (p : ℕ) → p ≡ placeOf i → getD x p 0 ≡ 0 → nothing ≡ fieldAt F t delta r x i
   absent-at i lt p e z = line-absent (getD lines i spare) (ap (λ (n : ℕ). getD x n 0) (sym (e ∙ place-of i lt)) ∙ z)
 
-  pub chunk-absent : (i : ℕ) → i < 13 → (p : ℕ) → p ≡ placeOf i → getD x p 0 ≡ 0 → nothing ≡ fieldAt F t delta r x i
+  pub chunk-absent : (i : ℕ) → i < chunkLines → (p : ℕ) → p ≡ placeOf i → getD x p 0 ≡ 0 → nothing ≡ fieldAt F t delta r x i
   chunk-absent i lt = absent-at i (omega arith)
 
   -- a field without its mark before others that have none
@@ -55,9 +55,9 @@ module _ (F : List Row) (t : Track) (delta : Bool) (r x : List ℕ) where
       ∙ sym (lines-cons F t delta r x i to h k)
 
   -- the line after the sample count
-  pub high-absent : getD x 722 0 ≡ 0 → nothing ≡ between F t delta r x 12 13
+  pub high-absent : getD x 722 0 ≡ 0 → nothing ≡ between F t delta r x 12 chunkLines
   unfolding placeOf lines
-  high-absent e = passed 12 13 (omega arith) (omega arith) (absent-at 12 (omega arith) 722 refl e) (sym (lines-none F t delta r x 13))
+  high-absent e = passed 12 chunkLines (omega arith) (omega arith) (absent-at 12 (omega arith) 722 refl e) (sym (lines-none F t delta r x chunkLines))
 
   -- those between BMDT and the sample count
   pub middle-absent : ((eqb (getD x 398 0) 0 && eqb (getD x 463 0) 0) && eqb (getD x 465 0) 0) ≡ true → nothing ≡ between F t delta r x 9 12

@@ -24,7 +24,7 @@ use Rattle.fields.specs.Cells.{stood, oldValues}
 use Rattle.fields.specs.Words.{wasOf}
 use Rattle.fields.proofs.RoomLaws.{wanted-room}
 use Rattle.writing.specs.declared.cells.Basis.{Basis}
-use Rattle.writing.specs.Changes.{basisOf, olds, Writable}
+use Rattle.writing.specs.Changes.{chunkLines, basisOf, olds, Writable}
 
 -- every line has a low id and room for at most 256 values
 unfoldable short : Line → Bool
@@ -95,7 +95,7 @@ field-of t b r x i l h k =
 
 -- of the lines that a chunk has
 pub chunk-field : (t : Track) (b : Basis) (r x : List ℕ) (i : ℕ) (l : Line)
-    → Writable t (b .delta) r x × (b ≡ basisOf t (b .delta) r x) → (i < 13) × (l ≡ getD lines i spare) → Field t b r x l
+    → Writable t (b .delta) r x × (b ≡ basisOf t (b .delta) r x) → (i < chunkLines) × (l ≡ getD lines i spare) → Field t b r x l
 chunk-field t b r x i l h k = field-of t b r x i l h (omega (arith, k .0), k .1)
 
 -- ---- old values

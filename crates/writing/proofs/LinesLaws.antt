@@ -16,7 +16,7 @@ use Rattle.fieldset.specs.Lines.{lines, spare}
 use Rattle.fieldset.proofs.LineLaws.{line-count}
 use Rattle.writing.specs.declared.tuples.Weight.{Weight}
 use Rattle.writing.specs.Items.{Items, nothing, _before_, bytesOf, WeighedAs}
-use Rattle.writing.specs.Changes.{lineItems}
+use Rattle.writing.specs.Changes.{chunkLines, lineItems}
 use Rattle.writing.specs.Fields.{linesItems}
 use Rattle.writing.proofs.ItemLaws.{nothing-before, before-nothing, before-assoc, weighed-both, weighed-nothing, weighed-as, weighed-within}
 use Rattle.writing.proofs.PutLaws.{Left, left-start, left-none, left-as, left-first, left-next}
@@ -68,21 +68,21 @@ module _ (F : List Row) (t : Track) (delta : Bool) (r x : List ℕ) where
       rw (slice-cons i to lines spare h n, add-one)
 
   -- the lines of a chunk in three parts, between which BMDT and the sample count stand
-  pub three-parts : between 0 13 ≡ between 0 9 before between 9 12 before between 12 13
+  pub three-parts : between 0 chunkLines ≡ between 0 9 before between 9 12 before between 12 chunkLines
   unfolding lines
   three-parts =
-      lines-append (slice 0 9 lines) (slice 9 12 lines ++ slice 12 13 lines)
-      ∙ ap (λ (is : Items). between 0 9 before is) (lines-append (slice 9 12 lines) (slice 12 13 lines))
+      lines-append (slice 0 9 lines) (slice 9 12 lines ++ slice 12 chunkLines lines)
+      ∙ ap (λ (is : Items). between 0 9 before is) (lines-append (slice 9 12 lines) (slice 12 chunkLines lines))
 
   -- the fields of the lines from one number up to the one at i were weighed
   pub record Weighing (from to : ℕ) (sum : Weight) (i : ℕ) : Type 0 where
     pub low : from ≤ i
     pub high : i ≤ to
-    pub last : to ≤ 13
+    pub last : to ≤ chunkLines
     pub done : WeighedAs F (between from i) (2064 * (i - from)) sum
 
   module _ (from to : ℕ) where
-    pub weigh-start : from ≤ to → to ≤ 13 → (sum : Weight) → (sum .fits ≡ true) × (sum .bytes ≡ 0) → Weighing from to sum from
+    pub weigh-start : from ≤ to → to ≤ chunkLines → (sum : Weight) → (sum .fits ≡ true) × (sum .bytes ≡ 0) → Weighing from to sum from
     weigh-start h k sum e =
         record {
           low = omega arith;
@@ -116,11 +116,11 @@ module _ (F : List Row) (t : Track) (delta : Bool) (r x : List ℕ) where
   -- the fields of the lines from the one at i on are left to be written
   pub record Putting (l : List ℕ) (at from to : ℕ) (m : List ℕ) (p i : ℕ) : Type 0 where
     pub high : i ≤ to
-    pub last : to ≤ 13
+    pub last : to ≤ chunkLines
     pub left : Left F (between from to) l at (between i to) m p
 
   module _ (l : List ℕ) (at from to : ℕ) where
-    pub put-start : from ≤ to → to ≤ 13 → isSome (between from to) ≡ true → at + length (bytesOf F (between from to)) ≤ length l
+    pub put-start : from ≤ to → to ≤ chunkLines → isSome (between from to) ≡ true → at + length (bytesOf F (between from to)) ≤ length l
         → Putting l at from to l at from
     put-start h k s e = record { high = h; last = k; left = left-start F (between from to) l at s e }
 

@@ -25,6 +25,11 @@ use Rattle.writing.specs.Items.{Items, nothing, numberItem, runItem, wid
 
 -- ==== The rules
 
+-- how many lines of the table a chunk's set can have: all but the last, id 16's. 02, order 9: "no accepted chunk reaches the encoder's case for id 16. Show that, and
+-- take the case out." (D142)
+abbrev pub chunkLines : ℕ
+chunkLines = 13
+
 -- two lists are equal
 unfoldable pub same : List ℕ → List ℕ → Bool
 same [] [] = true

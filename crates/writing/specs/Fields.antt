@@ -17,7 +17,7 @@ use Rattle.object.specs.Bmdt.{durationsOf}
 use Rattle.writing.specs.declared.cells.Change.{Change}
 use Rattle.writing.specs.declared.cells.Change.the-variants.{Omitted, Deleted, Sent}
 use Rattle.writing.specs.Items.{Items, nothing, _before_, itemsIf, numberItem, runItem}
-use Rattle.writing.specs.Changes.{changeOf, lineItems}
+use Rattle.writing.specs.Changes.{chunkLines, changeOf, lineItems}
 
 abbrev pub isDeleted : Change → Bool
 isDeleted Deleted = true
@@ -49,10 +49,10 @@ module _ (F : List Row) (t : Track) (delta : Bool) (r x : List ℕ) where
   unfoldable pub countItems : Items
   countItems = itemsIf (countStands t delta r x) (numberItem 14 (codeOf F (codingFor delta) (getD r countAt 0) (getD x countAt 0)))
 
-  -- ids 1 to 15: the lines of the table but the last, and ids 10 and 14 between them. 02, order 9, on id 16: "take the case out" (D142)
+  -- ids 1 to 15: the lines that a chunk can have, and ids 10 and 14 between them
   unfoldable pub fieldItems : Items
   fieldItems =
-      linesItems (slice 0 9 lines) before bmdtItems before linesItems (slice 9 12 lines) before countItems before linesItems (slice 12 13 lines)
+      linesItems (slice 0 9 lines) before bmdtItems before linesItems (slice 9 12 lines) before countItems before linesItems (slice 12 chunkLines lines)
 
   unfoldable pub deletionItems : Items
   deletionItems = itemsIf (not (eqb (length (goneOf t delta r x lines)) 0)) (runItem F Plain 27 0 [] (goneOf t delta r x lines))

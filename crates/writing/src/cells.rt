@@ -11,7 +11,7 @@ ghost use Rattle.runs.specs.Run.{first};
 ghost use Rattle.fieldset.specs.Lines.{lines, spare};
 ghost use Rattle.fields.specs.Cells.{codingFor, codingOf, isIvs, stood, oldValues};
 ghost use Rattle.writing.specs.Items.{wideBytes, bytesOf, WeighedAs};
-ghost use Rattle.writing.specs.Changes.{same, basisOf, stands, olds, changeOf, sentItems, lineItems, Writable};
+ghost use Rattle.writing.specs.Changes.{chunkLines, same, basisOf, stands, olds, changeOf, sentItems, lineItems, Writable};
 use crate::tuples;
 use crate::tuples::Weight;
 use fields::cells::absent_value;
@@ -101,7 +101,7 @@ fn has_old(b: Basis, r: &[u64], l: Line) -> bool
 // How many old values a field's numbers go by.
 fn old_length(t: Track, b: Basis, r: &[u64], x: &[u64], i: usize, l: Line) -> usize
     requires { ⌜ Writable t (b .delta) (now r) (now x) × (b ≡ basisOf t (b .delta) (now r) (now x)) ⌝ }
-    requires { ⌜ (i < 13) × (l ≡ getD lines i spare) ⌝ }
+    requires { ⌜ (i < chunkLines) × (l ≡ getD lines i spare) ⌝ }
     ensures { λ n. ⌜ (l .place + 1 + n ≤ length (now (r .entry))) × (olds t (b .delta) (now (r .entry)) (now (x .entry)) l ≡ slice (l .place + 1) (l .place + 1 + n) (now (r .entry))) ⌝ }
 {
     let want = l.want;
@@ -115,7 +115,7 @@ fn old_length(t: Track, b: Basis, r: &[u64], x: &[u64], i: usize, l: Line) -> us
 // What the object says of a field. Two lists are equal only if their lengths are too: words that aren't in use are 0, as a value can be.
 fn change_of(t: Track, b: Basis, r: &[u64], x: &[u64], i: usize, l: Line) -> Change
     requires { ⌜ Writable t (b .delta) (now r) (now x) × (b ≡ basisOf t (b .delta) (now r) (now x)) ⌝ }
-    requires { ⌜ (i < 13) × (l ≡ getD lines i spare) ⌝ }
+    requires { ⌜ (i < chunkLines) × (l ≡ getD lines i spare) ⌝ }
     ensures { λ c. ⌜ c ≡ changeOf t (b .delta) (now (r .entry)) (now (x .entry)) l ⌝ }
 {
     let place = l.place;
@@ -170,7 +170,7 @@ fn put_wide(ws: &[u64], out: &mut [u8], at: usize) -> usize
 // A field that is sent.
 fn sent_size(form: Form, t: Track, b: Basis, r: &[u64], x: &[u64], i: usize, l: Line) -> Weight
     requires { ⌜ Writable t (b .delta) (now r) (now x) × (b ≡ basisOf t (b .delta) (now r) (now x)) ⌝ }
-    requires { ⌜ (i < 13) × (l ≡ getD lines i spare) ⌝ }
+    requires { ⌜ (i < chunkLines) × (l ≡ getD lines i spare) ⌝ }
     requires { ⌜ stands t (b .delta) (now r) (now x) l ≡ true ⌝ }
     ensures { λ w. ⌜ WeighedAs (rows form) (sentItems t (b .delta) (now (r .entry)) (now (x .entry)) l (rows form)) 2064 w ⌝ }
 {
@@ -204,7 +204,7 @@ fn put_sent(
     at: usize,
 ) -> usize
     requires { ⌜ Writable t (b .delta) (now r) (now x) × (b ≡ basisOf t (b .delta) (now r) (now x)) ⌝ }
-    requires { ⌜ (i < 13) × (l ≡ getD lines i spare) ⌝ }
+    requires { ⌜ (i < chunkLines) × (l ≡ getD lines i spare) ⌝ }
     requires { ⌜ stands t (b .delta) (now r) (now x) l ≡ true ⌝ }
     requires { ⌜ isSome (sentItems t (b .delta) (now r) (now x) l (rows form)) ≡ true ⌝ }
     requires { ⌜ at + length (bytesOf (rows form) (sentItems t (b .delta) (now r) (now x) l (rows form))) ≤ length (now out) ⌝ }
@@ -242,7 +242,7 @@ fn put_sent(
 // mark is enough: deleted or not, they have no tuple.
 pub fn line_size(form: Form, t: Track, b: Basis, r: &[u64], x: &[u64], i: usize) -> Weight
     requires { ⌜ Writable t (b .delta) (now r) (now x) × (b ≡ basisOf t (b .delta) (now r) (now x)) ⌝ }
-    requires { ⌜ i < 13 ⌝ }
+    requires { ⌜ i < chunkLines ⌝ }
     ensures { λ w. ⌜ WeighedAs (rows form) (lineItems t (b .delta) (now (r .entry)) (now (x .entry)) (getD lines i spare) (rows form)) 2064 w ⌝ }
 {
     let place = lines::place_at(i);
@@ -268,7 +268,7 @@ pub fn put_line(
     at: usize,
 ) -> usize
     requires { ⌜ Writable t (b .delta) (now r) (now x) × (b ≡ basisOf t (b .delta) (now r) (now x)) ⌝ }
-    requires { ⌜ i < 13 ⌝ }
+    requires { ⌜ i < chunkLines ⌝ }
     requires { ⌜ isSome (lineItems t (b .delta) (now r) (now x) (getD lines i spare) (rows form)) ≡ true ⌝ }
     requires { ⌜ at + length (bytesOf (rows form) (lineItems t (b .delta) (now r) (now x) (getD lines i spare) (rows form))) ≤ length (now out) ⌝ }
     ensures { λ p. ⌜ Wrote (now (out .entry)) at (bytesOf (rows form) (lineItems t (b .delta) (now (r .entry)) (now (x .entry)) (getD lines i spare) (rows form))) (now (out .exit)) p ⌝ }

@@ -9,7 +9,7 @@ ghost use Rattle.wire.specs.Form.{rows};
 ghost use Rattle.block.specs.Entries.{isSome};
 ghost use Rattle.fieldset.specs.Lines.{lines};
 ghost use Rattle.writing.specs.Items.{bytesOf, WeighedAs};
-ghost use Rattle.writing.specs.Changes.{basisOf, Writable};
+ghost use Rattle.writing.specs.Changes.{chunkLines, basisOf, Writable};
 ghost use Rattle.writing.specs.Fields.{linesItems, bmdtStands, bmdtItems, countStands, countItems, fieldItems};
 use crate::cells;
 use crate::cells::Basis;
@@ -155,7 +155,7 @@ fn lines_size(
     to: usize,
 ) -> Weight
     requires { ⌜ Writable t (b .delta) (now r) (now x) × (b ≡ basisOf t (b .delta) (now r) (now x)) ⌝ }
-    requires { ⌜ (from ≤ to) × (to ≤ 13) ⌝ }
+    requires { ⌜ (from ≤ to) × (to ≤ chunkLines) ⌝ }
     ensures { λ w. ⌜ WeighedAs (rows form) (linesItems (rows form) t (b .delta) (now (r .entry)) (now (x .entry)) (slice from to lines)) (2064 * (to - from)) w ⌝ }
 {
     let mut sum = tuples::whole(0);
@@ -180,7 +180,7 @@ fn put_lines(
     at: usize,
 ) -> usize
     requires { ⌜ Writable t (b .delta) (now r) (now x) × (b ≡ basisOf t (b .delta) (now r) (now x)) ⌝ }
-    requires { ⌜ (from ≤ to) × (to ≤ 13) ⌝ }
+    requires { ⌜ (from ≤ to) × (to ≤ chunkLines) ⌝ }
     requires { ⌜ isSome (linesItems (rows form) t (b .delta) (now r) (now x) (slice from to lines)) ≡ true ⌝ }
     requires { ⌜ at + length (bytesOf (rows form) (linesItems (rows form) t (b .delta) (now r) (now x) (slice from to lines))) ≤ length (now out) ⌝ }
     ensures { λ p. ⌜ Wrote (now (out .entry)) at (bytesOf (rows form) (linesItems (rows form) t (b .delta) (now (r .entry)) (now (x .entry)) (slice from to lines))) (now (out .exit)) p ⌝ }
@@ -215,7 +215,7 @@ fn put_middle(
     put_lines(form, t, b, r, x, BEFORE_BMDT, BEFORE_COUNT, out, at)
 }
 
-// So does the one after it, id 15's.
+// The line after the sample count, id 15's, seldom stands either.
 fn put_high(
     form: Form,
     t: Track,
@@ -226,9 +226,9 @@ fn put_high(
     at: usize,
 ) -> usize
     requires { ⌜ Writable t (b .delta) (now r) (now x) × (b ≡ basisOf t (b .delta) (now r) (now x)) ⌝ }
-    requires { ⌜ isSome (linesItems (rows form) t (b .delta) (now r) (now x) (slice 12 13 lines)) ≡ true ⌝ }
-    requires { ⌜ at + length (bytesOf (rows form) (linesItems (rows form) t (b .delta) (now r) (now x) (slice 12 13 lines))) ≤ length (now out) ⌝ }
-    ensures { λ p. ⌜ Wrote (now (out .entry)) at (bytesOf (rows form) (linesItems (rows form) t (b .delta) (now (r .entry)) (now (x .entry)) (slice 12 13 lines))) (now (out .exit)) p ⌝ }
+    requires { ⌜ isSome (linesItems (rows form) t (b .delta) (now r) (now x) (slice 12 chunkLines lines)) ≡ true ⌝ }
+    requires { ⌜ at + length (bytesOf (rows form) (linesItems (rows form) t (b .delta) (now r) (now x) (slice 12 chunkLines lines))) ≤ length (now out) ⌝ }
+    ensures { λ p. ⌜ Wrote (now (out .entry)) at (bytesOf (rows form) (linesItems (rows form) t (b .delta) (now (r .entry)) (now (x .entry)) (slice 12 chunkLines lines))) (now (out .exit)) p ⌝ }
 {
     if x[lines::PROTECTED] == 0 {
         return at;
