@@ -1,5 +1,5 @@
-/* Id 16 on the encoder's side. No chunk has one, but a reference may: a receiver takes one that is the parameter's, and a table may come from there. The next
- * delta lists it as deleted, the receiver forgets it too, and neither knows it afterwards; a full object goes by no reference. */
+/* Id 16 on the encoder's side. No chunk has one, but a reference may: a receiver takes one that is the parameter's, and a table may come from there.
+ * The next delta lists it as deleted, the receiver forgets it too, and neither knows it afterwards; a full object goes by no reference. */
 #include "test.h"
 #include <string.h>
 
