@@ -15,9 +15,8 @@ use Rattle.track.specs.Track.{ivOk}
 use Rattle.shape.specs.declared.top.Top.{Top}
 use Rattle.shape.specs.declared.inner.Inner.{Inner}
 use Rattle.chunk.specs.Front.{Event}
-use Rattle.block.specs.Entries.{isSome}
 use Rattle.track.proofs.TrackLaws.{iv-size-le}
-use Rattle.fieldset.specs.Lines.{lines, spare, lineFor, lineNumber}
+use Rattle.fieldset.specs.Lines.{lines, spare, lineNumber}
 use Rattle.fieldset.specs.Lawful.{valuesOf, saizOk, sameIvSize, measureOf, lawful}
 use Rattle.fieldset.proofs.LawfulLaws.{Lawful, lawful-all}
 use Rattle.fields.specs.Said.{numbers}
@@ -32,9 +31,10 @@ use Rattle.encryption.proofs.SencLaws.{senc-stands, entries-iv}
 use Rattle.rules.proofs.InfoLaws.{countsFrom}
 use Rattle.rules.proofs.RuleFacts.{RulesHold, rules-hold, rules-protected, protection-holds, entries-keep}
 use Rattle.gather.specs.Entries.{allFrom, allCounts}
-use Rattle.gather.specs.Set.{heldFor, fieldOf, run, entries, hasMap, chunkSet}
+use Rattle.gather.specs.Set.{fieldOf, run, entries, hasMap, chunkSet}
 use Rattle.gather.proofs.EntryLengths.{senc-counts}
 use Rattle.gather.proofs.FitLaws.{some-bytes}
+use Rattle.gather.proofs.StoredLaws.{no-sixteen}
 use Rattle.accepted.specs.Accepted.{top, inner, boxes, bmdt, fields, boxesOk, countsOk, maximaOk, lateRungs, acceptRungs}
 use Rattle.accepted.proofs.BoxLaws.{boxes-in, BoxesHold, boxes-hold}
 use Rattle.accepted.proofs.MaximaLaws.{CountsHold, counts-hold}
@@ -72,11 +72,6 @@ module _ (t : Track) (c : List ℕ) (top : Top) (f : Inner) {events : List Event
           ∙ ap (saizOk (e .iv)) (sym (same-counts c e (run t c f .count) (e .at)))
           ∙ k
 
-  -- id 16 never stands
-  no-sixteen : isSome (fieldOf t c f (lineFor 16 lines)) ≡ false
-  unfolding lineFor lines heldFor
-  no-sixteen = refl
-
   sixteen-known : lineNumber 16 lines < 14
   unfolding lineNumber lines
   sixteen-known = omega arith
@@ -100,7 +95,7 @@ module _ (t : Track) (c : List ℕ) (top : Top) (f : Inner) {events : List Event
 
     same-size : sameIvSize t words ≡ true
     unfolding sameIvSize
-    same-size = rw (words-has b (run t c f .count) (fieldOf t c f) fits 16 sixteen-known, no-sixteen)
+    same-size = rw (words-has b (run t c f .count) (fieldOf t c f) fits 16 sixteen-known, no-sixteen t c f)
 
     -- all that is asked of them
     set-facts : b ≤ 2 ^ 62 - 1 → Lawful t words

@@ -7,9 +7,11 @@ use mathlib.Core.Option.{none}
 use borrow.Author.Tests.{eq-eqb}
 use Rattle.track.specs.declared.Track.{Track}
 use Rattle.track.proofs.TrackLaws.{iv-size-le}
+use Rattle.fieldset.specs.Lines.{lines, lineFor}
 use Rattle.encryption.proofs.SencLaws.{entries-iv}
 use Rattle.gather.specs.Set.{heldIf, heldFor}
 use Rattle.gather.proofs.SetSays.{set-says}
+use Rattle.gather.proofs.StoredLaws.{no-sixteen}
 use Rattle.accepted.specs.Accepted.{inner, fields}
 use Rattle.accepted.specs.IvSize.{ivSize, ivSizeDiffers, NoIvSize}
 use Rattle.accepted.proofs.ChunkFacts.{set-fits}
@@ -19,10 +21,10 @@ never : (t : Track) (c : List ℕ) → ivSizeDiffers t c ≡ false
 unfolding ivSizeDiffers ivSize
 never t c = rw (eq-eqb _ _ (entries-iv t c (inner c .senc)), and-false) refl
 
--- and the definition of the set says nothing of id 16
+-- the definition of the set, which says nothing of id 16
 silent : (t : Track) (c : List ℕ) → heldFor t c (inner c) 16 ≡ none
-unfolding heldFor
-silent t c = refl
+unfolding lines lineFor
+silent t c = no-sixteen t c (inner c)
 
 absent-case : (values : List ℕ) → none ≡ heldIf false values
 unfolding heldIf

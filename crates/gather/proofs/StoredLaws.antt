@@ -109,10 +109,10 @@ module _ (t : Track) (c : List ℕ) (f : Inner) where
         h₃ (λ j. wordsOf (heldIf (hasColumn (er j) sampleFlags) (map (valueOf Five) (columnOf c (er j) sampleFlags)))))
         h₄ (λ j. wordsOf (heldIf (not (eqb (q j) (t .flags))) (q j ∷ [])))
 
-  -- id 16 never stands
-  no-iv-size : fieldOf t c f (lineFor 16 lines) ≡ none
+  -- the definition of the set says nothing of id 16
+  pub no-sixteen : fieldOf t c f (lineFor 16 lines) ≡ none
   unfolding lines lineFor heldFor
-  no-iv-size = refl
+  no-sixteen = refl
 
   -- id 12, by what the code has read
   twelve : (v : ℕ) (r : Run) (bit : ℕ) → r ≡ G.run t c f → bit ≡ bitOf (r .word) first → v ≡ fiveOf (firstFlags c (f .trun))
@@ -138,5 +138,5 @@ module _ (t : Track) (c : List ℕ) (f : Inner) where
       let w : wordsOf (heldIf (eqb bit 1) (v ∷ [])) ≡ wordsOf (F (lineFor 12 lines)) = twelve v r bit er ei ev in
       h₄
       ∙ ap (storeAll F protectionLines) (step 463 (h₂ ∙ ap (storeAll F (slice 4 8 lines)) (h₁ ∙ ap (storeAll F (slice 0 4 lines)) start)) h₃ w)
-      ∙ in-order F _ (all-fit t c f g) no-iv-size
+      ∙ in-order F _ (all-fit t c f g) no-sixteen
       ∙ stored-all (bmdtOf c (f .tfdt)) (G.run t c f .count) F (all-fit t c f g)

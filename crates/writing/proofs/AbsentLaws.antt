@@ -38,12 +38,9 @@ module _ (F : List Row) (t : Track) (delta : Bool) (r x : List ℕ) where
       go true = refl
       go false = refl
 
-  -- by its place
-  pub absent-at : (i : ℕ) → i < 14 → (p : ℕ) → p ≡ placeOf i → getD x p 0 ≡ 0 → nothing ≡ fieldAt F t delta r x i
-  absent-at i lt p e z = line-absent (getD lines i spare) (ap (λ (n : ℕ). getD x n 0) (sym (e ∙ place-of i lt)) ∙ z)
-
-  pub chunk-absent : (i : ℕ) → i < chunkLines → (p : ℕ) → p ≡ placeOf i → getD x p 0 ≡ 0 → nothing ≡ fieldAt F t delta r x i
-  chunk-absent i lt = absent-at i (omega arith)
+  -- by its place, of the lines that a chunk has
+  pub absent-at : (i : ℕ) → i < chunkLines → (p : ℕ) → p ≡ placeOf i → getD x p 0 ≡ 0 → nothing ≡ fieldAt F t delta r x i
+  absent-at i lt p e z = line-absent (getD lines i spare) (ap (λ (n : ℕ). getD x n 0) (sym (e ∙ place-of i (omega arith))) ∙ z)
 
   -- a field without its mark before others that have none
   passed : (i to : ℕ) → i < to → to ≤ 14 → nothing ≡ fieldAt F t delta r x i → nothing ≡ between F t delta r x (i + 1) to

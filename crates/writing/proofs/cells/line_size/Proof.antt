@@ -6,7 +6,7 @@ use mathlib.Core.List.{[], _∷_}
 use types.Run.{miss}
 use Rattle.wire.specs.Form.{rows}
 use Rattle.writing.proofs.ItemLaws.{weighed-nothing, weighed-as}
-use Rattle.writing.proofs.AbsentLaws.{chunk-mark, chunk-absent}
+use Rattle.writing.proofs.AbsentLaws.{chunk-mark, absent-at}
 use Rattle.writing.proofs.ChangeLaws.{sent-stands, line-sent, line-unsent}
 use Rattle.writing.proofs.cells.line_size.Statement.{statement}
 use Rattle.writing.proofs.cells.line_size.Tie as tie
@@ -35,7 +35,7 @@ returns c =
     let b₃ = b₂ .before .before .before in
     let a = b₃ .args in
     weighed-as
-    (chunk-absent (rows (a .form)) (a .t) (a .b .delta) (a .r .now) (a .x .now) _ (b₃ .pre .1) _ (b₂ .place-at .ensures) (b₁ .if1 .taken))
+    (absent-at (rows (a .form)) (a .t) (a .b .delta) (a .r .now) (a .x .now) _ (b₃ .pre .1) _ (b₂ .place-at .ensures) (b₁ .if1 .taken))
     (weighed-nothing (c .whole .ensures))
 
 line-at-requires : tie.Need-line-at-requires

@@ -6,7 +6,7 @@ use mathlib.Core.List.{[], _∷_}
 use types.Run.{miss}
 use Rattle.wire.specs.Form.{rows}
 use Rattle.writing.proofs.ItemLaws.{some-as, room-as}
-use Rattle.writing.proofs.AbsentLaws.{chunk-mark, chunk-absent}
+use Rattle.writing.proofs.AbsentLaws.{chunk-mark, absent-at}
 use Rattle.writing.proofs.ChangeLaws.{sent-stands, line-sent, line-unsent}
 use Rattle.writing.proofs.cells.put_line.Statement.{statement}
 use Rattle.writing.proofs.cells.put_line.Tie as tie
@@ -33,7 +33,7 @@ returns c =
     let a = b₂ .args in
     let F = rows (a .form) in
     put-as F
-    (chunk-absent F (a .t) (a .b .delta) (a .r .now) (a .x .now) _ (b₂ .pre .1 .0) _ (b₁ .place-at .ensures) (c .if1 .taken))
+    (absent-at F (a .t) (a .b .delta) (a .r .now) (a .x .now) _ (b₂ .pre .1 .0) _ (b₁ .place-at .ensures) (c .if1 .taken))
     (put-nothing F _ _ (omega (arith, b₂ .pre .1 .1 .1)))
 
 line-at-requires : tie.Need-line-at-requires
