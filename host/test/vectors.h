@@ -1,4 +1,4 @@
-/* Calls and answers, by tests/host_vectors.py from another implementation of the rules. A call of 0 ends a conversation. */
+/* Calls and answers, by generators/host_vectors.py from another implementation of the rules. A call of 0 ends a conversation. */
 static const struct {
   const char *name, *lines[309];
 } conversations[] = {

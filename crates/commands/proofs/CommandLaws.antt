@@ -7,7 +7,7 @@ use mathlib.Core.List.{List}
 use borrow.Author.Tests.{le-leb, lt-leb}
 use lib.ListN.{length, getD}
 use Rattle.laws.proofs.GateLaws.{stop, pass}
-use Rattle.tree.specs.Numbers.{u64}
+use Rattle.cmaf_read_tree.specs.Numbers.{u64}
 use Rattle.commands.specs.declared.command.Command.{Command}
 use Rattle.commands.specs.Command.{endAt, cutAt, wholeAt, commandAt, Placed}
 

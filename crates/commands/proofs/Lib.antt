@@ -1,1 +1,2 @@
+pub mod ChecksumLaws
 pub mod CommandLaws

@@ -6,7 +6,7 @@ use mathlib.Core.List.{List}
 use lib.Dec.{leb}
 use lib.ListN.{length, getD}
 use Rattle.laws.specs.Gate.{gate}
-use Rattle.tree.specs.Numbers.{u64}
+use Rattle.cmaf_read_tree.specs.Numbers.{u64}
 use Rattle.commands.specs.declared.command.Command.{Command}
 
 -- where it ends

@@ -1,9 +1,10 @@
 // A command: a letter, the slot, a number and a length of eight bytes each, and as many bytes as the length says.
+// Letters: `p` a place.
 ghost use mathlib.Core.Path.{_≡_};
 ghost use Prim.Native.Nat.{_<_};
 ghost use lib.ListN.{length};
 ghost use Rattle.commands.specs.Command.{cutAt, commandAt, Placed};
-use tree::numbers;
+use cmaf_read_tree::numbers;
 
 const HEAD: usize = 25;
 

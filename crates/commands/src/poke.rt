@@ -1,7 +1,8 @@
 // A table as a host that damages it would leave it.
+// Letters: `v` a number.
 ghost use mathlib.Core.Path.{_≡_};
 ghost use lib.ListN.{set};
-use crate::print;
+use printing::line;
 
 // Puts a number into a word of the table, where the table has that word, and answers 0 in any case.
 pub fn poke(table: &mut [u64], word: u64, v: u64)
@@ -10,5 +11,5 @@ pub fn poke(table: &mut [u64], word: u64, v: u64)
     if word < table.len() as u64 {
         table[word as usize] = v;
     }
-    print::line(0)
+    line(0)
 }

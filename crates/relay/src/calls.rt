@@ -1,6 +1,6 @@
 // The two calls on a slot of a table, with the payload put behind the front that is written.
 ghost use Rattle.io.specs.Counts.{Counts};
-use crate::files;
+use inputs::files;
 
 // The slots. 0 of each table is the track's. 1 of the encoder's is for an encoder that sees only what was rebuilt, 1 of the receiver's for a receiver that
 // starts later.

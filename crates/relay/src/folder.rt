@@ -1,13 +1,16 @@
-// A track's folder: its parameters, tables and room, and what comes of it.
-use crate::arguments::Options;
+// A track's folder: its parameters and tables, and what comes of it.
+// Letters: `o` the options.
 use crate::calls;
 use crate::chunks;
-use crate::files;
-use crate::numbers;
-use crate::report;
-use crate::tally;
-use crate::tally::Tally;
-use slots::share::Side;
+use accounts::report;
+use accounts::tally;
+use accounts::tally::Tally;
+use accounts::words;
+use inputs::arguments::Options;
+use inputs::files;
+use inputs::numbers;
+use share_words::share::TABLE;
+use slots::lawful::Side;
 
 fn open_slot(side: Side, table: &mut [u64], slot: u64, p: &[u64; 8]) -> u64 {
     slots::calls::open(
@@ -32,37 +35,21 @@ fn open_slots(folder: &[u8], params: &[u64; 8], encoder: &mut [u64], receiver: &
     open_slot(Side::Receiver, &mut *receiver, calls::FIRST, params);
     open_slot(Side::Receiver, receiver, calls::SECOND, params);
     if n != 0 {
-        files::wrong_number(folder, n);
+        words::not_opened(folder, n);
         return false;
     }
     true
 }
 
-// Tables and buffers of a track.
-fn with_room(folder: &[u8], params: &[u64; 8], o: Options, text: &[u8], fd: i32) -> Tally {
-    let mut encoder = [0u64; 7968];
-    let mut receiver = [0u64; 7968];
+// A track on tables of its own.
+fn with_tables(folder: &[u8], params: &[u64; 8], o: Options, text: &[u8], fd: i32) -> Tally {
+    let mut encoder = [0u64; TABLE];
+    let mut receiver = [0u64; TABLE];
     if !open_slots(folder, params, &mut encoder, &mut receiver) {
         return tally::spoiled();
     }
     report::head(folder, params);
-    let mut chunk = [0u8; 262144];
-    let mut object = [0u8; 278528];
-    let mut rebuilt = [0u8; 278528];
-    let mut second = [0u8; 278528];
-    chunks::steps(
-        folder,
-        params,
-        o,
-        text,
-        fd,
-        &mut encoder,
-        &mut receiver,
-        &mut chunk,
-        &mut object,
-        &mut rebuilt,
-        &mut second,
-    )
+    chunks::steps(folder, params, o, text, fd, &mut encoder, &mut receiver)
 }
 
 // The totals of a track whose files were all good.
@@ -90,27 +77,10 @@ fn finish(o: Options, folder: &[u8], t: Tally, fd: i32) -> Tally {
     r
 }
 
-fn params_ok(folder: &[u8], params: &mut [u64; 8]) -> bool {
-    let mut text = io::buffer();
-    let n = files::read_text(folder, b"params.txt", &mut text);
-    if n == 0 {
-        return false;
-    }
-    if !numbers::eight(&text[..n], params) {
-        files::wrong(
-            folder,
-            b"params.txt",
-            b"it doesn't have eight decimal numbers and nothing else",
-        );
-        return false;
-    }
-    true
-}
-
 // A track: the sums over its chunks, or just that a file is bad, which has been explained.
 pub fn run(o: Options, folder: &[u8]) -> Tally {
     let mut params = [0u64; 8];
-    if !params_ok(folder, &mut params) {
+    if !files::params_ok(folder, &mut params) {
         return tally::spoiled();
     }
     let mut text = [0u8; 65537];
@@ -122,6 +92,6 @@ pub fn run(o: Options, folder: &[u8]) -> Tally {
     if fd < 0 {
         return tally::spoiled();
     }
-    let t = with_room(folder, &params, o, &text[..n], fd);
+    let t = with_tables(folder, &params, o, &text[..n], fd);
     finish(o, folder, t, fd)
 }

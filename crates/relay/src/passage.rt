@@ -2,7 +2,8 @@
 ghost use Rattle.io.specs.Counts.{Counts};
 use crate::calls;
 use crate::calls::Whole;
-use crate::tally::Passed;
+use accounts::tally::Passed;
+use inputs::chunk_files;
 
 // What is counted of a chunk's way, the length of its object, and what the receiver made of that: its front and payload stand where the chunk was rebuilt.
 pub struct Passage {
@@ -15,18 +16,12 @@ pub struct Passage {
 const DELTA: u8 = 25;
 
 // Whether the chunk that a receiver rebuilt gives the same object again.
-fn comes_back(
-    encoder: &mut [u64],
-    wish: u64,
-    object: &[u8],
-    number: u64,
-    chunk: &[u8],
-    second: &mut [u8],
-) -> bool {
+fn comes_back(encoder: &mut [u64], wish: u64, object: &[u8], number: u64, chunk: &[u8]) -> bool {
     if number != 0 {
         return false;
     }
-    let e = calls::encoded(encoder, calls::SECOND, wish, chunk, second);
+    let mut second = chunk_files::room();
+    let e = calls::encoded(encoder, calls::SECOND, wish, chunk, &mut second);
     if e.number != 0 {
         return false;
     }
@@ -57,7 +52,20 @@ fn less(a: u64, b: u64) -> u64 {
     if a < b { 0 } else { a - b }
 }
 
-// A chunk on the tables of an encoder and a receiver. The last three buffers are room for its object, the rebuilt chunk, and the object of that.
+// What is counted of a chunk of so many bytes whose object has that length and front.
+fn counted(chunk: usize, object: &[u8], front: u64, same: bool) -> Passed {
+    let payload = less(object.len() as u64, front);
+    Passed {
+        number: 0,
+        delta: is_delta(object),
+        cmaf: less(chunk as u64, payload),
+        locmaf: front,
+        payload,
+        same,
+    }
+}
+
+// A chunk on the tables of an encoder and a receiver. The last two buffers are room for its object and for the rebuilt chunk.
 pub fn pass(
     encoder: &mut [u64],
     receiver: &mut [u64],
@@ -65,7 +73,6 @@ pub fn pass(
     chunk: &[u8],
     object: &mut [u8],
     rebuilt: &mut [u8],
-    second: &mut [u8],
 ) -> Passage
     ensures { λ r. ⌜ Counts (r .object) (now (object .exit)) × Counts (r .rebuilt .end) (now (rebuilt .exit)) ⌝ }
 {
@@ -85,18 +92,9 @@ pub fn pass(
     let n = e.end;
     let r = calls::received(receiver, calls::FIRST, &object[..n], &mut *rebuilt);
     let m = r.end;
-    let same = comes_back(encoder, wish, &object[..n], r.number, &rebuilt[..m], second);
-    let payload = less(n as u64, e.front);
-    let passed = Passed {
-        number: 0,
-        delta: is_delta(&object[..n]),
-        cmaf: less(chunk.len() as u64, payload),
-        locmaf: e.front,
-        payload,
-        same,
-    };
+    let same = comes_back(encoder, wish, &object[..n], r.number, &rebuilt[..m]);
     Passage {
-        passed,
+        passed: counted(chunk.len(), &object[..n], e.front, same),
         object: n,
         rebuilt: r,
     }

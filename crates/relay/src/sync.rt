@@ -1,11 +1,11 @@
 // Whether a chunk begins with a sync sample.
-use accepted::read;
-use fieldset::lines;
+use cmaf_read_chunk::read;
+use field_table::lines;
 use track::Asked;
 use wire::form::Form;
 
 // The flags of the first sample, in five-bit form, by the words of the chunk's set: the first sample's own, those of each sample, the fragment's, or the track's.
-fn first_flags(x: &[u64; 981], usual: u64) -> u64 {
+fn first_flags(x: &[u64; lines::SET], usual: u64) -> u64 {
     if x[lines::FIRST_FLAGS] != 0 {
         return x[lines::FIRST_FLAGS + 1];
     }
@@ -38,8 +38,8 @@ pub fn begins_sync(params: &[u64; 8], chunk: &[u8]) -> bool {
         return false;
     }
     let t = track::narrowed(a);
-    let mut events = [0u64; 160];
-    let mut x = [0u64; 981];
+    let mut events = [0u64; event_value::ALL_WORDS];
+    let mut x = [0u64; lines::SET];
     let c = read::read_chunk(Form::Rfc9000, t, chunk, &mut events, &mut x);
     if (c.number != 0) | (x[lines::COUNT] == 0) {
         return false;

@@ -1,34 +1,24 @@
 // One track after another: those that the program was started with, or the bundled ones.
+// Letters: `o` the options.
 ghost use Prim.Native.Nat.{_≤_};
 ghost use lib.ListN.{length};
-use crate::arguments;
-use crate::arguments::Options;
-use crate::arguments::Word;
-use crate::files;
 use crate::folder;
-use crate::numbers;
-use crate::tally;
-use crate::tally::Tally;
-
-// Whether a word of the program is the number of `--every` or `--join`.
-fn is_count(i: usize) -> bool {
-    if i < 2 {
-        return false;
-    }
-    let mut word = io::buffer();
-    let n = os::arg(i - 1, &mut word);
-    check::same(&word[..n], b"--every") | check::same(&word[..n], b"--join")
-}
+use accounts::tally;
+use accounts::tally::Tally;
+use inputs::arguments::Options;
+use inputs::files;
+use inputs::folders;
+use inputs::numbers;
 
 // The track that a word of the program names, if it is a folder.
 fn run_word(o: Options, i: usize) -> Tally {
-    let mut word = io::buffer();
-    let n = os::arg(i, &mut word);
-    let k = arguments::kind(is_count(i), &word[..n]);
-    match k {
-        Word::Folder => folder::run(o, &word[..n]),
-        _ => tally::nothing(),
+    let mut path = io::buffer();
+    let f = folders::given(i, &mut path);
+    if !f.folder {
+        return tally::nothing();
     }
+    let n = f.length;
+    folder::run(o, &path[..n])
 }
 
 // The tracks whose folders the program was started with.
@@ -47,12 +37,12 @@ pub fn given(o: Options) -> Tally {
 fn run_line(o: Options, text: &[u8], p: usize) -> Tally
     requires { ⌜ p ≤ length (now text) ⌝ }
 {
-    let e = numbers::end_of_word(text, p);
-    if e == p {
+    let mut path = io::buffer();
+    let f = folders::bundled(text, p, &mut path);
+    if !f.folder {
         return tally::nothing();
     }
-    let mut path = io::buffer();
-    let n = files::path_of(b"captures", &text[p..e], &mut path);
+    let n = f.length;
     folder::run(o, &path[..n])
 }
 

@@ -1,12 +1,14 @@
 // Calls on the table, and what is printed of them.
+// Letters: `t` a table, `k` a number of the table of answers, `v` a number.
 use crate::text::item;
-use crate::text::show;
 use crate::text::start;
-use slots::share::SHARE;
-use slots::share::Side;
+use printing::marked;
+use share_words::share::SHARE;
+use share_words::share::TABLE;
+use slots::lawful::Side;
 
 // The words that are lent: a table's, and one more.
-pub const WORDS: usize = 7969;
+pub const WORDS: usize = TABLE + 1;
 
 fn pick(k: u64, at: u64, v: u64, other: u64) -> u64 {
     if k == at { v } else { other }
@@ -54,8 +56,8 @@ fn left(t: &[u64; WORDS], slot: u64) {
         let v = t[i];
         if v != 0 {
             if (i / SHARE) as u64 <= slot {
-                show(b' ', i as u64);
-                show(b'=', v);
+                marked(b' ', i as u64);
+                marked(b'=', v);
             }
         }
         i += 1;

@@ -3,11 +3,11 @@ use crate::calls::WORDS;
 use crate::calls::ask;
 use crate::calls::turns;
 use crate::text::item;
-use crate::text::show;
 use crate::text::start;
-use slots::calls::TABLE;
-use slots::share::SHARE;
-use slots::share::Side;
+use printing::marked;
+use share_words::share::SHARE;
+use share_words::share::TABLE;
+use slots::lawful::Side;
 
 // The values that are tried at every word.
 const VALUES: [u64; 23] = [
@@ -61,8 +61,8 @@ fn sweep(side: Side, t: &mut [u64; WORDS], v: u64) {
         }
         let r = damaged(side, t, at, v);
         if r != was {
-            show(b' ', i);
-            show(b'=', r);
+            marked(b' ', i);
+            marked(b'=', r);
         }
         was = r;
         at += 1;

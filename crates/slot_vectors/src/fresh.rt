@@ -4,10 +4,10 @@ use crate::calls::WORDS;
 use crate::calls::ask;
 use crate::calls::turns;
 use crate::text::item;
-use crate::text::show;
 use crate::text::start;
-use slots::calls::TABLE;
-use slots::share::Side;
+use printing::marked;
+use share_words::share::TABLE;
+use slots::lawful::Side;
 
 const TOP: u64 = 0xffff_ffff_ffff_ffff;
 
@@ -48,8 +48,8 @@ fn opens(side: Side, scheme: u64, k: u64) {
     while j < 10 {
         let mut t = [0u64; WORDS];
         let v = values[j];
-        show(b' ', v);
-        show(b'=', ask(side, &mut t, TABLE, b'o', 5, scheme, k, v));
+        marked(b' ', v);
+        marked(b'=', ask(side, &mut t, TABLE, b'o', 5, scheme, k, v));
         j += 1;
     }
 }

@@ -1,7 +1,8 @@
 // Lawful shares, filled by hand: seven in an encoder's table, whose first slot is closed, and eight in a receiver's.
+// Letters: `t` a table.
 use crate::calls::WORDS;
-use slots::share::SHARE;
-use slots::share::Side;
+use share_words::share::SHARE;
+use slots::lawful::Side;
 
 const RUNS: usize = 160;
 

@@ -7,7 +7,7 @@ use crate::powers::TOP;
 use crate::run_lines::run;
 use crate::run_lines::words;
 use crate::text;
-use crate::text::word;
+use printing::word;
 use wire::zigzag::Coding;
 
 // The runs of a list, whose largest value is given, against an old one, where an absent old value counts as 0, and as 2^31.

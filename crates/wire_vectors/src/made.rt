@@ -8,8 +8,8 @@ use crate::run_lines::read_back;
 use crate::run_lines::words;
 use crate::text;
 use crate::text::hex;
-use crate::text::number;
-use crate::text::word;
+use printing::word;
+use printing::worded;
 use wire::form::Form;
 use wire::zigzag::Coding;
 
@@ -26,7 +26,7 @@ fn made(
     n: usize,
 ) {
     hex(text::MADE, s, 0, shown);
-    number(text::AT_PLACE, at as u64);
+    worded(text::AT_PLACE, at as u64);
     word(text::AGAINST);
     words(old, 0, old.len());
     kind(coding, base);

@@ -4,16 +4,16 @@ use crate::powers::P62;
 use crate::powers::TOP;
 use crate::text;
 use crate::text::hex;
-use crate::text::number;
-use crate::text::word;
+use printing::word;
+use printing::worded;
 use wire::form::Form;
 use wire::varint::Got;
 
 fn got(g: Got) {
     match g {
         Got::Value(v, next) => {
-            number(text::READS, v);
-            number(text::NEXT, next as u64);
+            worded(text::READS, v);
+            worded(text::NEXT, next as u64);
         }
         Got::Cut => word(text::CUT),
     }
@@ -24,7 +24,7 @@ fn ends(s: &[u8; 16], from: usize, last: usize) {
     got(wire::varint::read(Form::Rfc9000, s, from, last));
     let mut e = from;
     while e < last {
-        number(text::END, e as u64);
+        worded(text::END, e as u64);
         got(wire::varint::read(Form::Rfc9000, s, from, e));
         e += 1;
     }
@@ -37,8 +37,8 @@ fn vector(place: usize, v: u64) {
     let at = place % 9;
     let mut s = [0xeeu8; 16];
     let next = wire::varint::put(Form::Rfc9000, &mut s, at, v);
-    number(text::VARINT, v);
-    number(text::SIZE, wire::varint::size(Form::Rfc9000, v) as u64);
+    worded(text::VARINT, v);
+    worded(text::SIZE, wire::varint::size(Form::Rfc9000, v) as u64);
     hex(text::BYTES, &s, at, next);
     ends(&s, at, next);
 }
@@ -127,8 +127,8 @@ const FARTHEST: usize = 0xffff_ffff_ffff_ffff;
 
 // A read of the bytes 40 25 3f at a place, up to an end.
 fn place(at: usize, last: usize) {
-    number(text::PLACE, at as u64);
-    number(text::END, last as u64);
+    worded(text::PLACE, at as u64);
+    worded(text::END, last as u64);
     let g = wire::varint::read(Form::Rfc9000, b"\x40\x25\x3f", at, last);
     got(g);
     word(text::LINE);

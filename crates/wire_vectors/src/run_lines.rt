@@ -1,8 +1,9 @@
 // What is printed of a run: its measure, its bytes, and what they are read back as, with one thing wrong at a time.
+// Letters: `s` bytes that are read, `n` how many.
 use crate::text;
 use crate::text::hex;
-use crate::text::number;
-use crate::text::word;
+use printing::word;
+use printing::worded;
 use runs::Measured;
 use runs::Outcome;
 use wire::form::Form;
@@ -26,7 +27,7 @@ pub fn words(list: &[u64], from: usize, to: usize) {
             if v == UNREAD {
                 word(text::BLANK);
             } else {
-                number(text::SPACE, v);
+                worded(text::SPACE, v);
             }
         }
         i += 1;
@@ -49,9 +50,9 @@ pub fn read_back(
         return;
     }
     word(text::FILL);
-    number(text::END, last as u64);
-    number(text::BOUND, bound);
-    number(text::WANTED, n as u64);
+    worded(text::END, last as u64);
+    worded(text::BOUND, bound);
+    worded(text::WANTED, n as u64);
     let mut out = [UNREAD; 70];
     let r = runs::fill(
         Form::Rfc9000,
@@ -119,13 +120,13 @@ pub fn kind(coding: Coding, base: u64) {
         Coding::Delta => text::DELTA,
     };
     word(w);
-    number(text::BASE, base);
+    worded(text::BASE, base);
 }
 
 fn measured(m: Measured) {
     word(text::MEASURE);
     match m {
-        Measured::Bytes(k) => number(text::SPACE, k as u64),
+        Measured::Bytes(k) => worded(text::SPACE, k as u64),
         Measured::TooWide => {
             word(text::TOO);
             word(text::WIDE);

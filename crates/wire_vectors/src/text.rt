@@ -1,8 +1,6 @@
-// What is printed: words, numbers and bytes, each at once. A line is not collected first, and a word is a number whose bytes are its letters,
-// since each array of text that a function lends would make its check longer.
-use libc::STDOUT_FILENO;
-
+// The words that are printed: each is a number whose bytes are its letters, since an array of text that a function lends would make its check longer.
 // "varint "
+// Letters: `w` a word, `s` bytes that are read.
 pub const VARINT: u64 = 0x76_6172_696e_7420;
 
 // " size "
@@ -89,45 +87,11 @@ pub const DASH: u64 = 0x2d;
 // the end of a line
 pub const LINE: u64 = 0x0a;
 
-fn letter(b: u8) {
-    io::write_all(STDOUT_FILENO, &[b]);
-}
-
-// The letters of a word, which has up to eight, so that the bytes before the first are 0.
-pub fn word(w: u64) {
-    let mut rest = w;
-    let mut k: u64 = 0;
-    while k < 8 {
-        let b = (rest / 0x100_0000_0000_0000 % 256) as u8;
-        if b != 0 {
-            letter(b);
-        }
-        rest = rest % 0x100_0000_0000_0000 * 0x100;
-        k += 1;
-    }
-}
-
-// The word, and the number after it.
-pub fn number(w: u64, v: u64) {
-    word(w);
-    io::print_decimal(STDOUT_FILENO, v);
-}
-
-fn wide(b: u8) -> u64 {
-    b as u64
-}
-
-// The word, and after it the bytes from one place to another in hexadecimal, or a dash where there are none.
+// A word, and after it the bytes from one place to another in hexadecimal, or a dash where there are none.
 pub fn hex(w: u64, s: &[u8], from: usize, to: usize) {
-    word(w);
+    printing::word(w);
     if to <= from {
-        word(DASH);
+        printing::word(DASH);
     }
-    let mut i = from;
-    while i < to {
-        if i < s.len() {
-            io::print_hex(STDOUT_FILENO, wide(s[i]), 2);
-        }
-        i += 1;
-    }
+    printing::hex(s, from, to)
 }

@@ -8,13 +8,11 @@ use Rattle.relay.proofs.chunks.steps.Statement.{statement}
 use Rattle.relay.proofs.chunks.steps.Tie as tie
 
 abbrev Inv-loop : tie.InvT-loop
-Inv-loop folder params o text fd encoder₀ receiver₀ chunk₀ object₀ rebuilt₀ second₀ t₀ p₀ encoder receiver chunk object rebuilt second t p =
-    (p ≤ length text) × (length encoder ≡ length encoder₀) × (length receiver ≡ length receiver₀) × (length chunk ≡ length chunk₀)
-    × (length object ≡ length object₀) × (length rebuilt ≡ length rebuilt₀) × (length second ≡ length second₀)
+Inv-loop folder params o text fd encoder₀ receiver₀ t₀ p₀ encoder receiver t p =
+    (p ≤ length text) × (length encoder ≡ length encoder₀) × (length receiver ≡ length receiver₀)
 
 abbrev μ-loop : tie.MeasureT-loop
-μ-loop folder params o text fd encoder₀ receiver₀ chunk₀ object₀ rebuilt₀ second₀ t₀ p₀ encoder receiver chunk object rebuilt second t p =
-    length text - p
+μ-loop folder params o text fd encoder₀ receiver₀ t₀ p₀ encoder receiver t p = length text - p
 
 nothing-requires : tie.Need-nothing-requires Inv-loop μ-loop
 nothing-requires c κs = search needs
@@ -35,27 +33,13 @@ loop-less : tie.Need-loop-less Inv-loop μ-loop
 loop-less c = search needs
 
 loop-again : tie.Need-loop-again Inv-loop μ-loop
-loop-again c =
-    let i = c .before .before .before .before .before .before .before .before .before .before .before .before .before .before .before .before .before .before .before .before .before .before .loop .inv in
-    (search needs, omega (arith, i .1), omega (arith, i .2), omega (arith, i .3), omega (arith, i .4), omega (arith, i .5), omega (arith, i .6))
+loop-again c = search needs
 
 same-length : tie.Need-same-length Inv-loop μ-loop
 same-length c = search needs
 
 same-length-2 : tie.Need-same-length-2 Inv-loop μ-loop
 same-length-2 c = search needs
-
-same-length-3 : tie.Need-same-length-3 Inv-loop μ-loop
-same-length-3 c = search needs
-
-same-length-4 : tie.Need-same-length-4 Inv-loop μ-loop
-same-length-4 c = search needs
-
-same-length-5 : tie.Need-same-length-5 Inv-loop μ-loop
-same-length-5 c = search needs
-
-same-length-6 : tie.Need-same-length-6 Inv-loop μ-loop
-same-length-6 c = search needs
 
 returns : tie.Need-returns Inv-loop μ-loop
 returns c = search needs
@@ -75,8 +59,4 @@ steps-spec =
     loop-again
     same-length
     same-length-2
-    same-length-3
-    same-length-4
-    same-length-5
-    same-length-6
     returns)

@@ -45,11 +45,11 @@ returns-3 c = search needs
 array-share-prefix-text : tie.Need-array-share-prefix-text
 array-share-prefix-text c = search needs
 
-slice-aggregate-with-room : tie.Need-slice-aggregate-with-room
-slice-aggregate-with-room c = search needs
+slice-aggregate-with-tables : tie.Need-slice-aggregate-with-tables
+slice-aggregate-with-tables c = search needs
 
-with-room-requires : tie.Need-with-room-requires
-with-room-requires c κs = search needs
+with-tables-requires : tie.Need-with-tables-requires
+with-tables-requires c κs = search needs
 
 finish-requires : tie.Need-finish-requires
 finish-requires c κs = search needs
@@ -74,7 +74,7 @@ run-spec =
     spoiled-requires-3
     returns-3
     array-share-prefix-text
-    slice-aggregate-with-room
-    with-room-requires
+    slice-aggregate-with-tables
+    with-tables-requires
     finish-requires
     returns-4)

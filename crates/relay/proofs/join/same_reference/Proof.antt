@@ -1,5 +1,6 @@
 -- `relay::join::same_reference` is safe and ends: the table has the words of two shares, and each is looked at once. Assumes nothing.
 use Prim.Native.Nat.{_-_}
+use Rattle.share_words.specs.Share.{shareLen}
 use borrow.Author.Needs.{needs}
 use Rattle.relay.proofs.join.same_reference.Statement.{statement}
 use Rattle.relay.proofs.join.same_reference.Tie as tie
@@ -8,7 +9,7 @@ abbrev Inv-loop : tie.InvT-loop
 Inv-loop table i₀ i = Unit {0}
 
 abbrev μ-loop : tie.MeasureT-loop
-μ-loop table i₀ i = 996 - i
+μ-loop table i₀ i = shareLen - i
 
 add-if1 : tie.Need-add-if1 Inv-loop μ-loop
 add-if1 c = search needs

@@ -19,11 +19,11 @@ mul-v c = search needs
 element-copy-out-v : tie.Need-element-copy-out-v Inv-loop μ-loop
 element-copy-out-v c = search needs
 
-show-requires : tie.Need-show-requires Inv-loop μ-loop
-show-requires c κs = search needs
+marked-requires : tie.Need-marked-requires Inv-loop μ-loop
+marked-requires c κs = search needs
 
-show-requires-2 : tie.Need-show-requires-2 Inv-loop μ-loop
-show-requires-2 c κs = search needs
+marked-requires-2 : tie.Need-marked-requires-2 Inv-loop μ-loop
+marked-requires-2 c κs = search needs
 
 add-i : tie.Need-add-i Inv-loop μ-loop
 add-i c = search needs
@@ -46,8 +46,8 @@ left-spec =
     loop-holds
     mul-v
     element-copy-out-v
-    show-requires
-    show-requires-2
+    marked-requires
+    marked-requires-2
     add-i
     loop-less
     loop-again

@@ -1,14 +1,15 @@
 -- `slot_vectors::damage::sweep` is safe and ends: the place stays within the table. Assumes nothing.
 use Prim.Native.Nat.{_≤_, _-_}
+use Rattle.share_words.specs.Share.{tableLen}
 use borrow.Author.Needs.{needs}
 use Rattle.slot_vectors.proofs.damage.sweep.Statement.{statement}
 use Rattle.slot_vectors.proofs.damage.sweep.Tie as tie
 
 abbrev Inv-loop : tie.InvT-loop
-Inv-loop side t₀ v was₀ at₀ t was at = at ≤ 7968
+Inv-loop side t₀ v was₀ at₀ t was at = at ≤ tableLen
 
 abbrev μ-loop : tie.MeasureT-loop
-μ-loop side t₀ v was₀ at₀ t was at = 7968 - at
+μ-loop side t₀ v was₀ at₀ t was at = tableLen - at
 
 loop-holds : tie.Need-loop-holds Inv-loop μ-loop
 loop-holds c = search needs
@@ -22,11 +23,11 @@ item-requires c κs = search needs
 damaged-requires : tie.Need-damaged-requires Inv-loop μ-loop
 damaged-requires c κs = search needs
 
-show-requires : tie.Need-show-requires Inv-loop μ-loop
-show-requires c κs = search needs
+marked-requires : tie.Need-marked-requires Inv-loop μ-loop
+marked-requires c κs = search needs
 
-show-requires-2 : tie.Need-show-requires-2 Inv-loop μ-loop
-show-requires-2 c κs = search needs
+marked-requires-2 : tie.Need-marked-requires-2 Inv-loop μ-loop
+marked-requires-2 c κs = search needs
 
 add-at : tie.Need-add-at Inv-loop μ-loop
 add-at c = search needs
@@ -50,8 +51,8 @@ sweep-spec =
     start-requires
     item-requires
     damaged-requires
-    show-requires
-    show-requires-2
+    marked-requires
+    marked-requires-2
     add-at
     loop-less
     loop-again

@@ -28,8 +28,8 @@ mul-v c = search needs
 array-read-v : tie.Need-array-read-v Inv-loop μ-loop
 array-read-v c = search needs
 
-show-requires : tie.Need-show-requires Inv-loop μ-loop
-show-requires c κs = search needs
+marked-requires : tie.Need-marked-requires Inv-loop μ-loop
+marked-requires c κs = search needs
 
 slice-aggregate-ask : tie.Need-slice-aggregate-ask Inv-loop μ-loop
 slice-aggregate-ask c = search needs
@@ -37,8 +37,8 @@ slice-aggregate-ask c = search needs
 ask-requires : tie.Need-ask-requires Inv-loop μ-loop
 ask-requires c κs = search needs
 
-show-requires-2 : tie.Need-show-requires-2 Inv-loop μ-loop
-show-requires-2 c κs = search needs
+marked-requires-2 : tie.Need-marked-requires-2 Inv-loop μ-loop
+marked-requires-2 c κs = search needs
 
 add-j : tie.Need-add-j Inv-loop μ-loop
 add-j c = search needs
@@ -64,10 +64,10 @@ opens-spec =
     loop-holds
     mul-v
     array-read-v
-    show-requires
+    marked-requires
     slice-aggregate-ask
     ask-requires
-    show-requires-2
+    marked-requires-2
     add-j
     loop-less
     loop-again

@@ -19,8 +19,8 @@ got-requires c κs = search needs
 loop-holds : tie.Need-loop-holds Inv-loop μ-loop
 loop-holds c = search needs
 
-number-requires : tie.Need-number-requires Inv-loop μ-loop
-number-requires c κs = search needs
+worded-requires : tie.Need-worded-requires Inv-loop μ-loop
+worded-requires c κs = search needs
 
 read-requires-2 : tie.Need-read-requires-2 Inv-loop μ-loop
 read-requires-2 c κs = search needs
@@ -52,7 +52,7 @@ ends-spec =
     read-requires
     got-requires
     loop-holds
-    number-requires
+    worded-requires
     read-requires-2
     got-requires-2
     add-e

@@ -11,14 +11,14 @@ slice-aggregate-put c = search needs
 put-requires : tie.Need-put-requires
 put-requires c κs = omega (arith, varint-room (c .before .args .v))
 
-number-requires : tie.Need-number-requires
-number-requires c κs = search needs
+worded-requires : tie.Need-worded-requires
+worded-requires c κs = search needs
 
 size-requires : tie.Need-size-requires
 size-requires c κs = search needs
 
-number-requires-2 : tie.Need-number-requires-2
-number-requires-2 c κs = search needs
+worded-requires-2 : tie.Need-worded-requires-2
+worded-requires-2 c κs = search needs
 
 slice-aggregate-hex : tie.Need-slice-aggregate-hex
 slice-aggregate-hex c = search needs
@@ -38,9 +38,9 @@ vector-spec =
     (tie.spec
     slice-aggregate-put
     put-requires
-    number-requires
+    worded-requires
     size-requires
-    number-requires-2
+    worded-requires-2
     slice-aggregate-hex
     hex-requires
     ends-requires

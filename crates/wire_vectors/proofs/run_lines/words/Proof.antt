@@ -22,8 +22,8 @@ shared-slice-read-v c = search needs
 word-requires : tie.Need-word-requires Inv-loop μ-loop
 word-requires c κs = search needs
 
-number-requires : tie.Need-number-requires Inv-loop μ-loop
-number-requires c κs = search needs
+worded-requires : tie.Need-worded-requires Inv-loop μ-loop
+worded-requires c κs = search needs
 
 add-i : tie.Need-add-i Inv-loop μ-loop
 add-i c = search needs
@@ -47,7 +47,7 @@ words-spec =
     mul-v
     shared-slice-read-v
     word-requires
-    number-requires
+    worded-requires
     add-i
     loop-less
     loop-again
