@@ -1,5 +1,5 @@
 // Writing numbers, the highest byte first, and bytes. Each writer says by `Wrote` what now stands at its place and where it ended.
-ghost use mathlib.Core.Path.{_≡_};
+// Letters: `v` a number.
 ghost use Prim.Native.Nat.{_+_, _*_, _≤_};
 ghost use lib.ListN.{length};
 ghost use Rattle.laws.specs.Bytes.{be};

@@ -16,14 +16,14 @@ use Rattle.slots.specs.Share.{lawful}
 use Rattle.slots.specs.Table.{Out, out, shareAt, putShare}
 use Rattle.slots.proofs.TableLaws.{by-cases, share-back}
 use Rattle.slots.proofs.Apart.{table-long, others-stay, shares-lawful}
-use Rattle.slots.proofs.Lawful.{all-fresh, open-refuses, close-refuses, group-refuses}
-use Rattle.exchange.specs.Took.{Took, refused, PastStays}
-use Rattle.exchange.proofs.TookLaws.{refused-past}
+use Rattle.slots.proofs.StaysLawful.{all-fresh, open-refuses, close-refuses, group-refuses}
+use Rattle.answers.specs.Took.{Took, refused, PastStays}
+use Rattle.answers.proofs.TookLaws.{refused-past}
 use Rattle.encoder.specs.Laws.{Refused as Kept}
 use Rattle.encoder.proofs.Theorems.{encode-refuses}
 use Rattle.receiver.proofs.Theorems.{receive-refuses}
 use Rattle.receiver.proofs.AlikeTheorems.{full-forgets}
-use Rattle.given.specs.Given.{F}
+use Rattle.cmaf_read_facts.specs.Given.{F}
 use Rattle.demands.specs.One.{Call, opens, closes, starts, encodes, receives, alone, gives, sideOf, lentTo, outputOf, order, Drops, Refused, Done, DemandOne}
 use Rattle.demands.proofs.OneRules.{exactly}
 use Rattle.demands.proofs.OneShares.{onShare, gives-is, keeps, share-lawful, share-does, share-past, Last, share-last}

@@ -4,9 +4,9 @@ use native.Mathlib.Nat.{add-zero, zero-add, add-suc, suc-add}
 use mathlib.Core.Path.{_≡_, refl, sym, _∙_, ap, subst}
 use mathlib.Core.List.{List, [], _∷_, map, List·Permᴰ, List·Permᴰ·cons, List·Permᴰ·swap, List·Permᴰ·trans, Permᴰ·refl}
 use lib.ListN.{replicate}
-use Rattle.slots.specs.Table.{tableLen}
+use Rattle.share_words.specs.Share.{tableLen}
 use Rattle.receiver.proofs.ObjectSplit.{parts-of, parts-once}
-use Rattle.given.specs.Given.{F}
+use Rattle.cmaf_read_facts.specs.Given.{F}
 use Rattle.demands.specs.Three.{Call, Told, told, call, answers, tableAfter, Numbered, numberedFrom, callsOf, numbersOf}
 use Rattle.demands.specs.Three.{Changed, swap, reorder, behind, _then_, none, answerTo, Kept, DemandThree}
 use Rattle.demands.proofs.OneChange.{tables-same, told-same, received-same, told-reordered}

@@ -4,7 +4,7 @@ use mathlib.Core.Path.{_≡_, refl, sym, subst}
 use mathlib.Core.Bool.{Bool, true, false, _&&_}
 use mathlib.Core.List.{List, [], _∷_}
 use Rattle.laws.specs.Tests.{allLe}
-use Rattle.slots.specs.declared.share.Side.the-variants.{Encoder, Receiver}
+use Rattle.slots.specs.declared.lawful.Side.the-variants.{Encoder, Receiver}
 use Rattle.slots.specs.Calls.{grouping}
 use Rattle.demands.specs.Codec.{Codec, ours}
 use Rattle.demands.specs.Two.{Send, isDelta, Sends, Beside, Paired, Call, start, carry, sent, got, Tried, AllMet, DemandTwo, DemandTwoRuns, DemandTwoFresh}

@@ -9,12 +9,12 @@ use Rattle.laws.specs.Ladder.{Rung, _else_, Hold}
 use Rattle.laws.proofs.LadderLaws.{climbed, hold-front, hold-back, hold-append}
 use Rattle.slots.specs.Share.{trackOf}
 use Rattle.slots.specs.Table.{Out}
-use Rattle.exchange.specs.Took.{Took}
-use Rattle.accepted.specs.Accepted.{acceptRungs, payload}
+use Rattle.answers.specs.Took.{Took}
+use Rattle.cmaf_read_chunk.specs.Accepted.{acceptRungs, payload}
 use Rattle.encoder.specs.Object.{fitsOk}
 use Rattle.encoder.specs.Encode.{refusing, lastRungs, chunkRungs, encodeRungs, done, encoding}
 use Rattle.encoder.proofs.Theorems.{Passed, passed, done-passed, encode-refuses}
-use Rattle.given.specs.Given.{F}
+use Rattle.cmaf_read_facts.specs.Given.{F}
 use Rattle.demands.specs.Codec.{ours, gave}
 use Rattle.demands.specs.Two.{Send, objectFront, Sends, Becomes, Unsent, sent}
 

@@ -10,13 +10,14 @@ use lib.ListN.{length, take, drop}
 use Rattle.laws.proofs.LadderLaws.{climbs-all}
 use Rattle.track.specs.declared.Asked.{Asked}
 use Rattle.track.specs.Track.{u32}
-use Rattle.slots.specs.declared.share.Side.the-variants.{Receiver}
-use Rattle.slots.specs.Share.{shareLen, acceptedAt, heldAt, askedOf, isOpen, lawful, opened, dropped}
+use Rattle.slots.specs.declared.lawful.Side.the-variants.{Receiver}
+use Rattle.share_words.specs.Share.{shareLen, acceptedAt, heldAt, dropped}
+use Rattle.slots.specs.Share.{askedOf, isOpen, lawful, opened}
 use Rattle.slots.specs.Table.{Out, out, onShare}
 use Rattle.slots.specs.Calls.{openRungs, openedRungs, opening, grouping}
 use Rattle.slots.proofs.ShareParts.{same-open, dropped-parameters}
-use Rattle.exchange.specs.Took.{Took, refused}
-use Rattle.exchange.proofs.OpenLaws.{opened-facts}
+use Rattle.answers.specs.Took.{Took, refused}
+use Rattle.reference.proofs.OpenLaws.{opened-facts}
 use Rattle.receiver.specs.Object.{isDelta}
 use Rattle.receiver.specs.Receive.{receiveRungs, refusing, done, receiving}
 use Rattle.receiver.proofs.PassedLaws.{passed}
@@ -27,7 +28,7 @@ use Rattle.joining.specs.Near.{made, Near, Stays}
 use Rattle.joining.proofs.NearLaws.{parted}
 use Rattle.joining.proofs.NearCalls.{same-answer, receive-near, open-near, group-near}
 use Rattle.joining.proofs.FullJoins.{full-joins, counts-one, number-stands}
-use Rattle.given.specs.Given.{F}
+use Rattle.cmaf_read_facts.specs.Given.{F}
 use Rattle.demands.specs.Three.{Call, opens, closes, groups, receives}
 use Rattle.demands.specs.Join.{isClose, NoClose, AllMatch, onShareOf, outs, shareAfter, Joins, ParametersStay, NumberRuns}
 use Rattle.demands.proofs.OneChange.{call-keeps}

@@ -8,16 +8,17 @@ use borrow.Author.Tests.{eqb-true, eqb-false, eq-eqb}
 use lib.Dec.{eqb}
 use lib.ListN.{length}
 use Rattle.track.specs.declared.Asked.{Asked}
-use Rattle.slots.specs.declared.share.Side.the-variants.{Receiver}
+use Rattle.slots.specs.declared.lawful.Side.the-variants.{Receiver}
 use Rattle.slots.specs.Share.{askedOf, opened}
-use Rattle.slots.specs.Table.{Out, out, tableLen, shareAt}
+use Rattle.slots.specs.Table.{Out, out, shareAt}
+use Rattle.share_words.specs.Share.{tableLen, slotCount}
 use Rattle.slots.proofs.TableLaws.{right-slot, share-long, left-there}
 use Rattle.slots.proofs.Apart.{table-long, others-stay}
-use Rattle.slots.proofs.Lawful.{open-stores}
-use Rattle.exchange.specs.Took.{Took}
+use Rattle.slots.proofs.StaysLawful.{open-stores}
+use Rattle.answers.specs.Took.{Took}
 use Rattle.receiver.specs.Receive.{receiving}
 use Rattle.joining.specs.Matches.{countOf}
-use Rattle.given.specs.Given.{F}
+use Rattle.cmaf_read_facts.specs.Given.{F}
 use Rattle.demands.specs.Three.{Call, opens, closes, groups, receives, slotOf, call, tableAfter}
 use Rattle.demands.specs.Join.{AllMatch, onShareOf, outs, shareAfter, only, outsAt, OwnCalls, moved, TablesJoin, ourReceiver, JoiningInMidGroup}
 use Rattle.demands.proofs.OneChange.{refusedBy, call-shared, call-keeps}
@@ -30,7 +31,7 @@ call-long a t = subst (λ (x : Out Took). length (x .words) ≡ length t) (call-
 
 module _ (a : Call) (t : List ℕ) (l : length t ≡ tableLen) where
   -- on its slot it is the call on the share
-  call-own : slotOf a < 8 → out (call a t .answer) (shareAt (call a t .words) (slotOf a)) ≡ onShareOf (receiving F) a (shareAt t (slotOf a))
+  call-own : slotOf a < slotCount → out (call a t .answer) (shareAt (call a t .words) (slotOf a)) ≡ onShareOf (receiving F) a (shareAt t (slotOf a))
   call-own h =
       let f = onShareOf (receiving F) a in
       let e : call a t .answer ≡ f (shareAt t (slotOf a)) .answer =
@@ -40,7 +41,7 @@ module _ (a : Call) (t : List ℕ) (l : length t ≡ tableLen) where
       λ j. out (e j) (w j)
 
   -- and changes no other
-  call-other : (slot : ℕ) → slot < 8 → (slotOf a ≡ slot → ⊥) → shareAt (call a t .words) slot ≡ shareAt t slot
+  call-other : (slot : ℕ) → slot < slotCount → (slotOf a ≡ slot → ⊥) → shareAt (call a t .words) slot ≡ shareAt t slot
   call-other slot h d =
       ap (λ (x : Out Took). shareAt (x .words) slot) (sym (call-shared a t)) ∙ others-stay Took (refusedBy a) (onShareOf (receiving F) a) (call-keeps a) (slotOf a) slot d h t
 
@@ -94,7 +95,7 @@ outs-moved j (a ∷ calls) s =
     ∙ ap (λ (xs : List (Out Took)). onShareOf (receiving F) a s ∷ xs) (outs-moved j calls (onShareOf (receiving F) a s .words))
 
 -- a slot that was opened
-opened-share : (slot : ℕ) → slot < 8 → (a : Asked) (t : List ℕ) → length t ≡ tableLen → call (opens slot a) t .answer .number ≡ 0
+opened-share : (slot : ℕ) → slot < slotCount → (a : Asked) (t : List ℕ) → length t ≡ tableLen → call (opens slot a) t .answer .number ≡ 0
     → shareAt (call (opens slot a) t .words) slot ≡ opened a
 opened-share slot h a t l z =
     let own = call-own (opens slot a) t l h in

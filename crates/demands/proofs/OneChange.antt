@@ -2,18 +2,18 @@
 use Prim.Native.Nat.{ℕ}
 use mathlib.Core.Path.{_≡_, refl, sym, _∙_, subst}
 use mathlib.Core.List.{List, []}
-use Rattle.slots.specs.declared.share.Side.the-variants.{Receiver}
+use Rattle.slots.specs.declared.lawful.Side.the-variants.{Receiver}
 use Rattle.slots.specs.Table.{Out, itself, onTable}
 use Rattle.slots.specs.Calls.{opening, closing, grouping}
 use Rattle.slots.specs.Laws.{Keeps, Apart}
 use Rattle.slots.proofs.TableLaws.{table-seen}
 use Rattle.slots.proofs.Apart.{apart}
-use Rattle.slots.proofs.Lawful.{open-keeps, close-keeps, group-keeps}
-use Rattle.exchange.specs.Took.{Took, took, refused}
+use Rattle.slots.proofs.StaysLawful.{open-keeps, close-keeps, group-keeps}
+use Rattle.answers.specs.Took.{Took, took, refused}
 use Rattle.receiver.specs.Receive.{receiving}
 use Rattle.receiver.proofs.Theorems.{receive-keeps}
 use Rattle.receiver.proofs.ObjectBytes.{order-unseen}
-use Rattle.given.specs.Given.{F}
+use Rattle.cmaf_read_facts.specs.Given.{F}
 use Rattle.demands.specs.Three.{Call, opens, closes, groups, receives, slotOf, call, lent, told, Reordered}
 use Rattle.demands.specs.Join.{onShareOf}
 

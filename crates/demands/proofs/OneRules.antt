@@ -6,15 +6,15 @@ use mathlib.Core.List.{List, _∷_, map, List·Memᴰ}
 use Rattle.laws.specs.Tests.{_and_}
 use Rattle.laws.specs.Ladder.{Rung, Given}
 use Rattle.laws.proofs.LadderLaws.{given, given-one, given-known, nonzero, numbered, all-hold, climbed}
-use Rattle.slots.proofs.Lawful.{open-exactly, close-exactly, group-exactly}
-use Rattle.accepted.specs.Accepted.{lateRungs, acceptRungs}
-use Rattle.reading.specs.Read.{fieldRungs, setRungs}
+use Rattle.slots.proofs.StaysLawful.{open-exactly, close-exactly, group-exactly}
+use Rattle.cmaf_read_chunk.specs.Accepted.{lateRungs, acceptRungs}
+use Rattle.locmaf_read_set.specs.Read.{fieldRungs, setRungs}
 use Rattle.encoder.specs.Encode.{lastRungs, chunkRungs, encodeRungs}
 use Rattle.encoder.proofs.Theorems.{encode-exactly}
 use Rattle.receiver.specs.Object.{headRungs}
 use Rattle.receiver.specs.Receive.{splitRungs, valueRungs, receiveRungs}
 use Rattle.receiver.proofs.Theorems.{receive-exactly}
-use Rattle.given.specs.Given.{F}
+use Rattle.cmaf_read_facts.specs.Given.{F}
 use Rattle.demands.specs.One.{Call, opens, closes, starts, encodes, receives, gives, rules, order, ExactlyWhen}
 
 -- the number that a ladder gives, none of whose rungs has the number 0

@@ -7,24 +7,23 @@ use lib.ListN.{length, drop}
 use Rattle.laws.specs.Tests.{allLe}
 use Rattle.laws.proofs.LadderLaws.{ladder-seen}
 use Rattle.wire.specs.declared.form.Form.the-variants.{Rfc9000}
-use Rattle.slots.specs.Share.{shareLen, lawful}
+use Rattle.share_words.specs.Share.{shareLen}
+use Rattle.slots.specs.Share.{lawful}
 use Rattle.slots.specs.Table.{Out, itself, tableRungs, onTable}
 use Rattle.slots.specs.Calls.{opening, closing, grouping}
 use Rattle.slots.specs.Laws.{Keeps}
-use Rattle.slots.proofs.Lawful.{open-keeps, close-keeps, group-keeps, open-stores, close-zeroes, group-drops}
-use Rattle.slots.proofs.Lawful.{open-stays-lawful, close-stays-lawful, group-stays-lawful}
-use Rattle.exchange.specs.Took.{Took, refused, PastStays}
-use Rattle.exchange.proofs.TookLaws.{refused-past}
-use Rattle.accepted.specs.Accepted.{acceptRungs}
-use Rattle.accepted.proofs.BoxLaws.{payload-behind}
+use Rattle.slots.proofs.StaysLawful.{open-keeps, close-keeps, group-keeps, open-stores, close-zeroes, group-drops, open-stays-lawful, close-stays-lawful, group-stays-lawful}
+use Rattle.answers.specs.Took.{Took, refused, PastStays}
+use Rattle.answers.proofs.TookLaws.{refused-past}
+use Rattle.cmaf_read_chunk.specs.Accepted.{acceptRungs}
+use Rattle.cmaf_read_chunk.proofs.TakenLaws.{payload-behind}
 use Rattle.encoder.specs.Encode.{encoding}
-use Rattle.encoder.proofs.Theorems.{encode-keeps, encode-stays-lawful, encode-past, encode-last, done-passed}
-use Rattle.encoder.proofs.Theorems.{done-is as encode-done}
+use Rattle.encoder.proofs.Theorems.{encode-keeps, encode-stays-lawful, encode-past, encode-last, done-passed, done-is as encode-done}
 use Rattle.receiver.specs.Object.{payload}
 use Rattle.receiver.specs.Receive.{receiving}
 use Rattle.receiver.proofs.Theorems.{receive-keeps, receive-stays-lawful, receive-past, receive-last}
 use Rattle.receiver.proofs.AlikeTheorems.{done-is as receive-done}
-use Rattle.given.specs.Given.{F}
+use Rattle.cmaf_read_facts.specs.Given.{F}
 use Rattle.demands.specs.One.{Call, opens, closes, starts, encodes, receives, alone, gives, sideOf, lentTo, outputOf, after, frontOf}
 
 -- what a call makes of a share

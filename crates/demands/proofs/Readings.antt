@@ -8,18 +8,19 @@ use mathlib.Core.List.{List}
 use lib.Dec.{leb}
 use lib.ListN.{length, drop}
 use Rattle.laws.specs.Tests.{allLe}
-use Rattle.slots.specs.declared.share.Side.the-variants.{Encoder, Receiver}
-use Rattle.slots.specs.Share.{heldAt, trackOf}
+use Rattle.slots.specs.declared.lawful.Side.the-variants.{Encoder, Receiver}
+use Rattle.share_words.specs.Share.{heldAt}
+use Rattle.slots.specs.Share.{trackOf}
 use Rattle.slots.specs.Table.{Out}
 use Rattle.slots.proofs.ShareParts.{joined, joined-long, joined-front, joined-reference, joined-parameters, joined-lawful}
-use Rattle.exchange.specs.Took.{Took}
+use Rattle.answers.specs.Took.{Took}
 use Rattle.encoder.specs.Encode.{encoding}
 use Rattle.receiver.specs.Laws.{Alike}
 use Rattle.receiver.specs.Receive.{chunk, receiving}
 use Rattle.receiver.proofs.Theorems.{receive-refuses}
 use Rattle.receiver.proofs.AlikeTheorems.{done-is, full-forgets}
 use Rattle.meaning.specs.Meaning.{meaningOf}
-use Rattle.given.specs.Given.{F}
+use Rattle.cmaf_read_facts.specs.Given.{F}
 use Rattle.demands.specs.Codec.{ours, gave}
 use Rattle.demands.specs.Two.{Send, isDelta, object, Sends, Roomy, Beside, Paired, Short, sent, got, RoundTrip}
 use Rattle.demands.proofs.Encoded.{sends-passed, becomes}

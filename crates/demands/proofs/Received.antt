@@ -10,16 +10,17 @@ use lib.ListN.{length}
 use Rattle.laws.specs.Tests.{allLe}
 use Rattle.laws.specs.Ladder.{Rung, _else_, ladder, Hold}
 use Rattle.laws.proofs.LadderLaws.{broken, climbed, climbed-on, hold-append}
-use Rattle.slots.specs.declared.share.Side.the-variants.{Receiver}
+use Rattle.slots.specs.declared.lawful.Side.the-variants.{Receiver}
 use Rattle.slots.specs.Share.{isOpen}
 use Rattle.slots.specs.Table.{Out}
 use Rattle.slots.specs.Calls.{openedRungs}
 use Rattle.slots.proofs.ShareParts.{same-word}
-use Rattle.exchange.specs.Took.{Took}
+use Rattle.answers.specs.Took.{Took}
 use Rattle.encoder.specs.Object.{front}
 use Rattle.receiver.specs.Object.{headRungs}
-use Rattle.receiver.specs.Receive.{afterRefusal, heldOk, judgeRungs, roomRungs, receiveRungs, chunk, receiving, refusing, done}
-use Rattle.given.specs.Given.{F}
+use Rattle.answers.specs.Refusals.{afterRefusal}
+use Rattle.receiver.specs.Receive.{heldOk, judgeRungs, roomRungs, receiveRungs, chunk, receiving, refusing, done}
+use Rattle.cmaf_read_facts.specs.Given.{F}
 use Rattle.reread.specs.Read.{ReadAs}
 use Rattle.reread.proofs.ObjectRead.{object-reads}
 use Rattle.demands.specs.Codec.{ours, gave}

@@ -8,11 +8,11 @@ use Rattle.laws.specs.Bytes.{de}
 use Rattle.track.specs.declared.Asked.{Asked}
 use Rattle.wire.specs.Form.{byFirst}
 use Rattle.wire.specs.Varint.{readF}
-use Rattle.block.specs.Tuples.{part, tuple, bodyF, tupleF}
-use Rattle.block.specs.Whole.{WholeTuple}
+use Rattle.locmaf_read_block.specs.Tuples.{part, tuple, bodyF, tupleF}
+use Rattle.locmaf_read_block.specs.Whole.{WholeTuple}
 use Rattle.laws.specs.Each.{AllOf}
 use Rattle.receiver.specs.Parts.{Parts}
-use Rattle.given.specs.Given.{F}
+use Rattle.cmaf_read_facts.specs.Given.{F}
 use Rattle.demands.specs.Three.{opens, groups, receives, numbered, numberedFrom, Reordered, Changed, swap, reorder, behind, _then_}
 
 -- id 10 in two bytes with the value 5 in four; the unknown id 40 twice; a list of two bytes of which the second starts a varint of eight; and a record whose

@@ -1,22 +1,21 @@
 -- Encoding goes by what a chunk says: two chunks that no rule refuses, and that say the same but for brands that a delta doesn't carry, become the same object. Assumes nothing.
 use Prim.Native.Nat.{ℕ, _-_}
-use native.Mathlib.Omega.{arith}
 use mathlib.Core.Path.{_≡_, refl, sym, _∙_, ap, ap₂}
 use mathlib.Core.Bool.{Bool, true, false}
 use mathlib.Core.List.{List, _++_}
 use Rattle.laws.specs.Tests.{_and_}
 use Rattle.laws.specs.Ladder.{Rung, ladder, Hold}
 use Rattle.laws.proofs.LadderLaws.{ladder-append, ladder-seen, climbed}
-use Rattle.slots.specs.declared.share.Side.the-variants.{Encoder}
+use Rattle.slots.specs.declared.lawful.Side.the-variants.{Encoder}
 use Rattle.slots.specs.Share.{trackOf}
 use Rattle.slots.specs.Table.{Out}
 use Rattle.slots.specs.Calls.{openedRungs}
-use Rattle.exchange.specs.Took.{Took, refused}
-use Rattle.accepted.specs.Accepted.{bmdt, prft, brands, boxes, events, payload, fields, acceptRungs}
-use Rattle.writing.specs.Items.{itemsIf}
+use Rattle.answers.specs.Took.{Took, refused}
+use Rattle.cmaf_read_chunk.specs.Accepted.{bmdt, prft, brands, boxes, events, payload, fields, acceptRungs}
+use Rattle.locmaf_write_tuples.specs.Items.{itemsIf}
 use Rattle.encoder.specs.Object.{brandItems, blockItems, mayDelta, givesDelta, fitsOk, objectOf, front}
 use Rattle.encoder.specs.Encode.{refusing, lastRungs, chunkRungs, encodeRungs, done, encoding}
-use Rattle.given.specs.Given.{F}
+use Rattle.cmaf_read_facts.specs.Given.{F}
 
 module _ (wish : Bool) (c c′ s room : List ℕ) (set : fields (trackOf s) c ≡ fields (trackOf s) c′) (time : prft c ≡ prft c′) (list : boxes c ≡ boxes c′)
     (rest : payload c ≡ payload c′) (start : bmdt c ≡ bmdt c′) (names : givesDelta F s c wish ≡ false → brands c ≡ brands c′) where

@@ -10,22 +10,21 @@ use Rattle.laws.specs.Ladder.{ladder}
 use Rattle.laws.proofs.LadderLaws.{climbs-all}
 use Rattle.track.specs.declared.Asked.{Asked}
 use Rattle.wire.specs.declared.form.Form.the-variants.{Rfc9000}
-use Rattle.slots.specs.declared.share.Side.{Side}
-use Rattle.slots.specs.declared.share.Side.the-variants.{Encoder, Receiver}
-use Rattle.slots.specs.Share.{acceptedAt, heldAt, shareLen, fresh}
-use Rattle.slots.specs.Table.{Out, itself, tableLen, onShare}
+use Rattle.slots.specs.declared.lawful.Side.{Side}
+use Rattle.slots.specs.declared.lawful.Side.the-variants.{Encoder, Receiver}
+use Rattle.share_words.specs.Share.{acceptedAt, heldAt, shareLen, fresh, tableLen, slotCount}
+use Rattle.slots.specs.Table.{Out, itself, onShare}
 use Rattle.slots.specs.Calls.{opening, grouping}
-use Rattle.slots.proofs.Lawful.{open-keeps, group-keeps, open-stays-lawful, group-stays-lawful, fresh-lawful}
+use Rattle.slots.proofs.StaysLawful.{open-keeps, group-keeps, open-stays-lawful, group-stays-lawful, fresh-lawful}
 use Rattle.slots.proofs.TableLaws.{left-there, zero-share}
 use Rattle.slots.proofs.ShareParts.{dropped-parameters, dropped-reference, group-leaves}
-use Rattle.exchange.specs.Took.{Took}
-use Rattle.exchange.proofs.KeptLaws.{kept-parameters}
+use Rattle.answers.specs.Took.{Took}
+use Rattle.reference.proofs.KeptLaws.{kept-parameters}
 use Rattle.encoder.specs.Encode.{encodeRungs, refusing, kept, done, encoding}
 use Rattle.encoder.proofs.Theorems.{encode-keeps, encode-stays-lawful}
-use Rattle.receiver.specs.Receive.{receiveRungs, accepted, receiving}
-use Rattle.receiver.specs.Receive.{refusing as refusingObject, done as doneObject}
+use Rattle.receiver.specs.Receive.{receiveRungs, accepted, receiving, refusing as refusingObject, done as doneObject}
 use Rattle.receiver.proofs.Theorems.{receive-keeps, refusal-either}
-use Rattle.given.specs.Given.{F}
+use Rattle.cmaf_read_facts.specs.Given.{F}
 use Rattle.demands.specs.Codec.{ours, gave}
 use Rattle.demands.specs.Two.{Send, Sends, Roomy, Beside, Paired, sent, got, openedAt}
 use Rattle.demands.proofs.Trips.{trip, trip-lawful}
@@ -116,13 +115,13 @@ fresh-paired a =
       reference = ap (drop heldAt) (open-same a);
     }
 
-pub opened-is : (side : Side) (a : Asked) (i : ℕ) → i < 8 → openedAt side a i ≡ opening side a fresh .words
+pub opened-is : (side : Side) (a : Asked) (i : ℕ) → i < slotCount → openedAt side a i ≡ opening side a fresh .words
 opened-is side a i h =
     left-there itself (opening side a) (open-keeps side a) (replicate tableLen 0) i (length-replicate {A = ℕ} tableLen 0) h
     ∙ ap (λ (s : List ℕ). opening side a s .words) (zero-share i h)
 
 -- in any slot of either table
-pub opened-paired : (a : Asked) (i j : ℕ) → i < 8 → j < 8 → Paired (openedAt Encoder a i) (openedAt Receiver a j)
+pub opened-paired : (a : Asked) (i j : ℕ) → i < slotCount → j < slotCount → Paired (openedAt Encoder a i) (openedAt Receiver a j)
 opened-paired a i j h k =
     subst (λ (z : List ℕ). Paired z (openedAt Receiver a j)) (sym (opened-is Encoder a i h))
     (subst (λ (z : List ℕ). Paired (opening Encoder a fresh .words) z) (sym (opened-is Receiver a j k)) (fresh-paired a))

@@ -13,29 +13,28 @@ use Rattle.laws.specs.Ladder.{Hold}
 use Rattle.wire.specs.declared.form.Form.the-variants.{Rfc9000}
 use Rattle.wire.proofs.SizeLaws.{limit-most}
 use Rattle.track.specs.declared.Track.{Track}
-use Rattle.track.specs.Track.{ivOk}
-use Rattle.track.specs.Track.{lawful as lawfulTrack}
-use Rattle.slots.specs.declared.share.Side.the-variants.{Encoder, Receiver}
-use Rattle.slots.specs.Share.{acceptedAt, heldAt, askedOf, trackOf, setOk}
-use Rattle.slots.specs.Share.{lawful as lawfulShare}
+use Rattle.track.specs.Track.{ivOk, lawful as lawfulTrack}
+use Rattle.slots.specs.declared.lawful.Side.the-variants.{Encoder, Receiver}
+use Rattle.share_words.specs.Share.{acceptedAt, heldAt}
+use Rattle.slots.specs.Share.{askedOf, trackOf, setOk, lawful as lawfulShare}
 use Rattle.slots.specs.Table.{Out}
 use Rattle.slots.proofs.ShareParts.{same-track}
-use Rattle.exchange.specs.Took.{Took}
-use Rattle.exchange.proofs.OpenLaws.{opened-facts, held-facts}
-use Rattle.exchange.proofs.AcceptedLaws.{accepted-lawful}
-use Rattle.exchange.proofs.KeptLaws.{kept-reference}
-use Rattle.chunk.specs.declared.outer.Prft.{Prft}
-use Rattle.chunk.specs.Front.{Event}
-use Rattle.chunk.specs.Front.{front as chunkFront}
-use Rattle.accepted.specs.Accepted.{bmdt, prft, brands, boxes, payload, fields, acceptRungs}
+use Rattle.answers.specs.Took.{Took}
+use Rattle.reference.proofs.OpenLaws.{opened-facts, held-facts}
+use Rattle.reference.proofs.AcceptedLaws.{accepted-lawful}
+use Rattle.reference.proofs.KeptLaws.{kept-reference}
+use Rattle.prft_value.specs.declared.Prft.{Prft}
+use Rattle.event_value.specs.Events.{Event}
+use Rattle.cmaf_write_front.specs.Front.{front as chunkFront}
+use Rattle.cmaf_read_chunk.specs.Accepted.{bmdt, prft, brands, boxes, payload, fields, acceptRungs}
 use Rattle.encoder.specs.Encode.{kept, encoding}
-use Rattle.accepted.proofs.ChunkFacts.{fields-bmdt}
+use Rattle.cmaf_read_chunk.proofs.ChunkFacts.{fields-bmdt}
 use Rattle.encoder.proofs.EncodeLaws.{iv-right}
 use Rattle.encoder.proofs.Theorems.{Passed, bmdt-small, set-kept, prft-kept}
 use Rattle.receiver.specs.Receive.{heldOk, sequence, chunk, accepted, done}
 use Rattle.meaning.specs.Meaning.{meaningOf, unbranded}
-use Rattle.given.specs.Given.{F, Given}
-use Rattle.given.proofs.Gives.{chunk-gives}
+use Rattle.cmaf_read_facts.specs.Given.{F, Given}
+use Rattle.cmaf_read_facts.proofs.Gives.{chunk-gives}
 use Rattle.meant.specs.BySet.{stypBy, meaningBy}
 use Rattle.meant.proofs.Means.{means-by-set}
 use Rattle.reread.specs.Read.{ReadAs}

@@ -5,10 +5,10 @@ use mathlib.Core.Bool.{Bool}
 use mathlib.Core.List.{List, _++_}
 use lib.ListN.{take}
 use Rattle.slots.specs.Table.{Out}
-use Rattle.exchange.specs.Took.{Took}
+use Rattle.answers.specs.Took.{Took}
 use Rattle.encoder.specs.Encode.{encoding}
 use Rattle.receiver.specs.Receive.{receiving}
-use Rattle.given.specs.Given.{F}
+use Rattle.cmaf_read_facts.specs.Given.{F}
 
 -- what its two calls make of a share: what each hands back, and the words of the share as they then are
 pub record Codec : Type 0 where

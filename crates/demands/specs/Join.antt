@@ -9,16 +9,17 @@ use mathlib.Core.List.{List, [], _∷_, map}
 use lib.Dec.{eqb}
 use lib.ListN.{length, take}
 use Rattle.track.specs.declared.Asked.{Asked}
-use Rattle.slots.specs.declared.share.Side.the-variants.{Receiver}
-use Rattle.slots.specs.Share.{shareLen, acceptedAt, askedOf, isOpen, opened}
-use Rattle.slots.specs.Table.{Out, out, tableLen, shareAt}
+use Rattle.slots.specs.declared.lawful.Side.the-variants.{Receiver}
+use Rattle.share_words.specs.Share.{shareLen, acceptedAt, tableLen, slotCount}
+use Rattle.slots.specs.Share.{askedOf, isOpen, opened}
+use Rattle.slots.specs.Table.{Out, out, shareAt}
 use Rattle.slots.specs.Calls.{opening, closing, grouping}
-use Rattle.exchange.specs.Took.{Took}
+use Rattle.answers.specs.Took.{Took}
 use Rattle.receiver.specs.Object.{isDelta}
 use Rattle.receiver.specs.Receive.{receiving}
 use Rattle.joining.specs.Number.{numberIn}
 use Rattle.joining.specs.Matches.{frontBytes, countOf, Matches}
-use Rattle.given.specs.Given.{F}
+use Rattle.cmaf_read_facts.specs.Given.{F}
 use Rattle.demands.specs.One.{alone}
 use Rattle.demands.specs.Three.{Call, opens, closes, groups, receives, slotOf, call, tableAfter}
 
@@ -107,7 +108,7 @@ outsAt slot (a ∷ calls) t =
 
 -- the calls on the other seven slots change nothing of it: it is what the slot's own calls give on its share, and so is what they leave
 abbrev pub OwnCalls : Type 0
-OwnCalls = (slot : ℕ) → slot < 8 → (calls : List Call) (t : List ℕ) → length t ≡ tableLen
+OwnCalls = (slot : ℕ) → slot < slotCount → (calls : List Call) (t : List ℕ) → length t ≡ tableLen
     → (outsAt slot calls t ≡ outs (receiving F) (only slot calls) (shareAt t slot))
     × (shareAt (tableAfter calls t) slot ≡ shareAfter (receiving F) (only slot calls) (shareAt t slot))
 
@@ -121,7 +122,7 @@ moved j (receives slot o room) = receives j o room
 -- any calls on the table t, a full object that slot i then accepts, and any calls after it; and beside it any table t′ where slot j is opened with the same parameters,
 -- and a run whose calls on slot j are the same from the object on. What calls there are on other slots is all one (D141)
 abbrev pub TablesJoin : Type 0
-TablesJoin = (i j : ℕ) → i < 8 → j < 8 → (t t′ : List ℕ) → length t ≡ tableLen → length t′ ≡ tableLen
+TablesJoin = (i j : ℕ) → i < slotCount → j < slotCount → (t t′ : List ℕ) → length t ≡ tableLen → length t′ ≡ tableLen
     → (before : List Call) (o room : List ℕ) (after run′ : List Call) → NoClose (only i after)
     → let u = tableAfter before t in
     let u′ = call (opens j (askedOf (shareAt u i))) t′ in

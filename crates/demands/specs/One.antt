@@ -10,19 +10,20 @@ use lib.ListN.{length, drop}
 use Rattle.laws.specs.Tests.{allLe}
 use Rattle.laws.specs.Ladder.{Rung, Given, Hold}
 use Rattle.track.specs.declared.Asked.{Asked}
-use Rattle.slots.specs.declared.share.Side.{Side}
-use Rattle.slots.specs.declared.share.Side.the-variants.{Encoder, Receiver}
-use Rattle.slots.specs.Share.{lawful, fresh, opened, dropped}
+use Rattle.slots.specs.declared.lawful.Side.{Side}
+use Rattle.slots.specs.declared.lawful.Side.the-variants.{Encoder, Receiver}
+use Rattle.slots.specs.Share.{lawful, opened}
+use Rattle.share_words.specs.Share.{fresh, dropped, slotCount}
 use Rattle.slots.specs.Table.{Out, out, itself, shareAt, putShare, tableRungs, onTable}
 use Rattle.slots.specs.Calls.{openRungs, openedRungs, opening, closing, grouping}
 use Rattle.slots.specs.Laws.{FreshLawful}
-use Rattle.exchange.specs.Took.{Took, refused, PastStays}
-use Rattle.accepted.specs.Accepted.{top}
+use Rattle.answers.specs.Took.{Took, refused, PastStays}
+use Rattle.cmaf_read_chunk.specs.Accepted.{top}
 use Rattle.encoder.specs.Encode.{encodeRungs, kept, encoding}
 use Rattle.receiver.specs.Object.{blockEnd}
 use Rattle.receiver.specs.Receive.{receiveRungs, accepted, receiving}
 use Rattle.receiver.specs.Laws.{FullForgets}
-use Rattle.given.specs.Given.{F}
+use Rattle.cmaf_read_facts.specs.Given.{F}
 
 -- ---- the five calls
 
@@ -158,10 +159,10 @@ pub record DemandOne : Type 0 where
   pub last : (a : Call) (slot : ℕ) (t : List ℕ)
       → gives a slot t .answer .payload ≡ drop (length (lentTo a) - length (gives a slot t .answer .payload)) (lentTo a)
   -- 01: "no call changes a share that it doesn't name", nor the table's length
-  pub others : (a : Call) (slot : ℕ) (t : List ℕ) (j : ℕ) → (slot ≡ j → ⊥) → j < 8 → shareAt (gives a slot t .words) j ≡ shareAt t j
+  pub others : (a : Call) (slot : ℕ) (t : List ℕ) (j : ℕ) → (slot ≡ j → ⊥) → j < slotCount → shareAt (gives a slot t .words) j ≡ shareAt t j
   pub long : (a : Call) (slot : ℕ) (t : List ℕ) → length (gives a slot t .words) ≡ length t
   -- 01: "Every call on a lawful share leaves it lawful": each share of the table, and so a lawful table stays lawful; for any bytes
-  pub stays-lawful : (a : Call) (slot : ℕ) (t : List ℕ) → allLe 255 (lentTo a) ≡ true → (j : ℕ) → j < 8 → lawful (sideOf a) (shareAt t j) ≡ true
+  pub stays-lawful : (a : Call) (slot : ℕ) (t : List ℕ) → allLe 255 (lentTo a) ≡ true → (j : ℕ) → j < slotCount → lawful (sideOf a) (shareAt t j) ≡ true
       → lawful (sideOf a) (shareAt (gives a slot t .words) j) ≡ true
   -- 01: "All zeros is fresh"
   pub fresh-lawful : FreshLawful

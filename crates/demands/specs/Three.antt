@@ -10,15 +10,16 @@ use mathlib.Core.List.{List, [], _∷_, _++_, map, flatten, List·Permᴰ}
 use mathlib.Core.Option.{some}
 use lib.ListN.{getD, replicate}
 use Rattle.track.specs.declared.Asked.{Asked}
-use Rattle.slots.specs.declared.share.Side.the-variants.{Receiver}
-use Rattle.slots.specs.Table.{Out, itself, tableLen, onTable}
+use Rattle.slots.specs.declared.lawful.Side.the-variants.{Receiver}
+use Rattle.slots.specs.Table.{Out, itself, onTable}
+use Rattle.share_words.specs.Share.{tableLen}
 use Rattle.slots.specs.Calls.{opening, closing, grouping}
-use Rattle.block.specs.Entries.{Entry}
-use Rattle.exchange.specs.Took.{Took, took, refused}
+use Rattle.locmaf_read_block.specs.Entries.{Entry}
+use Rattle.answers.specs.Took.{Took, took, refused}
 use Rattle.receiver.specs.Object.{headerReads, blockReads, tuples}
 use Rattle.receiver.specs.Parts.{Parts}
 use Rattle.receiver.specs.Receive.{receiving}
-use Rattle.given.specs.Given.{F}
+use Rattle.cmaf_read_facts.specs.Given.{F}
 use Rattle.demands.specs.One.{alone}
 
 -- ---- "Take any calls"

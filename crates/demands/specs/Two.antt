@@ -11,19 +11,20 @@ use lib.ListN.{length, take, drop, replicate}
 use Rattle.laws.specs.Tests.{allLe}
 use Rattle.laws.specs.Ladder.{Rung, _else_, Hold}
 use Rattle.track.specs.declared.Asked.{Asked}
-use Rattle.slots.specs.declared.share.Side.{Side}
-use Rattle.slots.specs.declared.share.Side.the-variants.{Encoder, Receiver}
-use Rattle.slots.specs.Share.{acceptedAt, heldAt, shareLen, trackOf, lawful}
-use Rattle.slots.specs.Table.{Out, tableLen, shareAt, itself}
+use Rattle.slots.specs.declared.lawful.Side.{Side}
+use Rattle.slots.specs.declared.lawful.Side.the-variants.{Encoder, Receiver}
+use Rattle.share_words.specs.Share.{acceptedAt, heldAt, shareLen, tableLen, slotCount}
+use Rattle.slots.specs.Share.{trackOf, lawful}
+use Rattle.slots.specs.Table.{Out, shareAt, itself}
 use Rattle.slots.specs.Calls.{openedRungs, opening, grouping}
 use Rattle.slots.specs.Laws.{after}
-use Rattle.exchange.specs.Took.{Took}
-use Rattle.accepted.specs.Accepted.{acceptRungs, payload}
+use Rattle.answers.specs.Took.{Took}
+use Rattle.cmaf_read_chunk.specs.Accepted.{acceptRungs, payload}
 use Rattle.encoder.specs.Object.{givesDelta, fitsOk, front}
 use Rattle.encoder.specs.Encode.{kept}
 use Rattle.receiver.specs.Receive.{receiving, chunk}
 use Rattle.meaning.specs.Meaning.{Meaning, meaningOf, unbranded}
-use Rattle.given.specs.Given.{F}
+use Rattle.cmaf_read_facts.specs.Given.{F}
 use Rattle.demands.specs.Codec.{Codec, gave}
 
 -- ---- what the rules define
@@ -173,4 +174,4 @@ openedAt side a slot = shareAt (after itself (opening side a) slot (replicate ta
 
 -- any slot of an encoder's fresh table and any of a receiver's, opened with the same parameters: any calls
 abbrev pub DemandTwoFresh : Codec → Type 0
-DemandTwoFresh C = (a : Asked) (i j : ℕ) → i < 8 → j < 8 → (calls : List Call) → AllMet C false calls (openedAt Encoder a i) (openedAt Receiver a j)
+DemandTwoFresh C = (a : Asked) (i j : ℕ) → i < slotCount → j < slotCount → (calls : List Call) → AllMet C false calls (openedAt Encoder a i) (openedAt Receiver a j)

@@ -8,22 +8,24 @@ use lib.ListN.{length, drop}
 use Rattle.laws.specs.Writes.{Wrote}
 use Rattle.laws.proofs.WriteLaws.{wrote-as}
 use Rattle.wire.specs.declared.form.Row.{Row}
-use Rattle.block.specs.Entries.{isSome}
+use Rattle.laws.specs.Options.{isSome}
+use Rattle.constants.specs.Maxima.{brandBytesMost, eventBytesMost}
 use Rattle.track.specs.declared.Track.{Track}
-use Rattle.slots.specs.Share.{setAt, trackOf}
-use Rattle.chunk.specs.declared.outer.Prft.{Prft}
-use Rattle.exchange.proofs.OpenLaws.{lent}
-use Rattle.accepted.specs.declared.read.Chunk.{Chunk}
-use Rattle.accepted.specs.Accepted.{prft, brands, events, fields}
-use Rattle.writing.specs.declared.tuples.Weight.{Weight}
-use Rattle.writing.specs.declared.cells.Basis.{Basis}
-use Rattle.writing.specs.Items.{Items, _before_, bytesOf, WeighedAs}
-use Rattle.writing.specs.Changes.{basisOf}
-use Rattle.writing.specs.Fields.{fieldItems, deletionItems}
-use Rattle.writing.specs.Prft.{timesItems, versionItems, flagsItems}
-use Rattle.writing.proofs.ItemLaws.{weighed-both, weighed-within}
-use Rattle.writing.proofs.PutLaws.{Left, left-start, left-first, left-next, put-needs}
-use Rattle.writing.proofs.SetLaws.{Sum}
+use Rattle.share_words.specs.Share.{setAt}
+use Rattle.slots.specs.Share.{trackOf}
+use Rattle.prft_value.specs.declared.Prft.{Prft}
+use Rattle.reference.proofs.OpenLaws.{lent}
+use Rattle.cmaf_read_chunk.specs.declared.read.Chunk.{Chunk}
+use Rattle.cmaf_read_chunk.specs.Accepted.{prft, brands, events, fields}
+use Rattle.locmaf_write_tuples.specs.declared.tuples.Weight.{Weight}
+use Rattle.locmaf_write_block.specs.declared.cells.Basis.{Basis}
+use Rattle.locmaf_write_tuples.specs.Items.{Items, _before_, bytesOf, pairMost, weightMost, WeighedAs}
+use Rattle.locmaf_write_block.specs.Changes.{basisOf}
+use Rattle.locmaf_write_block.specs.Fields.{fieldItems, deletionItems, setMost, goneMost}
+use Rattle.locmaf_write_prft.specs.Prft.{timesItems, versionItems, flagsItems}
+use Rattle.locmaf_write_tuples.proofs.ItemLaws.{weighed-both, weighed-within}
+use Rattle.locmaf_write_tuples.proofs.PutLaws.{Left, left-start, left-first, left-next, put-needs}
+use Rattle.locmaf_write_block.proofs.SetLaws.{Sum}
 use Rattle.encoder.specs.Object.{brandItems, eventItems, blockItems}
 use Rattle.encoder.specs.Planned.{Encodable}
 use Rattle.encoder.proofs.GivenLaws.{prft-is, same-sets}
@@ -67,20 +69,20 @@ module _ {F : List Row} {t : Track} {s c : List ℕ} {k : Chunk} {ws x : List �
   events-is = ap (λ (u : Track). eventItems F (events u c)) (h .on-share .track-is)
 
   -- all were weighed
-  pub block-weighed : {p q r n f a g : Weight} → WeighedAs F (fieldItems F t (b .delta) (lent s) x) 26864 p
-      → WeighedAs F (timesItems F delta s (k .prft)) 32 q → WeighedAs F (versionItems F delta s (k .prft)) 16 r
-      → WeighedAs F (brandItems delta (brands c)) 80 n → WeighedAs F (flagsItems F delta s (k .prft)) 16 f
-      → WeighedAs F (eventItems F (events t c)) 4112 a → WeighedAs F (deletionItems F t (b .delta) (lent s) x) 128 g
+  pub block-weighed : {p q r n f a g : Weight} → WeighedAs F (fieldItems F t (b .delta) (lent s) x) setMost p
+      → WeighedAs F (timesItems F delta s (k .prft)) (pairMost + pairMost) q → WeighedAs F (versionItems F delta s (k .prft)) pairMost r
+      → WeighedAs F (brandItems delta (brands c)) (pairMost + brandBytesMost) n → WeighedAs F (flagsItems F delta s (k .prft)) pairMost f
+      → WeighedAs F (eventItems F (events t c)) (pairMost + eventBytesMost) a → WeighedAs F (deletionItems F t (b .delta) (lent s) x) goneMost g
       → (u v w y z o : Weight) → Sum a g u → Sum f u v → Sum n v w → Sum r w y → Sum q y z → Sum p z o
-      → WeighedAs F (blockItems F s c delta) 40000 o
+      → WeighedAs F (blockItems F s c delta) weightMost o
   unfolding blockItems
   block-weighed wp wq wr wn wf wa wg u v w y z o i₁ i₂ i₃ i₄ i₅ i₆ =
-      let p : WeighedAs F (setPart F s c delta) 26864 _ = rw set-is at wp in
-      let q : WeighedAs F (timesItems F delta s (prft c)) 32 _ = rw (prft-is h) at wq in
-      let r : WeighedAs F (versionItems F delta s (prft c)) 16 _ = rw (prft-is h) at wr in
-      let f : WeighedAs F (flagsItems F delta s (prft c)) 16 _ = rw (prft-is h) at wf in
-      let a : WeighedAs F (eventItems F (events (trackOf s) c)) 4112 _ = rw events-is at wa in
-      let g : WeighedAs F (gonePart F s c delta) 128 _ = rw gone-is at wg in
+      let p : WeighedAs F (setPart F s c delta) setMost _ = rw set-is at wp in
+      let q : WeighedAs F (timesItems F delta s (prft c)) (pairMost + pairMost) _ = rw (prft-is h) at wq in
+      let r : WeighedAs F (versionItems F delta s (prft c)) pairMost _ = rw (prft-is h) at wr in
+      let f : WeighedAs F (flagsItems F delta s (prft c)) pairMost _ = rw (prft-is h) at wf in
+      let a : WeighedAs F (eventItems F (events (trackOf s) c)) (pairMost + eventBytesMost) _ = rw events-is at wa in
+      let g : WeighedAs F (gonePart F s c delta) goneMost _ = rw gone-is at wg in
       let late = weighed-both r (weighed-both wn (weighed-both f (weighed-both a g i₁) i₂) i₃) i₄ in
       weighed-within (omega arith) (weighed-both p (weighed-both q late i₅) i₆)
 

@@ -10,6 +10,7 @@ use borrow.Author.Tests.{leb-true}
 use lib.Dec.{eqb}
 use lib.ListN.{length, getD, take, length-append, length-take, length-drop}
 use lib.Seq.{slice}
+use Rattle.constants.specs.Maxima.{samplesMost, subsamplesMost}
 use Rattle.laws.specs.Tests.{sum}
 use Rattle.laws.proofs.TestLaws.{left, right}
 use Rattle.wire.specs.declared.form.Row.{Row}
@@ -22,26 +23,25 @@ use Rattle.wire.specs.Varint.{encode}
 use Rattle.wire.specs.Zigzag.{codeOf}
 use Rattle.wire.proofs.SizeLaws.{encode-size, size-longest}
 use Rattle.runs.specs.declared.Measured.{Measured}
-use Rattle.runs.specs.declared.Measured.the-variants.{Bytes}
-use Rattle.runs.specs.declared.Measured.the-variants.{TooWide as TooMany}
+use Rattle.runs.specs.declared.Measured.the-variants.{Bytes, TooWide as TooMany}
 use Rattle.runs.specs.Run.{first, runOf, measured}
-use Rattle.block.specs.Written.{Item, run, encItem, encBlock}
-use Rattle.block.specs.Events.{Event, encText, encEvent, encEvents}
+use Rattle.block_items.specs.Items.{Item, run, encItem, encBlock}
+use Rattle.block_items.specs.Events.{Event, encText, encEvent, encEvents}
 use Rattle.track.specs.declared.Track.{Track}
-use Rattle.chunk.specs.declared.outer.Prft.{Prft}
-use Rattle.fieldset.specs.declared.lines.Line.{Line}
-use Rattle.fieldset.specs.Lines.{lines, wanted, countAt, absentValue}
-use Rattle.fieldset.specs.Lawful.{valuesOf, measureOf, lawful}
-use Rattle.fields.specs.Cells.{codingFor, codingOf, isIvs}
-use Rattle.emsgs.specs.Records.{textBytes, recordBytes, listBytes, timesFit}
-use Rattle.writing.specs.declared.cells.Change.{Change}
-use Rattle.writing.specs.declared.cells.Change.the-variants.{Omitted, Deleted, Sent}
-use Rattle.writing.specs.Items.{Items, nothing, _before_, itemsIf, numberItem, onMeasured, runItem, wideBytes, bytesOf}
-use Rattle.writing.specs.Changes.{chunkLines, onChange, news, olds, changeOf, sentItems, lineItems}
-use Rattle.writing.specs.Fields.{isDeleted, goneOf, linesItems, bmdtItems, countItems, fieldItems, deletionItems}
-use Rattle.writing.specs.Prft.{timesItems, unlessItems, versionItems, flagsItems}
-use Rattle.writing.proofs.WideLaws.{wide-length}
-use Rattle.writing.proofs.TupleLaws.{run-most as numbers-most}
+use Rattle.prft_value.specs.declared.Prft.{Prft}
+use Rattle.field_table.specs.declared.lines.Line.{Line}
+use Rattle.field_table.specs.Lines.{lines, lineCount, wanted, countAt, absentValue}
+use Rattle.field_set.specs.Lawful.{valuesOf, measureOf, lawful}
+use Rattle.field_rules.specs.Fields.{codingFor, codingOf, isIvs}
+use Rattle.locmaf_write_events.specs.Records.{textBytes, recordBytes, listBytes, timesFit}
+use Rattle.locmaf_write_block.specs.declared.cells.Change.{Change}
+use Rattle.locmaf_write_block.specs.declared.cells.Change.the-variants.{Omitted, Deleted, Sent}
+use Rattle.locmaf_write_tuples.specs.Items.{Items, nothing, _before_, itemsIf, numberItem, onMeasured, runItem, wideBytes, bytesOf, pairMost}
+use Rattle.locmaf_write_block.specs.Changes.{chunkLines, onChange, news, olds, changeOf, sentItems, lineItems, lineMost}
+use Rattle.locmaf_write_block.specs.Fields.{isDeleted, goneOf, beforeBmdt, beforeCount, linesItems, bmdtItems, countItems, fieldItems, deletionItems, goneMost}
+use Rattle.locmaf_write_prft.specs.Prft.{timesItems, unlessItems, versionItems, flagsItems}
+use Rattle.locmaf_write_block.proofs.WideLaws.{wide-length}
+use Rattle.locmaf_write_tuples.proofs.TupleLaws.{run-most as numbers-most}
 use Rattle.encoder.specs.Object.{brandItems, eventItems}
 
 -- ---- items
@@ -71,7 +71,7 @@ module _ (F : List Row) (eight : longest F ≤ 8) where
   if-most n true is h = h
   if-most n false is h = zero-le
 
-  number-most : (id : ℕ) (c : Coded) → Most F 16 (numberItem id c)
+  number-most : (id : ℕ) (c : Coded) → Most F pairMost (numberItem id c)
   unfolding numberItem encBlock encItem
   number-most id (Number z) =
       omega (arith, length-append (encode F id ++ encode F z) [], length-append (encode F id) (encode F z), varint-most id, varint-most z)
@@ -83,10 +83,10 @@ module _ (F : List Row) (eight : longest F ≤ 8) where
   either n false true u v w p q s = q
   either n false false u v w p q s = s
 
-  wider : (n : ℕ) (is : Items) → Most F 16 is → Most F (16 + n) is
+  wider : (n : ℕ) (is : Items) → Most F pairMost is → Most F (pairMost + n) is
   wider n is h = omega arith
 
-  bytes-most : (n id : ℕ) (bs : List ℕ) → length bs ≤ n → Most F (16 + n) (some (run id bs ∷ []))
+  bytes-most : (n id : ℕ) (bs : List ℕ) → length bs ≤ n → Most F (pairMost + n) (some (run id bs ∷ []))
   unfolding encBlock encItem
   bytes-most n id bs h =
       omega (
@@ -100,11 +100,11 @@ module _ (F : List Row) (eight : longest F ≤ 8) where
 
   -- ---- lists of numbers
 
-  run-most : (coding : Coding) (n id base : ℕ) (old new : List ℕ) → length new ≤ n → Most F (16 + 8 * n) (runItem F coding id base old new)
+  run-most : (coding : Coding) (n id base : ℕ) (old new : List ℕ) → length new ≤ n → Most F (pairMost + 8 * n) (runItem F coding id base old new)
   unfolding runItem encBlock
   run-most coding n id base old new h = go (measured F coding base old new)
     where
-      go : (k : Measured) → Most F (16 + 8 * n) (onMeasured k (some (run id (runOf F coding base old new) ∷ [])))
+      go : (k : Measured) → Most F (pairMost + 8 * n) (onMeasured k (some (run id (runOf F coding base old new) ∷ [])))
       go (Bytes j) = bytes-most (8 * n) id (runOf F coding base old new) (omega (arith, numbers-most F eight coding base old new))
       go TooMany = zero-le
 
@@ -119,22 +119,22 @@ module _ (F : List Row) (eight : longest F ≤ 8) where
           length-take (l .place + 1 + wanted (l .want) (measureOf t x)) x,
         )
 
-    sent-most : (l : Line) → wanted (l .want) (measureOf t x) ≤ l .room → Most F (16 + 8 * l .room) (sentItems t delta r x l F)
+    sent-most : (l : Line) → wanted (l .want) (measureOf t x) ≤ l .room → Most F (pairMost + 8 * l .room) (sentItems t delta r x l F)
     unfolding sentItems
     sent-most l h =
         let n : length (news t delta r x l) ≤ l .room = omega (arith, news-length l) in
         let coded : Coded =
         codeOf F (codingOf (codingFor delta) (l .absent)) (first (absentValue t (l .absent)) (olds t delta r x l)) (first 0 (news t delta r x l)) in
-        either (16 + 8 * l .room) (isIvs (l .want)) (eqb (l .room) 1) _ _ _
+        either (pairMost + 8 * l .room) (isIvs (l .want)) (eqb (l .room) 1) _ _ _
         (bytes-most (8 * l .room) (l .id) (wideBytes (news t delta r x l)) (omega (arith, wide-length (news t delta r x l))))
         (wider (8 * l .room) (numberItem (l .id) coded) (number-most (l .id) coded))
         (run-most (codingOf (codingFor delta) (l .absent)) (l .room) (l .id) (absentValue t (l .absent)) (olds t delta r x l) (news t delta r x l) n)
 
-    line-most : (l : Line) → wanted (l .want) (measureOf t x) ≤ l .room → Most F (16 + 8 * l .room) (lineItems t delta r x l F)
+    line-most : (l : Line) → wanted (l .want) (measureOf t x) ≤ l .room → Most F (pairMost + 8 * l .room) (lineItems t delta r x l F)
     unfolding lineItems encBlock
     line-most l h = go (changeOf t delta r x l)
       where
-        go : (ch : Change) → Most F (16 + 8 * l .room) (onChange ch (sentItems t delta r x l F) nothing)
+        go : (ch : Change) → Most F (pairMost + 8 * l .room) (onChange ch (sentItems t delta r x l F) nothing)
         go Omitted = zero-le
         go Deleted = zero-le
         go Sent = sent-most l h
@@ -148,13 +148,13 @@ module _ (F : List Row) (eight : longest F ≤ 8) where
 
     abbrev mostOf : List Line → ℕ
     mostOf [] = 0
-    mostOf (l ∷ ls) = 16 + 8 * l .room + mostOf ls
+    mostOf (l ∷ ls) = pairMost + 8 * l .room + mostOf ls
 
     lines-most : (ls : List Line) → Roomy ls → Most F (mostOf ls) (linesItems F t delta r x ls)
     unfolding linesItems encBlock
     lines-most [] h = zero-le
     lines-most (l ∷ ls) h =
-        before-most (16 + 8 * l .room) (mostOf ls) (lineItems t delta r x l F) (linesItems F t delta r x ls) (line-most l (h .0)) (lines-most ls (h .1))
+        before-most (pairMost + 8 * l .room) (mostOf ls) (lineItems t delta r x l F) (linesItems F t delta r x ls) (line-most l (h .0)) (lines-most ls (h .1))
 
     gone-length : (ls : List Line) → length (goneOf t delta r x ls) ≤ length ls
     unfolding goneOf
@@ -168,18 +168,18 @@ module _ (F : List Row) (eight : longest F ≤ 8) where
 
     -- ids 1 to 15, and id 27
     module _ (good : lawful t x ≡ true) (iv : t .«iv_size» ≤ 16) where
-      few : getD x countAt 0 ≤ 64
+      few : getD x countAt 0 ≤ samplesMost
       unfolding lawful
       few = leb-true _ _ (left _ _ good)
 
-      sums : sum (valuesOf 11 (getD x countAt 0) x) ≤ 256
+      sums : sum (valuesOf 11 (getD x countAt 0) x) ≤ subsamplesMost
       unfolding lawful
       sums = leb-true _ _ (left _ _ (right _ _ (right _ _ (right _ _ good))))
 
       ivs : getD x countAt 0 * (t .«iv_size» / 8) ≤ 128
       ivs = let w : t .«iv_size» / 8 ≤ 2 = omega arith in omega (arith, mul-le-mul few w)
 
-      low : Roomy (slice 0 9 lines)
+      low : Roomy (slice 0 beforeBmdt lines)
       unfolding lines wanted
       low =
           let n = few in
@@ -188,46 +188,46 @@ module _ (F : List Row) (eight : longest F ≤ 8) where
             (omega arith, (omega arith, (omega arith, (omega arith, (omega arith, (omega arith, (omega arith, (omega (arith, k), tt)))))))),
           )
 
-      middle : Roomy (slice 9 12 lines)
+      middle : Roomy (slice beforeBmdt beforeCount lines)
       unfolding lines wanted
       middle = let n = few in let k = sums in (omega (arith, n), (omega arith, (omega (arith, k), tt)))
 
-      high : Roomy (slice 12 chunkLines lines)
+      high : Roomy (slice beforeCount chunkLines lines)
       unfolding lines wanted
       high = let k = sums in (omega (arith, k), tt)
 
       pub fields-most : Most F 7952 (fieldItems F t delta r x)
       unfolding fieldItems bmdtItems countItems lines
       fields-most =
-          before-most 3240 4712 _ _ (lines-most (slice 0 9 lines) low)
-          (before-most 16 4696 _ _ (if-most 16 _ _ (number-most 10 _))
-          (before-most 2616 2080 _ _ (lines-most (slice 9 12 lines) middle)
-          (before-most 16 2064 _ _ (if-most 16 _ _ (number-most 14 _)) (lines-most (slice 12 chunkLines lines) high))))
+          before-most 3240 4712 _ _ (lines-most (slice 0 beforeBmdt lines) low)
+          (before-most pairMost 4696 _ _ (if-most pairMost _ _ (number-most 10 _))
+          (before-most 2616 2080 _ _ (lines-most (slice beforeBmdt beforeCount lines) middle)
+          (before-most pairMost lineMost _ _ (if-most pairMost _ _ (number-most 14 _)) (lines-most (slice beforeCount chunkLines lines) high))))
 
-    pub deletions-most : Most F 128 (deletionItems F t delta r x)
+    pub deletions-most : Most F goneMost (deletionItems F t delta r x)
     unfolding deletionItems lines
-    deletions-most = if-most 128 _ _ (run-most Plain 14 27 0 [] (goneOf t delta r x lines) (gone-length lines))
+    deletions-most = if-most goneMost _ _ (run-most Plain lineCount 27 0 [] (goneOf t delta r x lines) (gone-length lines))
 
   -- ---- the `prft`
 
   module _ (delta : Bool) (s : List ℕ) (p : Prft) where
-    pub times-most : Most F 32 (timesItems F delta s p)
+    pub times-most : Most F (pairMost + pairMost) (timesItems F delta s p)
     unfolding timesItems
-    times-most = before-most 16 16 _ _ (if-most 16 _ _ (number-most 18 _)) (if-most 16 _ _ (number-most 20 _))
+    times-most = before-most pairMost pairMost _ _ (if-most pairMost _ _ (number-most 18 _)) (if-most pairMost _ _ (number-most 20 _))
 
-    pub version-most : Most F 16 (versionItems F delta s p)
+    pub version-most : Most F pairMost (versionItems F delta s p)
     unfolding versionItems unlessItems
-    version-most = if-most 16 _ _ (number-most 22 _)
+    version-most = if-most pairMost _ _ (number-most 22 _)
 
-    pub flags-most : Most F 16 (flagsItems F delta s p)
+    pub flags-most : Most F pairMost (flagsItems F delta s p)
     unfolding flagsItems unlessItems
-    flags-most = if-most 16 _ _ (number-most 24 _)
+    flags-most = if-most pairMost _ _ (number-most 24 _)
 
   -- ---- brands and events
 
-  pub brands-most : (n : ℕ) (delta : Bool) (names : List ℕ) → length names ≤ n → Most F (16 + n) (brandItems delta names)
+  pub brands-most : (n : ℕ) (delta : Bool) (names : List ℕ) → length names ≤ n → Most F (pairMost + n) (brandItems delta names)
   unfolding brandItems
-  brands-most n delta names h = if-most (16 + n) _ _ (bytes-most n 23 names h)
+  brands-most n delta names h = if-most (pairMost + n) _ _ (bytes-most n 23 names h)
 
   text-bytes : (bs : List ℕ) → length (encText F bs) ≤ textBytes F (length bs)
   unfolding encText textBytes
@@ -264,11 +264,11 @@ module _ (F : List Row) (eight : longest F ≤ 8) where
   list-bytes [] = zero-le
   list-bytes (e ∷ es) = omega (arith, length-append (encEvent F e) (encEvents F es), event-bytes e, list-bytes es)
 
-  pub events-most : (n : ℕ) (es : List Event) → listBytes F es ≤ n → Most F (16 + n) (eventItems F es)
+  pub events-most : (n : ℕ) (es : List Event) → listBytes F es ≤ n → Most F (pairMost + n) (eventItems F es)
   unfolding eventItems encBlock
   events-most n [] h = zero-le
   events-most n (e ∷ es) h = go (timesFit F (e ∷ es))
     where
-      go : (b : Bool) → Most F (16 + n) (cond b (some (run 25 (encEvents F (e ∷ es)) ∷ [])) none)
+      go : (b : Bool) → Most F (pairMost + n) (cond b (some (run 25 (encEvents F (e ∷ es)) ∷ [])) none)
       go true = bytes-most n 25 (encEvents F (e ∷ es)) (omega (arith, list-bytes (e ∷ es)))
       go false = zero-le

@@ -10,6 +10,7 @@ use borrow.Author.Tests.{eqb-true, eqb-false, ne-eqb}
 use lib.Dec.{eqb}
 use lib.ListN.{length, take, drop, length-append}
 use lib.Seq.{slice, length-slice}
+use Rattle.constants.specs.Maxima.{brandBytesMost}
 use Rattle.laws.proofs.SliceLaws.{slice-none, take-slice, drop-slice, slice-lent}
 use Rattle.laws.proofs.PartLaws.{joined}
 use Rattle.wire.specs.declared.form.Row.{Row}
@@ -17,14 +18,14 @@ use Rattle.wire.specs.declared.form.Form.{Form}
 use Rattle.wire.specs.Form.{rows, limit}
 use Rattle.wire.specs.Varint.{encode, sizeOf}
 use Rattle.wire.proofs.SizeLaws.{limit-62}
-use Rattle.block.specs.Written.{run}
+use Rattle.block_items.specs.Items.{run}
 use Rattle.track.specs.declared.Track.{Track}
-use Rattle.shape.specs.declared.parts.Part.{Part}
-use Rattle.accepted.specs.declared.read.Chunk.{Chunk}
-use Rattle.accepted.specs.Accepted.{bytesAt, brandsOf, brands}
-use Rattle.writing.specs.declared.tuples.Weight.{Weight}
-use Rattle.writing.specs.Items.{nothing, itemsIf, bytesOf, WeighedAs}
-use Rattle.writing.proofs.ItemLaws.{run-parts, block-one, run-length}
+use Rattle.byte_parts.specs.declared.Part.{Part}
+use Rattle.cmaf_read_chunk.specs.declared.read.Chunk.{Chunk}
+use Rattle.cmaf_read_chunk.specs.Accepted.{bytesAt, brandsOf, brands}
+use Rattle.locmaf_write_tuples.specs.declared.tuples.Weight.{Weight}
+use Rattle.locmaf_write_tuples.specs.Items.{nothing, itemsIf, bytesOf, pairMost, WeighedAs}
+use Rattle.locmaf_write_tuples.proofs.ItemLaws.{run-parts, block-one, run-length}
 use Rattle.encoder.specs.Object.{brandItems}
 use Rattle.encoder.specs.Planned.{Encodable}
 use Rattle.encoder.proofs.GivenLaws.{brands-is, brands-inside}
@@ -106,7 +107,7 @@ module _ (form : Form) {t : Track} {s c : List ℕ} {k : Chunk} {ws x : List ℕ
 
     -- their weight
     pub brands-weighed : {m : ℕ} {w : Weight} → (m ≡ sizeOf (rows form) 23 + (sizeOf (rows form) (n - 4) + (n - 4))) × (m ≤ 16 + (n - 4))
-        → (w .fits ≡ true) × (w .bytes ≡ m) → WeighedAs (rows form) (brandItems delta (brands c)) 80 w
+        → (w .fits ≡ true) × (w .bytes ≡ m) → WeighedAs (rows form) (brandItems delta (brands c)) (pairMost + brandBytesMost) w
     brands-weighed {m} {w} f g =
         let p : 23 < limit (rows form) = omega (arith, limit-62 form) in
         let q : length (brands c) < limit (rows form) = omega (arith, limit-62 form, names-length, h .brands-few) in

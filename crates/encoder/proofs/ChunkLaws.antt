@@ -1,5 +1,5 @@
 -- What is known of a chunk that was accepted, as the encoder asks it. Assumes nothing.
-use Prim.Native.Nat.{ℕ, _-_, _^_, _≤_}
+use Prim.Native.Nat.{ℕ, _-_, _^_, _≤_, _+_}
 use native.Mathlib.Omega.{arith}
 use mathlib.Core.Path.{_≡_, refl, subst}
 use mathlib.Core.Logic.{_⊎_, inl, inr}
@@ -8,6 +8,7 @@ use mathlib.Core.List.{List}
 use borrow.Author.Tests.{eqb-true, eqb-false, eq-eqb}
 use lib.Dec.{eqb}
 use lib.ListN.{take, drop}
+use Rattle.constants.specs.Maxima.{brandBytesMost}
 use Rattle.laws.specs.Tests.{allLe}
 use Rattle.laws.specs.Ladder.{Hold}
 use Rattle.laws.proofs.LadderLaws.{Numbered}
@@ -15,17 +16,17 @@ use Rattle.laws.proofs.SliceLaws.{slice-lent}
 use Rattle.laws.proofs.BytesLaws.{bytes-are}
 use Rattle.wire.specs.declared.form.Row.{Row}
 use Rattle.track.specs.declared.Track.{Track}
-use Rattle.shape.specs.declared.parts.Part.{Part}
-use Rattle.shape.specs.Parts.{bodyOf, endOf}
-use Rattle.chunk.specs.declared.outer.Prft.{Prft}
-use Rattle.prelude.specs.Prft.{prftOf}
-use Rattle.prelude.proofs.PrftLaws.{prft-headed, prft-lacks, prft-ranges}
-use Rattle.exchange.proofs.AcceptedLaws.{Ranged}
-use Rattle.accepted.specs.Accepted.{top, prft, payload, lateRungs, acceptRungs}
-use Rattle.accepted.proofs.BoxLaws.{boxes-in}
-use Rattle.accepted.proofs.BrandLaws.{StypBytes, styp-body}
-use Rattle.accepted.proofs.LawfulSet.{boxes-held, counts-held}
-use Rattle.accepted.proofs.ChunkFacts.{payload-in}
+use Rattle.byte_parts.specs.declared.Part.{Part}
+use Rattle.cmaf_read_shape.specs.Parts.{bodyOf, endOf}
+use Rattle.prft_value.specs.declared.Prft.{Prft}
+use Rattle.cmaf_read_prelude.specs.Prft.{prftOf}
+use Rattle.cmaf_read_prelude.proofs.PrftLaws.{prft-headed, prft-lacks, prft-ranges}
+use Rattle.prft_value.specs.Prft.{InRange}
+use Rattle.cmaf_read_chunk.specs.Accepted.{top, prft, payload, lateRungs, acceptRungs}
+use Rattle.cmaf_read_boxes.proofs.BoxLaws.{boxes-in}
+use Rattle.cmaf_read_chunk.proofs.BrandLaws.{StypBytes, styp-body}
+use Rattle.cmaf_read_chunk.proofs.LawfulSet.{boxes-held, counts-held}
+use Rattle.cmaf_read_chunk.proofs.ChunkFacts.{payload-in}
 
 -- none of the rungs refuses with 0
 pub accept-numbered : (F : List Row) (t : Track) (c : List ℕ) → Numbered (acceptRungs F t c)
@@ -41,16 +42,16 @@ version-or v m h k = go (eqb v 0) refl
     go false q = let n : v ≡ 0 → ⊥ = eqb-false v 0 q in inl (omega arith)
 
 module _ (F : List Row) (t : Track) (c : List ℕ) (h : Hold (acceptRungs F t c)) where
-  -- what stands in its `styp`: nothing, or a brand and a version at least, and at most 68 bytes
-  pub brands-sized : ((bodyOf (top c .styp) .len ≡ 0 → ⊥) → 8 ≤ bodyOf (top c .styp) .len) × (bodyOf (top c .styp) .len ≤ 68)
+  -- what stands in its `styp`: nothing, or a brand and a version at least, and at most 16 brands and a version
+  pub brands-sized : ((bodyOf (top c .styp) .len ≡ 0 → ⊥) → 8 ≤ bodyOf (top c .styp) .len) × (bodyOf (top c .styp) .len ≤ brandBytesMost + 4)
   brands-sized = go (styp-body (top c .styp) (boxes-held F t c h .styp-ok) (counts-held F t c h .brands))
     where
-      go : {n : ℕ} → StypBytes n → ((n ≡ 0 → ⊥) → 8 ≤ n) × (n ≤ 68)
+      go : {n : ℕ} → StypBytes n → ((n ≡ 0 → ⊥) → 8 ≤ n) × (n ≤ brandBytesMost + 4)
       go (inl e) = ((λ z. absurd (z e)), omega arith)
       go (inr (a, (l, m))) = ((λ z. a), l)
 
   -- its `prft` keeps its ranges, where its times fit
-  pub prft-ranged : allLe 255 c ≡ true → (prft c .stands ≡ true → (prft c .ntp .0 ≤ 2 ^ 62 - 1) × (prft c .media .0 ≤ 2 ^ 62 - 1)) → Ranged (prft c)
+  pub prft-ranged : allLe 255 c ≡ true → (prft c .stands ≡ true → (prft c .ntp .0 ≤ 2 ^ 62 - 1) × (prft c .media .0 ≤ 2 ^ 62 - 1)) → InRange (prft c)
   unfolding prft
   prft-ranged low fit =
       let b : Part = top c .prft in

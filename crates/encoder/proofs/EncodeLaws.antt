@@ -1,36 +1,35 @@
 -- What each return of a call on a share shows. Assumes nothing.
-use Prim.Native.Nat.{ℕ, _-_, _^_, _≤_, _<_}
+use Prim.Native.Nat.{ℕ, _-_, _≤_, _<_}
 use native.Mathlib.Omega.{arith}
 use mathlib.Core.Path.{_≡_, refl, sym, _∙_, ap, subst}
 use mathlib.Core.Bool.{Bool, true, false}
 use mathlib.Core.List.{List}
 use borrow.Author.Tests.{lt-leb}
 use lib.ListN.{length, getD}
+use Rattle.constants.specs.Maxima.{numberMost}
 use Rattle.laws.specs.Tests.{_and_, allLe}
 use Rattle.laws.specs.Ladder.{ladder, Hold}
 use Rattle.laws.proofs.LadderLaws.{broken, passed, all-hold, climbed-on, stopped-on}
 use Rattle.laws.proofs.TestLaws.{right}
 use Rattle.wire.specs.declared.form.Row.{Row}
 use Rattle.track.specs.declared.Track.{Track}
-use Rattle.track.specs.Track.{ivOk}
-use Rattle.track.specs.Track.{lawful as lawfulTrack}
+use Rattle.track.specs.Track.{ivOk, lawful as lawfulTrack}
 use Rattle.track.proofs.TrackLaws.{ranges}
-use Rattle.fieldset.specs.Lines.{bmdtAt}
-use Rattle.fieldset.specs.Lawful.{lawful as lawfulSet}
-use Rattle.slots.specs.declared.share.Side.the-variants.{Encoder}
-use Rattle.slots.specs.Share.{shareLen, trackAt, askedOf, trackOf, lawful}
-use Rattle.slots.specs.Table.{Out}
+use Rattle.field_table.specs.Lines.{bmdtAt}
+use Rattle.field_set.specs.Lawful.{lawful as lawfulSet}
+use Rattle.slots.specs.declared.lawful.Side.the-variants.{Encoder}
+use Rattle.share_words.specs.Share.{shareLen, trackAt}
+use Rattle.slots.specs.Share.{askedOf, trackOf, lawful}
 use Rattle.slots.proofs.CallLaws.{shut, ajar}
-use Rattle.exchange.specs.Took.{Took}
-use Rattle.exchange.proofs.OpenLaws.{opened-facts}
-use Rattle.accepted.specs.declared.read.Chunk.{Chunk}
-use Rattle.accepted.specs.Accepted.{bmdt, acceptRungs}
-use Rattle.accepted.specs.Chunks.{ReadAs, Accepted}
-use Rattle.accepted.proofs.LawfulSet.{chunk-lawful}
+use Rattle.reference.proofs.OpenLaws.{opened-facts}
+use Rattle.cmaf_read_chunk.specs.declared.read.Chunk.{Chunk}
+use Rattle.cmaf_read_chunk.specs.Accepted.{bmdt, acceptRungs}
+use Rattle.cmaf_read_chunk.specs.Chunks.{ReadAs, Accepted}
+use Rattle.cmaf_read_chunk.proofs.LawfulSet.{chunk-lawful}
 use Rattle.encoder.specs.Object.{fitsOk}
-use Rattle.encoder.specs.Encode.{refusing, lastRungs, chunkRungs, encodeRungs, done, encoding}
+use Rattle.encoder.specs.Encode.{refusing, lastRungs, chunkRungs, encodeRungs, done, encoding, onOpen, onAccepted}
 use Rattle.encoder.specs.Planned.{OnShare, Encodable}
-use Rattle.accepted.proofs.ChunkFacts.{fields-long, fields-bmdt}
+use Rattle.cmaf_read_chunk.proofs.ChunkFacts.{fields-long, fields-bmdt}
 use Rattle.encoder.proofs.ChunkLaws.{accept-numbered, brands-sized}
 
 -- ---- the track of a share
@@ -40,15 +39,12 @@ unfolding lawfulTrack
 iv-right s e = right _ _ (right _ _ (right _ _ (right _ _ (right _ _ (right _ _ e)))))
 
 -- a chunk whose BMDT is past its maximum fits no object
-late-unfit : (F : List Row) (s c : List ℕ) (wish : Bool) → 2 ^ 62 - 1 < bmdt c → fitsOk F s c wish ≡ false
+late-unfit : (F : List Row) (s c : List ℕ) (wish : Bool) → numberMost < bmdt c → fitsOk F s c wish ≡ false
 unfolding fitsOk _and_
-late-unfit F s c wish h = rw (lt-leb (bmdt c) (2 ^ 62 - 1) h)
+late-unfit F s c wish h = rw (lt-leb (bmdt c) numberMost h)
 
 module _ (F : List Row) (wish : Bool) (c output s : List ℕ) where
   -- ---- a chunk on an open share
-
-  abbrev taken : Out Took
-  taken = ladder (chunkRungs F wish c output s) (refusing output s) (done F wish c output s)
 
   module _ (t : Track) (o : OnShare F t s c) where
     track-lawful-of : lawfulTrack (askedOf s) ≡ true
@@ -65,7 +61,7 @@ module _ (F : List Row) (wish : Bool) (c output s : List ℕ) where
       number-is = r .answered ∙ ap (λ (u : Track). ladder (acceptRungs F u c) (λ n. n) 0) (o .track-is)
 
       -- it isn't accepted
-      pub chunk-stops : (k .number ≡ 0 → ⊥) → refusing output s (k .number) ≡ taken
+      pub chunk-stops : (k .number ≡ 0 → ⊥) → refusing output s (k .number) ≡ onOpen F wish c output s
       unfolding chunkRungs
       chunk-stops n =
           ap (refusing output s) number-is
@@ -76,7 +72,7 @@ module _ (F : List Row) (wish : Bool) (c output s : List ℕ) where
         holds = all-hold (acceptRungs F t c) (accept-numbered F t c) (sym (r .answered) ∙ z)
 
         -- it is: the rest
-        pub chunk-climbs : ladder (lastRungs F wish c output s) (refusing output s) (done F wish c output s) ≡ taken
+        pub chunk-climbs : onAccepted F wish c output s ≡ onOpen F wish c output s
         unfolding chunkRungs
         chunk-climbs =
             climbed-on (acceptRungs F (trackOf s) c) (lastRungs F wish c output s) (refusing output s) (done F wish c output s)
@@ -86,17 +82,17 @@ module _ (F : List Row) (wish : Bool) (c output s : List ℕ) where
         first-is = ap (λ (w : List ℕ). getD w bmdtAt 0) (r .taken z .set-is) ∙ fields-bmdt t c
 
         -- its BMDT is past the maximum
-        pub chunk-late : 2 ^ 62 - 1 < getD x bmdtAt 0 → refusing output s 9 ≡ taken
+        pub chunk-late : numberMost < getD x bmdtAt 0 → refusing output s 9 ≡ onOpen F wish c output s
         unfolding lastRungs
-        chunk-late h = broken _ 9 _ _ _ (late-unfit F s c wish (subst (λ (n : ℕ). 2 ^ 62 - 1 < n) first-is h)) ∙ chunk-climbs
+        chunk-late h = broken _ 9 _ _ _ (late-unfit F s c wish (subst (λ (n : ℕ). numberMost < n) first-is h)) ∙ chunk-climbs
 
         -- it isn't
-        pub encodable : allLe 255 c ≡ true → getD x bmdtAt 0 ≤ 2 ^ 62 - 1 → Encodable F t s c k ws x
+        pub encodable : allLe 255 c ≡ true → getD x bmdtAt 0 ≤ numberMost → Encodable F t s c k ws x
         encodable b h =
             let a : Accepted F t c k ws x = r .taken z in
             let q = ap (λ (y : Chunk). y .brands .len) (a .chunk-is) in
             let g = brands-sized F t c holds in
-            let m : bmdt c ≤ 2 ^ 62 - 1 = subst (λ (n : ℕ). n ≤ 2 ^ 62 - 1) first-is h in
+            let m : bmdt c ≤ numberMost = subst (λ (n : ℕ). n ≤ numberMost) first-is h in
             record {
               on-share = o;
               accepted = a;
@@ -121,7 +117,7 @@ module _ (F : List Row) (wish : Bool) (c output s : List ℕ) where
       pub track-lawful : lawfulTrack (askedOf s) ≡ true
       track-lawful = opened-facts Encoder s h (ajar s e) .track
 
-      pub share-open : taken ≡ encoding F wish c output s
+      pub share-open : onOpen F wish c output s ≡ encoding F wish c output s
       unfolding encoding encodeRungs
       share-open = passed _ 18 _ _ _ h (passed _ 2 _ _ _ (ajar s e) refl)
 

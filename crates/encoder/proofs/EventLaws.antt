@@ -6,24 +6,25 @@ use mathlib.Core.Bool.{Bool, true, false, cond}
 use mathlib.Core.List.{List, [], _∷_, _++_}
 use mathlib.Core.Option.{none, some}
 use lib.ListN.{length, getD}
+use Rattle.constants.specs.Maxima.{eventBytesMost}
 use Rattle.laws.proofs.PartLaws.{joined}
 use Rattle.wire.specs.declared.form.Row.{Row}
 use Rattle.wire.specs.declared.form.Form.{Form}
 use Rattle.wire.specs.Form.{rows, limit}
 use Rattle.wire.specs.Varint.{encode, sizeOf}
 use Rattle.wire.proofs.SizeLaws.{limit-62}
-use Rattle.block.specs.Entries.{isSome}
-use Rattle.block.specs.Events.{Event, encEvents}
-use Rattle.block.specs.Written.{run}
+use Rattle.laws.specs.Options.{isSome}
+use Rattle.block_items.specs.Events.{Event, encEvents}
+use Rattle.block_items.specs.Items.{run}
 use Rattle.track.specs.declared.Track.{Track}
-use Rattle.chunk.specs.Events.{eventsFrom, eventsOf}
-use Rattle.emsgs.specs.Records.{allSent, listBytes, timesFit, AllWords, AllIn}
-use Rattle.emsgs.proofs.ListLaws.{times-any, encoded-bytes}
-use Rattle.accepted.specs.declared.read.Chunk.{Chunk}
-use Rattle.accepted.specs.Accepted.{events}
-use Rattle.writing.specs.declared.tuples.Weight.{Weight}
-use Rattle.writing.specs.Items.{Items, nothing, bytesOf, WeighedAs}
-use Rattle.writing.proofs.ItemLaws.{run-parts, block-one, run-length}
+use Rattle.event_value.specs.Events.{eventsFrom, eventsOf}
+use Rattle.locmaf_write_events.specs.Records.{allSent, listBytes, timesFit, AllWords, AllIn}
+use Rattle.locmaf_write_events.proofs.ListLaws.{times-any, encoded-bytes}
+use Rattle.cmaf_read_chunk.specs.declared.read.Chunk.{Chunk}
+use Rattle.cmaf_read_chunk.specs.Accepted.{events}
+use Rattle.locmaf_write_tuples.specs.declared.tuples.Weight.{Weight}
+use Rattle.locmaf_write_tuples.specs.Items.{Items, nothing, bytesOf, pairMost, WeighedAs}
+use Rattle.locmaf_write_tuples.proofs.ItemLaws.{run-parts, block-one, run-length}
 use Rattle.encoder.specs.Object.{eventItems}
 use Rattle.encoder.specs.Planned.{Encodable}
 use Rattle.encoder.proofs.GivenLaws.{events-is, bmdt-is}
@@ -115,7 +116,7 @@ module _ (form : Form) {t : Track} {s c : List ℕ} {k : Chunk} {ws x : List ℕ
     -- their weight
     pub events-weighed : {w : Weight} → w .fits ≡ timesFit F (allSent t (getD x 0 0) (eventsOf [] ws (k .events)))
         → (w .bytes ≡ sizeOf F 25 + (sizeOf F (k .list) + k .list)) × (w .bytes ≤ 16 + k .list)
-        → WeighedAs F (eventItems F (events t c)) 4112 w
+        → WeighedAs F (eventItems F (events t c)) (pairMost + eventBytesMost) w
     events-weighed f g =
         record {
           fits = f ∙ sym (times-any F t (getD x 0 0) c ws (k .events)) ∙ sym fits-are;

@@ -16,16 +16,17 @@ use Rattle.wire.specs.Form.{limit}
 use Rattle.wire.specs.Zigzag.{wireOf, codeOf}
 use Rattle.wire.proofs.ZigzagLaws.{coded-inv}
 use Rattle.runs.specs.Run.{onCoded}
-use Rattle.block.specs.Entries.{isSome}
-use Rattle.block.specs.Events.{Event, encEvents}
-use Rattle.block.specs.Written.{num, run}
-use Rattle.chunk.specs.declared.outer.Prft.{Prft}
-use Rattle.slots.specs.Share.{heldAt, prftAt, trackOf}
-use Rattle.emsgs.specs.Records.{timesFit}
-use Rattle.accepted.specs.Accepted.{prft, events}
-use Rattle.writing.specs.Items.{Items, _before_, itemsIf, numberItem}
-use Rattle.writing.specs.Prft.{timesItems}
-use Rattle.writing.proofs.ItemLaws.{before-some}
+use Rattle.laws.specs.Options.{isSome}
+use Rattle.block_items.specs.Events.{Event, encEvents}
+use Rattle.block_items.specs.Items.{num, run}
+use Rattle.prft_value.specs.declared.Prft.{Prft}
+use Rattle.share_words.specs.Share.{heldAt, prftAt}
+use Rattle.slots.specs.Share.{trackOf}
+use Rattle.locmaf_write_events.specs.Records.{timesFit}
+use Rattle.cmaf_read_chunk.specs.Accepted.{prft, events}
+use Rattle.locmaf_write_tuples.specs.Items.{Items, _before_, itemsIf, numberItem}
+use Rattle.locmaf_write_prft.specs.Prft.{timesItems}
+use Rattle.locmaf_write_tuples.proofs.ItemLaws.{before-some}
 use Rattle.encoder.specs.Object.{eventItems, blockItems, mayDelta, givesDelta, fitsOk}
 
 -- where the items of events stand, their times fit

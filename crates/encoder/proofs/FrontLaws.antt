@@ -16,11 +16,11 @@ use Rattle.wire.specs.Form.{rows, limit}
 use Rattle.wire.specs.Varint.{encode, sizeOf}
 use Rattle.wire.proofs.VarintLaws.{length-encode}
 use Rattle.wire.proofs.SizeLaws.{limit-62}
-use Rattle.block.specs.Entries.{isSome}
-use Rattle.slots.specs.Share.{heldAt}
-use Rattle.accepted.specs.Accepted.{bmdt}
-use Rattle.writing.specs.declared.tuples.Weight.{Weight}
-use Rattle.writing.specs.Items.{bytesOf, WeighedAs}
+use Rattle.laws.specs.Options.{isSome}
+use Rattle.share_words.specs.Share.{heldAt}
+use Rattle.cmaf_read_chunk.specs.Accepted.{bmdt}
+use Rattle.locmaf_write_tuples.specs.declared.tuples.Weight.{Weight}
+use Rattle.locmaf_write_tuples.specs.Items.{bytesOf, weightMost, WeighedAs}
 use Rattle.encoder.specs.declared.front.Plan.{Plan}
 use Rattle.encoder.specs.Object.{headerOf, blockItems, objectOf, mayDelta, givesDelta, fitsOk, front}
 use Rattle.encoder.specs.Planned.{Held, PlannedAs}
@@ -47,7 +47,7 @@ module _ (F : List Row) (s c : List ℕ) (wish : Bool) where
   unfolding givesDelta _and_
   gives-not-may m = rw m
 
-  pub gives-not-can : {d : Weight} → WeighedAs F (blockItems F s c true) 40000 d → d .fits ≡ false → givesDelta F s c wish ≡ false
+  pub gives-not-can : {d : Weight} → WeighedAs F (blockItems F s c true) weightMost d → d .fits ≡ false → givesDelta F s c wish ≡ false
   unfolding givesDelta _and_
   gives-not-can w f = let n : isSome (blockItems F s c true) ≡ false = sym (w .fits) ∙ f in go (mayDelta F s c wish) n
     where
@@ -61,7 +61,7 @@ module _ (F : List Row) (s c : List ℕ) (wish : Bool) where
     fits-is = rw small
 
     -- the plan for a delta
-    pub planned-delta : {d : Weight} → mayDelta F s c wish ≡ true → WeighedAs F (blockItems F s c true) 40000 d → d .fits ≡ true
+    pub planned-delta : {d : Weight} → mayDelta F s c wish ≡ true → WeighedAs F (blockItems F s c true) weightMost d → d .fits ≡ true
         → PlannedAs F s c wish (record { fits = true; delta = true; block = d .bytes })
     planned-delta m w f =
         let e : isSome (blockItems F s c true) ≡ true = sym (w .fits) ∙ f in
@@ -75,7 +75,7 @@ module _ (F : List Row) (s c : List ℕ) (wish : Bool) where
         }
 
     -- and for a full object
-    pub planned-full : {d : Weight} → givesDelta F s c wish ≡ false → WeighedAs F (blockItems F s c false) 40000 d
+    pub planned-full : {d : Weight} → givesDelta F s c wish ≡ false → WeighedAs F (blockItems F s c false) weightMost d
         → PlannedAs F s c wish (record { fits = d .fits; delta = false; block = d .bytes })
     planned-full g w =
         record {

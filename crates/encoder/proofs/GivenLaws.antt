@@ -12,19 +12,20 @@ use Rattle.laws.proofs.TestLaws.{left, right}
 use Rattle.wire.specs.declared.form.Row.{Row}
 use Rattle.track.specs.declared.Track.{Track}
 use Rattle.track.proofs.TrackLaws.{ranges}
-use Rattle.fieldset.specs.Lawful.{lawful}
-use Rattle.fields.proofs.SetLaws.{words-start}
-use Rattle.slots.specs.declared.share.Side.the-variants.{Encoder}
-use Rattle.slots.specs.Share.{setAt, askedOf, trackOf}
-use Rattle.exchange.proofs.OpenLaws.{Opened, opened-facts, held-facts, lent, reference-long}
-use Rattle.shape.specs.Parts.{bodyOf, endOf}
-use Rattle.shape.proofs.PartLaws.{body-in}
-use Rattle.shape.proofs.TopLaws.{top-in, styp-inside}
-use Rattle.gather.specs.Set.{chunkSet}
-use Rattle.accepted.specs.declared.read.Chunk.{Chunk}
-use Rattle.accepted.specs.Accepted.{top, bmdt, prft, fields}
-use Rattle.writing.specs.declared.cells.Basis.{Basis}
-use Rattle.writing.specs.Changes.{basisOf, Writable}
+use Rattle.field_set.specs.Lawful.{lawful}
+use Rattle.field_rules.proofs.SetLaws.{words-start}
+use Rattle.slots.specs.declared.lawful.Side.the-variants.{Encoder}
+use Rattle.share_words.specs.Share.{setAt}
+use Rattle.slots.specs.Share.{askedOf, trackOf}
+use Rattle.reference.proofs.OpenLaws.{Opened, opened-facts, held-facts, lent, reference-long}
+use Rattle.cmaf_read_shape.specs.Parts.{bodyOf, endOf}
+use Rattle.cmaf_read_shape.proofs.PartLaws.{body-in}
+use Rattle.cmaf_read_shape.proofs.TopLaws.{top-in, styp-inside}
+use Rattle.cmaf_read_set.specs.Set.{chunkSet}
+use Rattle.cmaf_read_chunk.specs.declared.read.Chunk.{Chunk}
+use Rattle.cmaf_read_chunk.specs.Accepted.{top, bmdt, prft, fields}
+use Rattle.locmaf_write_block.specs.declared.cells.Basis.{Basis}
+use Rattle.locmaf_write_block.specs.Changes.{basisOf, Writable}
 use Rattle.encoder.specs.Planned.{Encodable, Held}
 
 -- the set has BMDT

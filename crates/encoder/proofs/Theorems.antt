@@ -19,24 +19,26 @@ use Rattle.wire.specs.declared.form.Row.{Row}
 use Rattle.wire.specs.Form.{rows, limit, longest}
 use Rattle.wire.proofs.SizeLaws.{longest-eight, limit-most}
 use Rattle.track.proofs.TrackLaws.{ranges}
-use Rattle.fieldset.specs.Lines.{setLen}
-use Rattle.slots.specs.declared.share.Side.the-variants.{Encoder}
-use Rattle.slots.specs.Share.{shareLen, acceptedAt, heldAt, prftAt, setAt, askedOf, trackOf, isOpen, setOk, lawful}
+use Rattle.field_table.specs.Lines.{setLen}
+use Rattle.slots.specs.declared.lawful.Side.the-variants.{Encoder}
+use Rattle.share_words.specs.Share.{shareLen, acceptedAt, heldAt, prftAt, setAt}
+use Rattle.slots.specs.Share.{askedOf, trackOf, isOpen, setOk, lawful}
 use Rattle.slots.specs.Table.{Out, shareAt, tableRungs, onTable}
 use Rattle.slots.specs.Laws.{after, Keeps, Apart}
 use Rattle.slots.proofs.Apart.{apart, others-stay}
-use Rattle.exchange.specs.Took.{Took, refused, PastStays}
-use Rattle.exchange.proofs.TookLaws.{refused-past}
-use Rattle.exchange.proofs.OpenLaws.{Opened, opened-facts, held-facts}
-use Rattle.exchange.proofs.AcceptedLaws.{Ranged, accepted-long, accepted-lawful}
-use Rattle.accepted.specs.Accepted.{top, bmdt, prft, brands, events, payload, fields, lateRungs, acceptRungs}
-use Rattle.accepted.proofs.BoxLaws.{payload-behind}
-use Rattle.accepted.proofs.LawfulSet.{chunk-lawful}
-use Rattle.given.proofs.Gives.{chunk-agrees}
+use Rattle.answers.specs.Took.{Took, refused, PastStays}
+use Rattle.answers.proofs.TookLaws.{refused-past}
+use Rattle.reference.proofs.OpenLaws.{Opened, opened-facts, held-facts}
+use Rattle.prft_value.specs.Prft.{InRange}
+use Rattle.reference.proofs.AcceptedLaws.{accepted-long, accepted-lawful}
+use Rattle.cmaf_read_chunk.specs.Accepted.{top, bmdt, prft, brands, events, payload, fields, lateRungs, acceptRungs}
+use Rattle.cmaf_read_chunk.proofs.TakenLaws.{payload-behind}
+use Rattle.cmaf_read_chunk.proofs.LawfulSet.{chunk-lawful}
+use Rattle.cmaf_read_facts.proofs.Gives.{chunk-agrees}
 use Rattle.encoder.specs.Object.{blockItems, mayDelta, givesDelta, fitsOk, front}
 use Rattle.encoder.specs.Encode.{refusing, lastRungs, chunkRungs, encodeRungs, kept, done, encoding}
 use Rattle.encoder.specs.Laws.{EncodeExactly, EncodeStaysLawful, Refused, EncodeRefuses, EncodePast, BlockFits, EncodeOnly, EncodeMakes}
-use Rattle.accepted.proofs.ChunkFacts.{brands-few, list-few, fields-long}
+use Rattle.cmaf_read_chunk.proofs.ChunkFacts.{brands-few, list-few, fields-long}
 use Rattle.encoder.proofs.ChunkLaws.{prft-ranged}
 use Rattle.encoder.proofs.EncodeLaws.{iv-right}
 use Rattle.encoder.proofs.FitLaws.{full-small}
@@ -149,7 +151,7 @@ module _ (F : List Row) (wish : Bool) (c output s : List ℕ) (l : length s ≡ 
       let small = bmdt-small F s c wish (h .fits) in
       both _ _ (chunk-lawful F (trackOf s) c b iv (h .accepted) small) (chunk-agrees F (trackOf s) c b iv (h .accepted) small)
 
-  pub prft-kept : limit F ≤ 2 ^ 62 → allLe 255 c ≡ true → givesDelta F s c wish ≡ false → Ranged (prft c)
+  pub prft-kept : limit F ≤ 2 ^ 62 → allLe 255 c ≡ true → givesDelta F s c wish ≡ false → InRange (prft c)
   prft-kept m b d =
       prft-ranged F (trackOf s) c (h .accepted) b
       (λ e. let k = full-small F s c wish (h .fits) d e in (omega (arith, k .0), omega (arith, k .1)))

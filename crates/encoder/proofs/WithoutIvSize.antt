@@ -9,18 +9,18 @@ use lib.Dec.{eqb}
 use lib.ListN.{getD}
 use Rattle.wire.specs.declared.form.Row.{Row}
 use Rattle.track.specs.declared.Track.{Track}
-use Rattle.fieldset.specs.Lines.{lines, lineFor}
-use Rattle.fieldset.specs.Lawful.{has}
-use Rattle.fields.specs.Said.{among}
-use Rattle.writing.specs.Items.{Items, _before_}
-use Rattle.writing.specs.Changes.{lineItems}
-use Rattle.writing.specs.Fields.{goneOf, fieldItems}
-use Rattle.writing.proofs.ItemLaws.{before-nothing}
-use Rattle.writing.proofs.AbsentLaws.{line-absent}
-use Rattle.writing.proofs.GoneLaws.{deleted-by}
-use Rattle.writing.proofs.GoneIds.{gone-is}
-use Rattle.accepted.specs.Accepted.{fields}
-use Rattle.accepted.proofs.NoIvSize.{no-iv-size}
+use Rattle.field_table.specs.Lines.{lines, lineFor}
+use Rattle.field_set.specs.Lawful.{has}
+use Rattle.laws.specs.Tests.{among}
+use Rattle.locmaf_write_tuples.specs.Items.{Items, _before_}
+use Rattle.locmaf_write_block.specs.Changes.{lineItems}
+use Rattle.locmaf_write_block.specs.Fields.{goneOf, fieldItems}
+use Rattle.locmaf_write_tuples.proofs.ItemLaws.{before-nothing}
+use Rattle.locmaf_write_block.proofs.AbsentLaws.{line-absent}
+use Rattle.locmaf_write_block.proofs.GoneLaws.{deleted-by}
+use Rattle.locmaf_write_block.proofs.GoneIds.{gone-is}
+use Rattle.cmaf_read_chunk.specs.Accepted.{fields}
+use Rattle.cmaf_read_chunk.proofs.NoIvSize.{no-iv-size}
 use Rattle.encoder.specs.Laws.{CaseTakenOut}
 
 -- ---- a set without an id 16

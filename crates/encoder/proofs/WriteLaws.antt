@@ -6,27 +6,27 @@ use mathlib.Core.Bool.{Bool, true, false, not}
 use mathlib.Core.List.{List, []}
 use borrow.Author.Tests.{le-leb, lt-leb, not-false}
 use lib.ListN.{length, getD, take, drop}
-use Rattle.laws.specs.Ladder.{ladder}
 use Rattle.laws.specs.Writes.{Wrote}
 use Rattle.laws.proofs.GateLaws.{failed, held}
 use Rattle.laws.proofs.LadderLaws.{broken, passed, top}
 use Rattle.laws.proofs.WriteLaws.{wrote-front}
 use Rattle.wire.specs.declared.form.Row.{Row}
 use Rattle.track.specs.declared.Track.{Track}
-use Rattle.shape.specs.declared.parts.Part.{Part}
-use Rattle.shape.specs.Parts.{bodyOf}
-use Rattle.slots.specs.Share.{acceptedAt, trackOf}
-use Rattle.slots.specs.Table.{Out, out}
-use Rattle.exchange.specs.Took.{Took, took}
-use Rattle.exchange.specs.Kept.{keptWords}
-use Rattle.accepted.specs.declared.read.Chunk.{Chunk}
-use Rattle.accepted.specs.Accepted.{prft, payload, fields}
-use Rattle.accepted.specs.Accepted as A
+use Rattle.byte_parts.specs.declared.Part.{Part}
+use Rattle.cmaf_read_shape.specs.Parts.{bodyOf}
+use Rattle.share_words.specs.Share.{acceptedAt}
+use Rattle.slots.specs.Share.{trackOf}
+use Rattle.slots.specs.Table.{out}
+use Rattle.answers.specs.Took.{took}
+use Rattle.reference.specs.Kept.{keptWords}
+use Rattle.cmaf_read_chunk.specs.declared.read.Chunk.{Chunk}
+use Rattle.cmaf_read_chunk.specs.Accepted.{prft, payload, fields}
+use Rattle.cmaf_read_chunk.specs.Accepted as A
 use Rattle.encoder.specs.declared.front.Plan.{Plan}
 use Rattle.encoder.specs.Object.{givesDelta, front}
-use Rattle.encoder.specs.Encode.{refusing, lastRungs, kept, done}
+use Rattle.encoder.specs.Encode.{refusing, lastRungs, kept, onAccepted}
 use Rattle.encoder.specs.Planned.{Encodable, PlannedAs}
-use Rattle.accepted.proofs.ChunkFacts.{payload-in}
+use Rattle.cmaf_read_chunk.proofs.ChunkFacts.{payload-in}
 use Rattle.encoder.proofs.ChunkLaws.{payload-lent}
 
 -- a refusal, by what `refuse` says of it
@@ -49,11 +49,8 @@ module _ (F : List Row) (t : Track) (s c : List ℕ) (k : Chunk) (ws x : List �
   -- ---- the returns
 
   module _ (wish : Bool) (output : List ℕ) (a : Plan) (p : PlannedAs F s c wish a) where
-    abbrev written : Out Took
-    written = ladder (lastRungs F wish c output s) (refusing output s) (done F wish c output s)
-
     -- there is no object for it
-    pub unfit : not (a .fits) ≡ true → refusing output s 9 ≡ written
+    pub unfit : not (a .fits) ≡ true → refusing output s 9 ≡ onAccepted F wish c output s
     unfolding lastRungs
     unfit h = broken _ 9 _ _ _ (failed (p .answered) h)
 
@@ -63,14 +60,14 @@ module _ (F : List Row) (t : Track) (s c : List ℕ) (k : Chunk) (ws x : List �
       room m l = omega arith
 
       -- there is no room for it
-      pub short : length output < n → refusing output s 17 ≡ written
+      pub short : length output < n → refusing output s 17 ≡ onAccepted F wish c output s
       unfolding lastRungs
       short l = passed _ 9 _ _ _ (held (p .answered) h) (broken _ 17 _ _ _ (lt-leb (length (front F s c wish)) (length output) (omega arith)))
 
       -- there is
       pub done-is : n ≤ length output → (m : ℕ) (after words : List ℕ) → Wrote output 0 (front F s c wish) after m
           → words ≡ keptWords (a .delta) (getD s acceptedAt 0) (k .prft) x s
-          → out (took 0 m (take (k .payload .at + k .payload .len - k .payload .at) (drop (k .payload .at) c)) after) words ≡ written
+          → out (took 0 m (take (k .payload .at + k .payload .len - k .payload .at) (drop (k .payload .at) c)) after) words ≡ onAccepted F wish c output s
       unfolding lastRungs kept
       done-is l m after words w g =
           let f = wrote-front w in

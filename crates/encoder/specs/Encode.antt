@@ -7,13 +7,13 @@ use lib.Dec.{eqb, leb}
 use lib.ListN.{length, getD, drop}
 use Rattle.laws.specs.Ladder.{Rung, _else_, ladder}
 use Rattle.wire.specs.declared.form.Row.{Row}
-use Rattle.slots.specs.declared.share.Side.the-variants.{Encoder}
-use Rattle.slots.specs.Share.{acceptedAt}
+use Rattle.slots.specs.declared.lawful.Side.the-variants.{Encoder}
+use Rattle.share_words.specs.Share.{acceptedAt}
 use Rattle.slots.specs.Table.{Out, out}
 use Rattle.slots.specs.Calls.{openedRungs}
-use Rattle.exchange.specs.Took.{Took, took, refused}
-use Rattle.exchange.specs.Kept.{keptWords}
-use Rattle.accepted.specs.Accepted.{prft, payload, fields, acceptRungs}
+use Rattle.answers.specs.Took.{Took, took, refused}
+use Rattle.reference.specs.Kept.{keptWords}
+use Rattle.cmaf_read_chunk.specs.Accepted.{prft, payload, fields, acceptRungs}
 use Rattle.encoder.specs.Object.{track, givesDelta, fitsOk, front}
 
 -- the wish 0 is for a full object, any other for a delta (D55)
@@ -47,3 +47,13 @@ module _ (F : List Row) (wish : Bool) (c output s : List ℕ) where
 
   unfoldable pub encoding : Out Took
   encoding = ladder encodeRungs (refusing output s) done
+
+-- ==== What only mirrors the code
+
+module _ (F : List Row) (wish : Bool) (c output s : List ℕ) where
+  -- from a place of the order on: of a chunk on an open share, and of one that was accepted
+  abbrev pub onOpen : Out Took
+  onOpen = ladder (chunkRungs F wish c output s) (refusing output s) (done F wish c output s)
+
+  abbrev pub onAccepted : Out Took
+  onAccepted = ladder (lastRungs F wish c output s) (refusing output s) (done F wish c output s)

@@ -5,24 +5,25 @@ use mathlib.Core.Path.{_≡_}
 use mathlib.Core.Bool.{Bool, true, _&&_}
 use mathlib.Core.List.{List, [], _++_}
 use lib.ListN.{length, take}
-use Rattle.laws.specs.Tests.{allLe}
+use Rattle.laws.specs.Tests.{allLe, among}
 use Rattle.laws.specs.Ladder.{Given, Hold}
+use Rattle.constants.specs.Maxima.{blockMost}
 use Rattle.wire.specs.declared.form.Row.{Row}
 use Rattle.wire.specs.declared.form.Form.{Form}
 use Rattle.wire.specs.Form.{rows}
 use Rattle.track.specs.declared.Track.{Track}
 use Rattle.track.specs.Track.{ivOk}
-use Rattle.fieldset.specs.Lines.{lines, lineFor}
-use Rattle.fieldset.specs.Lawful.{has}
-use Rattle.fields.specs.Said.{among}
-use Rattle.slots.specs.declared.share.Side.the-variants.{Encoder}
-use Rattle.slots.specs.Share.{shareLen, lawful}
+use Rattle.field_table.specs.Lines.{lines, lineFor}
+use Rattle.field_set.specs.Lawful.{has}
+use Rattle.slots.specs.declared.lawful.Side.the-variants.{Encoder}
+use Rattle.share_words.specs.Share.{shareLen}
+use Rattle.slots.specs.Share.{lawful}
 use Rattle.slots.specs.Table.{Out, shareAt, tableRungs, onTable}
-use Rattle.exchange.specs.Took.{Took, refused, PastStays}
-use Rattle.writing.specs.Items.{_before_, bytesOf}
-use Rattle.writing.specs.Changes.{lineItems}
-use Rattle.writing.specs.Fields.{goneOf, fieldItems}
-use Rattle.accepted.specs.Accepted.{payload, fields, acceptRungs}
+use Rattle.answers.specs.Took.{Took, refused, PastStays}
+use Rattle.locmaf_write_tuples.specs.Items.{_before_, bytesOf}
+use Rattle.locmaf_write_block.specs.Changes.{lineItems}
+use Rattle.locmaf_write_block.specs.Fields.{goneOf, fieldItems}
+use Rattle.cmaf_read_chunk.specs.Accepted.{payload, fields, acceptRungs}
 use Rattle.encoder.specs.Object.{blockItems, givesDelta, front}
 use Rattle.encoder.specs.Encode.{encodeRungs, encoding}
 
@@ -68,7 +69,7 @@ EncodePast = (F : List Row) (wish : Bool) (c output s : List ℕ) → PastStays 
 abbrev pub BlockFits : Type 0
 BlockFits = (form : Form) (wish : Bool) (c output s : List ℕ) → allLe 255 c ≡ true → length s ≡ shareLen
     → encoding (rows form) wish c output s .answer .number ≡ 0
-    → length (bytesOf (rows form) (blockItems (rows form) s c (givesDelta (rows form) s c wish))) ≤ 16384
+    → length (bytesOf (rows form) (blockItems (rows form) s c (givesDelta (rows form) s c wish))) ≤ blockMost
 
 -- 02, order 9: "no accepted chunk reaches the encoder's case for id 16. Show that, and take the case out." In a full object and in a delta, against any reference r
 pub record WithoutCase (F : List Row) (t : Track) (c : List ℕ) : Type 0 where

@@ -1,24 +1,27 @@
 -- The object that a chunk becomes. 01, "Full objects", "Delta objects", "Events".
 -- ==== The rules
-use Prim.Native.Nat.{ℕ, _-_, _^_}
+use Prim.Native.Nat.{ℕ}
 use mathlib.Core.Bool.{Bool, true, false, cond, not, _&&_, _||_}
 use mathlib.Core.List.{List, [], _∷_, _++_}
 use mathlib.Core.Option.{none, some}
 use lib.Dec.{eqb, leb}
 use lib.ListN.{length, getD, drop}
 use Rattle.laws.specs.Tests.{_and_}
+use Rattle.constants.specs.Ids.{fullId, deltaId}
+use Rattle.constants.specs.Maxima.{numberMost}
 use Rattle.wire.specs.declared.form.Row.{Row}
 use Rattle.wire.specs.Varint.{encode}
-use Rattle.block.specs.Entries.{isSome}
-use Rattle.block.specs.Events.{Event, encEvents}
-use Rattle.block.specs.Written.{run}
+use Rattle.laws.specs.Options.{isSome}
+use Rattle.block_items.specs.Events.{Event, encEvents}
+use Rattle.block_items.specs.Items.{run}
 use Rattle.track.specs.declared.Track.{Track}
-use Rattle.slots.specs.Share.{heldAt, prftAt, setAt, trackOf}
-use Rattle.emsgs.specs.Records.{timesFit}
-use Rattle.accepted.specs.Accepted.{bmdt, prft, brands, events, fields}
-use Rattle.writing.specs.Items.{Items, nothing, _before_, itemsIf, bytesOf}
-use Rattle.writing.specs.Fields.{fieldItems, deletionItems}
-use Rattle.writing.specs.Prft.{timesItems, versionItems, flagsItems}
+use Rattle.share_words.specs.Share.{heldAt, prftAt, setAt}
+use Rattle.slots.specs.Share.{trackOf}
+use Rattle.locmaf_write_events.specs.Records.{timesFit}
+use Rattle.cmaf_read_chunk.specs.Accepted.{bmdt, prft, brands, events, fields}
+use Rattle.locmaf_write_tuples.specs.Items.{Items, nothing, _before_, itemsIf, bytesOf}
+use Rattle.locmaf_write_block.specs.Fields.{fieldItems, deletionItems}
+use Rattle.locmaf_write_prft.specs.Prft.{timesItems, versionItems, flagsItems}
 
 -- 01: "Id 23 from `styp`", in a full object; in a delta "Id 23 never" (D61)
 unfoldable pub brandItems : Bool → List ℕ → Items
@@ -31,7 +34,7 @@ eventItems F (e ∷ es) = cond (timesFit F (e ∷ es)) (some (run 25 (encEvents 
 
 -- 01: "Full objects (23)", "Delta objects (25)"
 unfoldable pub headerOf : Bool → ℕ
-headerOf delta = cond delta 25 23
+headerOf delta = cond delta deltaId fullId
 
 -- the chunk c on the share s
 module _ (F : List Row) (s c : List ℕ) where
@@ -42,7 +45,7 @@ module _ (F : List Row) (s c : List ℕ) where
   abbrev pub reference : List ℕ
   reference = drop setAt s
 
-  -- 01: "The encoder writes them ascending": ids 1 to 16, 18 and 20, 22, 23, 24, 25, 27 (D72)
+  -- 01: "The encoder writes them ascending": ids 1 to 15, 18 and 20, 22, 23, 24, 25, 27 (D72)
   unfoldable pub blockItems : Bool → Items
   blockItems delta =
       fieldItems F track delta reference (fields track c)
@@ -70,7 +73,7 @@ module _ (F : List Row) (s c : List ℕ) where
 
   -- 9: "chunk: BMDT past its maximum, whatever the wish; or, where no delta is given, a number too wide in the full object" (D56, D58)
   unfoldable pub fitsOk : Bool → Bool
-  fitsOk wish = leb (bmdt c) (2 ^ 62 - 1) and (givesDelta wish || isSome (blockItems false))
+  fitsOk wish = leb (bmdt c) numberMost and (givesDelta wish || isSome (blockItems false))
 
   -- all of the object before the payload
   unfoldable pub front : Bool → List ℕ

@@ -1,21 +1,22 @@
 -- What the code works out before it writes.
 -- ==== What only mirrors the code
-use Prim.Native.Nat.{ℕ, _≤_}
+use Prim.Native.Nat.{ℕ, _+_, _≤_}
 use mathlib.Core.Path.{_≡_}
 use mathlib.Core.Bool.{Bool, true}
 use mathlib.Core.List.{List}
 use lib.ListN.{length, getD}
+use Rattle.constants.specs.Maxima.{brandBytesMost}
 use Rattle.wire.specs.declared.form.Row.{Row}
-use Rattle.block.specs.Entries.{isSome}
-use Rattle.fieldset.specs.Lines.{setLen}
-use Rattle.fieldset.specs.Lawful.{lawful}
-use Rattle.slots.specs.declared.share.Side.the-variants.{Encoder}
-use Rattle.slots.specs.Share.{shareLen, heldAt, isOpen}
-use Rattle.slots.specs.Share.{lawful as lawfulShare}
+use Rattle.laws.specs.Options.{isSome}
+use Rattle.field_table.specs.Lines.{setLen}
+use Rattle.field_set.specs.Lawful.{lawful}
+use Rattle.slots.specs.declared.lawful.Side.the-variants.{Encoder}
+use Rattle.share_words.specs.Share.{shareLen, heldAt}
+use Rattle.slots.specs.Share.{isOpen, lawful as lawfulShare}
 use Rattle.track.specs.declared.Track.{Track}
-use Rattle.accepted.specs.declared.read.Chunk.{Chunk}
-use Rattle.accepted.specs.Chunks.{Accepted}
-use Rattle.writing.specs.Items.{bytesOf}
+use Rattle.cmaf_read_chunk.specs.declared.read.Chunk.{Chunk}
+use Rattle.cmaf_read_chunk.specs.Chunks.{Accepted}
+use Rattle.locmaf_write_tuples.specs.Items.{bytesOf, weightMost}
 use Rattle.encoder.specs.declared.front.Plan.{Plan}
 use Rattle.encoder.specs.Object.{track, blockItems, givesDelta, fitsOk}
 
@@ -33,7 +34,7 @@ pub record Encodable (F : List Row) (t : Track) (s c : List ℕ) (k : Chunk) (ws
   pub set-long : length x ≡ setLen
   pub lawful-set : lawful t x ≡ true
   pub brands-long : (k .brands .len ≡ 0 → ⊥) → 8 ≤ k .brands .len
-  pub brands-few : k .brands .len ≤ 68
+  pub brands-few : k .brands .len ≤ brandBytesMost + 4
 
 -- a delta has a reference to go by
 abbrev pub Held : Bool → List ℕ → Type 0
@@ -45,4 +46,4 @@ pub record PlannedAs (F : List Row) (s c : List ℕ) (wish : Bool) (a : Plan) : 
   pub kind : a .fits ≡ true → a .delta ≡ givesDelta F s c wish
   pub all-fit : a .fits ≡ true → isSome (blockItems F s c (a .delta)) ≡ true
   pub block : a .fits ≡ true → a .block ≡ length (bytesOf F (blockItems F s c (a .delta)))
-  pub small : a .block ≤ 65536
+  pub small : a .block ≤ weightMost

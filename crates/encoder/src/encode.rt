@@ -2,26 +2,24 @@
 ghost use mathlib.Core.Path.{_≡_};
 ghost use mathlib.Core.List.{[]};
 ghost use lib.ListN.{length};
-ghost use Rattle.laws.specs.Ladder.{ladder};
 ghost use Rattle.wire.specs.Form.{rows};
 ghost use Rattle.wire.specs.declared.form.Form.the-variants.{Rfc9000};
-ghost use Rattle.slots.specs.Share.{shareLen};
+ghost use Rattle.share_words.specs.Share.{shareLen};
 ghost use Rattle.slots.specs.Table.{out, onTable};
-ghost use Rattle.exchange.specs.Took.{took, refused};
-ghost use Rattle.encoder.specs.Encode.{wished, refusing, lastRungs, chunkRungs, done, encoding};
+ghost use Rattle.answers.specs.Took.{took, refused};
+ghost use Rattle.encoder.specs.Encode.{wished, encoding, onOpen, onAccepted};
 ghost use Rattle.encoder.specs.Planned.{Encodable, OnShare};
 use crate::front;
-use accepted::read::Chunk;
-use fieldset::lines;
-use slots::calls::TABLE;
-use slots::share;
-use slots::share::SHARE;
-use slots::share::Side;
+use cmaf_read_chunk::read::Chunk;
+use constants::maxima;
+use field_table::lines;
+use share_words::share;
+use share_words::share::SHARE;
+use share_words::share::TABLE;
+use slots::lawful;
+use slots::lawful::Side;
 use track::Track;
 use wire::form::Form;
-
-// The largest BMDT.
-const LAST: u64 = 0x3fff_ffff_ffff_ffff;
 
 // A refusal changes nothing, neither the output nor the share.
 fn refuse<'a>(c: &'a [u8], k: u64, number: &mut u64, front: &mut u64) -> &'a [u8]
@@ -47,7 +45,8 @@ fn write<'a>(
     front: &mut u64,
 ) -> &'a [u8]
     requires { ⌜ Encodable (rows form) t (now s) (now c) k (now events) (now x) ⌝ }
-    ensures { λ r. ⌜ out (took (now (number .exit)) (now (front .exit)) (now r) (now (output .exit))) (now (s .exit)) ≡ ladder (lastRungs (rows form) wish (now (c .entry)) (now (output .entry)) (now (s .entry))) (refusing (now (output .entry)) (now (s .entry))) (done (rows form) wish (now (c .entry)) (now (output .entry)) (now (s .entry))) ⌝ }
+    ensures { λ r. ⌜ out (took (now (number .exit)) (now (front .exit)) (now r) (now (output .exit))) (now (s .exit))
+        ≡ onAccepted (rows form) wish (now (c .entry)) (now (output .entry)) (now (s .entry)) ⌝ }
 {
     let a = front::choose(form, t, wish, s, c, k, events, x);
     if !a.fits {
@@ -59,7 +58,7 @@ fn write<'a>(
     let n = front::put_front(form, t, wish, a, s, c, k, events, x, &mut *output);
     let prft = k.prft;
     let sequence = s[share::ACCEPTED];
-    exchange::keep::keep(s, a.delta, prft, sequence, x);
+    reference::keep::keep(s, a.delta, prft, sequence, x);
     *number = 0;
     *front = n as u64;
     let from = k.payload.at;
@@ -79,15 +78,16 @@ fn take_chunk<'a>(
     front: &mut u64,
 ) -> &'a [u8]
     requires { ⌜ OnShare (rows form) t (now s) (now c) ⌝ }
-    ensures { λ r. ⌜ out (took (now (number .exit)) (now (front .exit)) (now r) (now (output .exit))) (now (s .exit)) ≡ ladder (chunkRungs (rows form) wish (now (c .entry)) (now (output .entry)) (now (s .entry))) (refusing (now (output .entry)) (now (s .entry))) (done (rows form) wish (now (c .entry)) (now (output .entry)) (now (s .entry))) ⌝ }
+    ensures { λ r. ⌜ out (took (now (number .exit)) (now (front .exit)) (now r) (now (output .exit))) (now (s .exit))
+        ≡ onOpen (rows form) wish (now (c .entry)) (now (output .entry)) (now (s .entry)) ⌝ }
 {
-    let mut events = [0u64; 160];
-    let mut x = [0u64; 981];
-    let k = accepted::read::read_chunk(form, t, c, &mut events, &mut x);
+    let mut events = [0u64; event_value::ALL_WORDS];
+    let mut x = [0u64; lines::SET];
+    let k = cmaf_read_chunk::read::read_chunk(form, t, c, &mut events, &mut x);
     if k.number != 0 {
         return refuse(c, k.number, number, front);
     }
-    if LAST < x[lines::BMDT] {
+    if maxima::NUMBER < x[lines::BMDT] {
         return refuse(c, 9, number, front);
     }
     write(form, t, wish, c, s, k, &events, &x, output, number, front)
@@ -104,15 +104,16 @@ fn take_share<'a>(
     front: &mut u64,
 ) -> &'a [u8]
     requires { ⌜ length (now s) ≡ shareLen ⌝ }
-    ensures { λ r. ⌜ out (took (now (number .exit)) (now (front .exit)) (now r) (now (output .exit))) (now (s .exit)) ≡ encoding (rows form) wish (now (c .entry)) (now (output .entry)) (now (s .entry)) ⌝ }
+    ensures { λ r. ⌜ out (took (now (number .exit)) (now (front .exit)) (now r) (now (output .exit))) (now (s .exit))
+        ≡ encoding (rows form) wish (now (c .entry)) (now (output .entry)) (now (s .entry)) ⌝ }
 {
-    if !share::is_lawful(Side::Encoder, s) {
+    if !lawful::is_lawful(Side::Encoder, s) {
         return refuse(c, 18, number, front);
     }
     if s[share::TRACK] == 0 {
         return refuse(c, 2, number, front);
     }
-    let t = share::track_of(s);
+    let t = lawful::track_of(s);
     take_chunk(form, t, wish, c, s, output, number, front)
 }
 
@@ -127,7 +128,10 @@ pub fn encode<'a>(
     number: &mut u64,
     front: &mut u64,
 ) -> &'a [u8]
-    ensures { λ r. ⌜ out (took (now (number .exit)) (now (front .exit)) (now r) (now (output .exit))) (now (table .exit)) ≡ onTable (refused (now (output .entry))) (encoding (rows Rfc9000) (wished wish) (now (chunk .entry)) (now (output .entry))) (now (table .entry)) slot ⌝ }
+    ensures { λ r. ⌜ out (took (now (number .exit)) (now (front .exit)) (now r) (now (output .exit))) (now (table .exit))
+        ≡ onTable (refused (now (output .entry)))
+        (encoding (rows Rfc9000) (wished wish) (now (chunk .entry)) (now (output .entry)))
+        (now (table .entry)) slot ⌝ }
 {
     if table.len() != TABLE {
         return refuse(chunk, 18, number, front);
@@ -135,7 +139,7 @@ pub fn encode<'a>(
     if 7 < slot {
         return refuse(chunk, 1, number, front);
     }
-    let at = slot as usize * SHARE;
+    let at = share::start_of(slot);
     take_share(
         Form::Rfc9000,
         wish != 0,

@@ -1,4 +1,6 @@
 // The object of a chunk: full or delta, or why there is none; and all of it before the payload, written.
+// Letters: `t` the track, `s` the words of a share, `c` a chunk's bytes, `k` what was read of a chunk, `x` the words of the new set, `a` what is
+//   planned.
 ghost use mathlib.Core.Path.{_≡_};
 ghost use mathlib.Core.Bool.{true};
 ghost use Prim.Native.Nat.{_+_, _≤_};
@@ -8,9 +10,9 @@ ghost use Rattle.wire.specs.Form.{rows};
 ghost use Rattle.encoder.specs.Object.{headerOf, mayDelta, front};
 ghost use Rattle.encoder.specs.Planned.{Encodable, PlannedAs};
 use crate::properties;
-use accepted::read::Chunk;
-use object::head;
-use slots::share;
+use cmaf_read_chunk::read::Chunk;
+use constants::ids;
+use share_words::share;
 use track::Track;
 use wire::form::Form;
 
@@ -75,9 +77,9 @@ fn header_of(delta: bool) -> u64
     ensures { λ h. ⌜ h ≡ headerOf delta ⌝ }
 {
     if delta {
-        return head::DELTA;
+        return ids::DELTA;
     }
-    head::FULL
+    ids::FULL
 }
 
 // The bytes before the payload.
@@ -116,7 +118,8 @@ pub fn put_front(
     requires { ⌜ Encodable (rows form) t (now s) (now c) k (now ws) (now x) ⌝ }
     requires { ⌜ PlannedAs (rows form) (now s) (now c) wish a × (a .fits ≡ true) ⌝ }
     requires { ⌜ length (front (rows form) (now s) (now c) wish) ≤ length (now out) ⌝ }
-    ensures { λ n. ⌜ Wrote (now (out .entry)) 0 (front (rows form) (now (s .entry)) (now (c .entry)) wish) (now (out .exit)) n ⌝ }
+    ensures { λ n. ⌜ Wrote (now (out .entry)) 0 (front (rows form) (now (s .entry)) (now (c .entry)) wish)
+        (now (out .exit)) n ⌝ }
 {
     let h = wire::varint::put(form, out, 0, header_of(a.delta));
     let p = wire::varint::put(form, out, h, a.block as u64);

@@ -1,30 +1,27 @@
 // The property block of an object: its tuples ascending by id, weighed first and then written.
+// Letters: `t` the track, `s` the words of a share, `c` a chunk's bytes, `k` what was read of a chunk, `x` the words of the new set.
 ghost use mathlib.Core.Path.{_≡_};
 ghost use mathlib.Core.Bool.{true};
-ghost use Prim.Native.Nat.{_+_, _≤_};
-ghost use lib.ListN.{length};
-ghost use Rattle.laws.specs.Writes.{Wrote};
+ghost use Prim.Native.Nat.{_+_};
 ghost use Rattle.wire.specs.Form.{rows};
-ghost use Rattle.block.specs.Entries.{isSome};
-ghost use Rattle.accepted.specs.Accepted.{brands, events};
-ghost use Rattle.writing.specs.Items.{bytesOf, WeighedAs};
+ghost use Rattle.laws.specs.Options.{isSome};
+ghost use Rattle.constants.specs.Maxima.{brandBytesMost, eventBytesMost};
+ghost use Rattle.cmaf_read_chunk.specs.Accepted.{brands, events};
+ghost use Rattle.locmaf_write_tuples.specs.Items.{pairMost, weightMost, WeighedAs, RoomFor, WroteItems};
 ghost use Rattle.encoder.specs.Object.{brandItems, eventItems, blockItems};
 ghost use Rattle.encoder.specs.Planned.{Encodable, Held};
-use accepted::read::Chunk;
-use fieldset::lines;
+use cmaf_read_chunk::read::Chunk;
+use constants::ids;
+use field_table::lines;
+use locmaf_write_block::deletions;
+use locmaf_write_block::set;
+use locmaf_write_prft::prft;
+use locmaf_write_tuples::tuples;
+use locmaf_write_tuples::tuples::Weight;
 use media::clocks::TrackTicks;
-use slots::share;
+use share_words::share;
 use track::Track;
 use wire::form::Form;
-use writing::deletions;
-use writing::prft;
-use writing::set;
-use writing::tuples;
-use writing::tuples::Weight;
-
-const BRANDS: u64 = 23;
-
-const EVENTS: u64 = 25;
 
 // ---- id 23: the brands of a styp without its minor version
 
@@ -39,13 +36,14 @@ fn brands_size(
     x: &[u64],
 ) -> Weight
     requires { ⌜ Encodable (rows form) t (now s) (now c) k (now ws) (now x) ⌝ }
-    ensures { λ w. ⌜ WeighedAs (rows form) (brandItems delta (brands (now (c .entry)))) 80 w ⌝ }
+    ensures { λ w. ⌜ WeighedAs (rows form) (brandItems delta (brands (now (c .entry))))
+        (pairMost + brandBytesMost) w ⌝ }
 {
     let n = k.brands.len;
     if delta | (n == 0) {
         return tuples::whole(0);
     }
-    tuples::whole(tuples::body_size(form, BRANDS, n - 4))
+    tuples::whole(tuples::body_size(form, ids::BRANDS, n - 4))
 }
 
 fn put_brands(
@@ -61,15 +59,16 @@ fn put_brands(
     at: usize,
 ) -> usize
     requires { ⌜ Encodable (rows form) t (now s) (now c) k (now ws) (now x) ⌝ }
-    requires { ⌜ at + length (bytesOf (rows form) (brandItems delta (brands (now c)))) ≤ length (now out) ⌝ }
-    ensures { λ r. ⌜ Wrote (now (out .entry)) at (bytesOf (rows form) (brandItems delta (brands (now (c .entry))))) (now (out .exit)) r ⌝ }
+    requires { ⌜ RoomFor (rows form) (brandItems delta (brands (now c))) (now out) at ⌝ }
+    ensures { λ r. ⌜ WroteItems (rows form) (brandItems delta (brands (now (c .entry))))
+        (now (out .entry)) at (now (out .exit)) r ⌝ }
 {
     let from = k.brands.at;
     let n = k.brands.len;
     if delta | (n == 0) {
         return at;
     }
-    let a = tuples::put_head(form, BRANDS, n - 4, out, at);
+    let a = tuples::put_head(form, ids::BRANDS, n - 4, out, at);
     let b = boxes::put::put_bytes(out, a, &c[from..from + 4]);
     boxes::put::put_bytes(out, b, &c[from + 8..from + n])
 }
@@ -78,14 +77,21 @@ fn put_brands(
 
 fn events_size(form: Form, t: Track, s: &[u64], c: &[u8], k: Chunk, ws: &[u64], x: &[u64]) -> Weight
     requires { ⌜ Encodable (rows form) t (now s) (now c) k (now ws) (now x) ⌝ }
-    ensures { λ w. ⌜ WeighedAs (rows form) (eventItems (rows form) (events t (now (c .entry)))) 4112 w ⌝ }
+    ensures { λ w. ⌜ WeighedAs (rows form) (eventItems (rows form) (events t (now (c .entry))))
+        (pairMost + eventBytesMost) w ⌝ }
 {
     if k.events == 0 {
         return tuples::whole(0);
     }
     Weight {
-        fits: emsgs::records::times_fit(form, t, TrackTicks(x[lines::BMDT]), ws, k.events),
-        bytes: tuples::body_size(form, EVENTS, k.list),
+        fits: locmaf_write_events::records::times_fit(
+            form,
+            t,
+            TrackTicks(x[lines::BMDT]),
+            ws,
+            k.events,
+        ),
+        bytes: tuples::body_size(form, ids::EVENTS, k.list),
     }
 }
 
@@ -102,14 +108,24 @@ fn put_events(
 ) -> usize
     requires { ⌜ Encodable (rows form) t (now s) (now c) k (now ws) (now x) ⌝ }
     requires { ⌜ isSome (eventItems (rows form) (events t (now c))) ≡ true ⌝ }
-    requires { ⌜ at + length (bytesOf (rows form) (eventItems (rows form) (events t (now c)))) ≤ length (now out) ⌝ }
-    ensures { λ r. ⌜ Wrote (now (out .entry)) at (bytesOf (rows form) (eventItems (rows form) (events t (now (c .entry))))) (now (out .exit)) r ⌝ }
+    requires { ⌜ RoomFor (rows form) (eventItems (rows form) (events t (now c))) (now out) at ⌝ }
+    ensures { λ r. ⌜ WroteItems (rows form) (eventItems (rows form) (events t (now (c .entry))))
+        (now (out .entry)) at (now (out .exit)) r ⌝ }
 {
     if k.events == 0 {
         return at;
     }
-    let a = tuples::put_head(form, EVENTS, k.list, out, at);
-    emsgs::records::put_records(form, t, TrackTicks(x[lines::BMDT]), c, ws, k.events, out, a)
+    let a = tuples::put_head(form, ids::EVENTS, k.list, out, at);
+    locmaf_write_events::records::put_records(
+        form,
+        t,
+        TrackTicks(x[lines::BMDT]),
+        c,
+        ws,
+        k.events,
+        out,
+        a,
+    )
 }
 
 // ---- all of them
@@ -126,7 +142,8 @@ pub fn block_size(
 ) -> Weight
     requires { ⌜ Encodable (rows form) t (now s) (now c) k (now ws) (now x) ⌝ }
     requires { ⌜ Held delta (now s) ⌝ }
-    ensures { λ w. ⌜ WeighedAs (rows form) (blockItems (rows form) (now (s .entry)) (now (c .entry)) delta) 40000 w ⌝ }
+    ensures { λ w. ⌜ WeighedAs (rows form) (blockItems (rows form) (now (s .entry)) (now (c .entry)) delta)
+        weightMost w ⌝ }
 {
     let r = &s[share::SET..];
     let p = k.prft;
@@ -160,8 +177,9 @@ pub fn put_block(
     requires { ⌜ Encodable (rows form) t (now s) (now c) k (now ws) (now x) ⌝ }
     requires { ⌜ Held delta (now s) ⌝ }
     requires { ⌜ isSome (blockItems (rows form) (now s) (now c) delta) ≡ true ⌝ }
-    requires { ⌜ at + length (bytesOf (rows form) (blockItems (rows form) (now s) (now c) delta)) ≤ length (now out) ⌝ }
-    ensures { λ r. ⌜ Wrote (now (out .entry)) at (bytesOf (rows form) (blockItems (rows form) (now (s .entry)) (now (c .entry)) delta)) (now (out .exit)) r ⌝ }
+    requires { ⌜ RoomFor (rows form) (blockItems (rows form) (now s) (now c) delta) (now out) at ⌝ }
+    ensures { λ r. ⌜ WroteItems (rows form) (blockItems (rows form) (now (s .entry)) (now (c .entry)) delta)
+        (now (out .entry)) at (now (out .exit)) r ⌝ }
 {
     let r = &s[share::SET..];
     let p = k.prft;

@@ -13,38 +13,42 @@ use Rattle.wire.specs.Form.{byValue, limit}
 use Rattle.wire.specs.Zigzag.{zigzag, wireOf, fitted, codeOf}
 use Rattle.runs.specs.Run.{measured, runOf}
 use Rattle.media.specs.Flags.{wideOf, fiveOf, only}
-use Rattle.tree.specs.Whole.{sizeOf, kindOf, insideOf, afterOf, sized, container, whole}
+use Rattle.cmaf_read_tree.specs.Whole.{sizeOf, kindOf, insideOf, afterOf, sized, container, whole}
 use Rattle.track.specs.declared.Track.{Track}
 use Rattle.track.specs.Track.{narrow}
-use Rattle.fieldset.specs.Lines.{lines, wanted, absentValue}
-use Rattle.shape.specs.Parts.{bodyOf, anyAt, boxAt}
-use Rattle.shape.specs.Top.{emsgs, emsgsFrom, topOf, topOk}
-use Rattle.shape.specs.Inner.{pickOf, lastOf, trafOf, innerOf, threeOrNone, innerOk}
+use Rattle.field_table.specs.Lines.{lines, wanted, absentValue}
+use Rattle.cmaf_read_shape.specs.Parts.{bodyOf, anyAt, boxAt}
+use Rattle.cmaf_read_shape.specs.Top.{emsgs, emsgsFrom, topOf, topOk}
+use Rattle.cmaf_read_shape.specs.Inner.{pickOf, lastOf, trafOf, innerOf, threeOrNone, innerOk}
 use Rattle.slots.specs.Share.{paramWords}
-use Rattle.chunk.specs.Events.{eventsFrom}
-use Rattle.prelude.specs.Styp.{stypOk, brandsIn, minorVersion}
-use Rattle.prelude.specs.Prft.{prftOk, prftTrack, prftOf}
-use Rattle.prelude.specs.Emsg.{emsgsOk, emsgWords}
-use Rattle.fragment.specs.Defaults.{fieldsIn, tfhdFlagsOk, tfhdOk, isField, fieldOf}
-use Rattle.fragment.specs.Headers.{mfhdOk, tfdtOk, bmdtOf}
-use Rattle.fragment.specs.Rows.{columnsIn, runFlagsOk, runHead, runWidth, trunOk, firstFlags, isColumn, hasColumn, cell, sizeAt}
-use Rattle.fragment.specs.Samples.{eachFrom, columnOf, sizesOf}
-use Rattle.encryption.specs.Entries.{sencOk, sencCount, sencFilled, entriesIn, entriesOf, subsamples}
-use Rattle.encryption.specs.Sizes.{saizOk, saizCount, saioOk}
-use Rattle.fields.specs.Cells.{oldValues}
-use Rattle.fields.specs.Words.{regionOf, regionsOf, setWords}
-use Rattle.gather.specs.Set.{heldIf, allSame, heldFor, chunkSet}
-use Rattle.emsgs.specs.Records.{listBytes}
-use Rattle.rules.specs.Rules.{clocksOk, allOnly, outerOk, offsetOk, flagsOk, offsetsOk, sizesOk, unprotectedOk, rulesOk}
-use Rattle.block.specs.Entries.{isSome}
-use Rattle.accepted.specs.Accepted.{brandsOf, bmdt, boxes, prft, brands, payload, events, fields, boxesOk, countsOk, maximaOk, lateRungs, acceptRungs}
-use Rattle.writing.specs.Items.{_before_, itemsIf, numberItem, runItem}
-use Rattle.writing.specs.Changes.{same, changeOf, sentItems, lineItems}
-use Rattle.writing.specs.Fields.{goneOf, bmdtStands, countStands, linesItems, bmdtItems, countItems, fieldItems, deletionItems}
-use Rattle.writing.specs.Prft.{timesItems, unlessItems, versionItems, flagsItems}
+use Rattle.event_value.specs.Events.{eventsFrom}
+use Rattle.cmaf_read_prelude.specs.Styp.{stypOk, brandsIn, minorVersion}
+use Rattle.cmaf_read_prelude.specs.Prft.{prftOk, prftTrack, prftOf}
+use Rattle.cmaf_read_prelude.specs.Emsg.{emsgsOk, emsgWords}
+use Rattle.cmaf_read_moof.specs.Defaults.{fieldsIn, tfhdFlagsOk, tfhdOk, isField, fieldOf}
+use Rattle.cmaf_read_moof.specs.Headers.{mfhdOk, tfdtOk, bmdtOf}
+use Rattle.cmaf_read_trun.specs.Rows.{columnsIn, runFlagsOk, runHead, runWidth, trunOk, firstFlags, isColumn, hasColumn, cell, sizeAt}
+use Rattle.cmaf_read_trun.specs.Samples.{eachFrom, columnOf, sizesOf}
+use Rattle.cmaf_read_senc.specs.Entries.{sencOk, sencCount, sencFilled, entriesIn, entriesOf, subsamples}
+use Rattle.cmaf_read_senc.specs.Sizes.{saizOk, saizCount, saioOk}
+use Rattle.field_rules.specs.Fields.{oldValues}
+use Rattle.field_rules.specs.Words.{regionOf, regionsOf, setWords}
+use Rattle.cmaf_read_samples.specs.Held.{heldIf}
+use Rattle.cmaf_read_samples.specs.Sizes.{allSame}
+use Rattle.cmaf_read_set.specs.Set.{heldFor, chunkSet}
+use Rattle.locmaf_write_events.specs.Records.{listBytes}
+use Rattle.cmaf_read_rules.specs.Rules.{clocksOk, outerOk, offsetOk, flagsOk, offsetsOk, sizesOk, unprotectedOk, rulesOk}
+use Rattle.cmaf_read_trun.specs.Columns.{allOnly}
+use Rattle.laws.specs.Options.{isSome}
+use Rattle.cmaf_read_chunk.specs.Accepted.{brandsOf, bmdt, boxes, prft, brands, payload, events, fields, countsOk, maximaOk, lateRungs, acceptRungs}
+use Rattle.cmaf_read_boxes.specs.Right.{boxesOk}
+use Rattle.locmaf_write_tuples.specs.Items.{_before_, itemsIf, numberItem, runItem}
+use Rattle.locmaf_write_block.specs.Changes.{same, changeOf, sentItems, lineItems}
+use Rattle.locmaf_write_block.specs.Fields.{goneOf, bmdtStands, countStands, linesItems, bmdtItems, countItems, fieldItems, deletionItems}
+use Rattle.locmaf_write_prft.specs.Prft.{timesItems, unlessItems, versionItems, flagsItems}
 use Rattle.encoder.specs.Object.{brandItems, eventItems, blockItems, givesDelta, fitsOk}
 use Rattle.meaning.specs.Meaning.{meaningOf}
-use Rattle.given.specs.Given.{F}
+use Rattle.cmaf_read_facts.specs.Given.{F}
 use Rattle.false_codecs.specs.Example.{parameters, example}
 
 -- a share with the example's parameters, whatever else it holds

@@ -1,6 +1,6 @@
 -- What any codec that meets demand 2 from fresh tables on does at a group's first and second object: the example at 96,000, and then at 97,024 or once more.
 -- Assumes nothing.
-use Prim.Native.Nat.{ℕ}
+use Prim.Native.Nat.{ℕ, _-_}
 use native.Mathlib.Omega.{arith}
 use mathlib.Core.Path.{_≡_, refl, sym, _∙_, ap, subst}
 use mathlib.Core.Bool.{true, false}
@@ -11,22 +11,22 @@ use Rattle.laws.specs.Tests.{allLe, _and_}
 use Rattle.laws.specs.Gate.{gate}
 use Rattle.laws.specs.Ladder.{_else_, ladder}
 use Rattle.laws.proofs.LadderLaws.{hold-append}
-use Rattle.track.specs.Track.{narrow}
-use Rattle.track.specs.Track.{lawful as lawfulTrack}
+use Rattle.track.specs.Track.{narrow, lawful as lawfulTrack}
 use Rattle.wire.specs.declared.form.Form.the-variants.{Rfc9000}
-use Rattle.slots.specs.declared.share.Side.{Side}
-use Rattle.slots.specs.declared.share.Side.the-variants.{Encoder, Receiver}
-use Rattle.slots.specs.Share.{heldAt, shareLen, isOpen, lawful, opened}
+use Rattle.slots.specs.declared.lawful.Side.{Side}
+use Rattle.slots.specs.declared.lawful.Side.the-variants.{Encoder, Receiver}
+use Rattle.share_words.specs.Share.{acceptedAt, heldAt, shareLen}
+use Rattle.slots.specs.Share.{isOpen, lawful, opened}
 use Rattle.slots.specs.Table.{onShare}
 use Rattle.slots.specs.Calls.{opening}
-use Rattle.slots.proofs.Lawful.{opened-long, fresh-lawful, opened-lawful}
-use Rattle.exchange.specs.Kept.{keptWords}
-use Rattle.accepted.specs.Accepted.{acceptRungs}
+use Rattle.slots.proofs.StaysLawful.{opened-long, fresh-lawful, opened-lawful}
+use Rattle.reference.specs.Kept.{keptWords}
+use Rattle.cmaf_read_chunk.specs.Accepted.{acceptRungs}
 use Rattle.encoder.specs.Object.{fitsOk, front}
 use Rattle.encoder.specs.Encode.{kept}
 use Rattle.encoder.proofs.Theorems.{encode-stays-lawful}
 use Rattle.receiver.specs.Receive.{chunk}
-use Rattle.given.specs.Given.{F}
+use Rattle.cmaf_read_facts.specs.Given.{F}
 use Rattle.demands.specs.Codec.{Codec}
 use Rattle.demands.specs.Two.{Send, object, Sends, Roomy, Becomes, Call, carry, sent, got, RoundTrip, AllMet, openedAt, DemandTwoFresh}
 use Rattle.demands.proofs.Encoded as Ours
@@ -69,7 +69,7 @@ sends {y} q x rest l =
 
 -- the share that was just opened
 abbrev pub s₀ : List ℕ
-s₀ = with (replicate 988 0)
+s₀ = with (replicate (shareLen - acceptedAt) 0)
 
 parameters-right : lawfulTrack parameters ≡ true
 unfolding lawfulTrack _and_

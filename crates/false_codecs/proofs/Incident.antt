@@ -8,39 +8,45 @@ use lib.ListN.{length, getD, replicate, drop}
 use Rattle.laws.specs.Bytes.{be, de}
 use Rattle.laws.specs.Gate.{gate}
 use Rattle.laws.specs.Ladder.{ladder}
-use Rattle.laws.specs.Tests.{sum, allZero, allLe, _and_}
+use Rattle.laws.specs.Tests.{sum, allZero, allLe, _and_, among}
 use Rattle.wire.specs.Form.{byFirst}
 use Rattle.wire.specs.Varint.{readF}
 use Rattle.wire.specs.Zigzag.{reached, ranged, unzigzag}
 use Rattle.media.specs.Flags.{wideOf}
 use Rattle.track.specs.Track.{lawful}
-use Rattle.fieldset.specs.Lawful.{inUse, has, valuesOf, sameIvSize, lawful as lawfulSet, regionsOk, marksOf, regionOk, saizOk, setRules}
-use Rattle.fieldset.specs.Lines.{lineFor, lineNumber, absentValue, wanted, lines, every}
-use Rattle.sizes.specs.Told.{mayHave, sizesAgree, samplesAgree, toldSum}
-use Rattle.slots.specs.Share.{shareLen, heldAt, askedOf, openOk, lawful as lawfulShare, dropped, setOk, referenceOk, prftOk, opened, isOpen}
-use Rattle.block.specs.Entries.{entry, body, entriesAt, says, readable, content, member, lawful as lawfulEntries}
-use Rattle.block.specs.Front.{wholly, taken}
-use Rattle.block.specs.Index.{known}
-use Rattle.block.specs.Numbers.{numbersRun, numberFront, numbersF}
-use Rattle.block.specs.Records.{number}
-use Rattle.block.specs.Tuples.{tupleFront, tupleF, bodyF, tuplesF, kindOf, tuplesRun}
+use Rattle.field_set.specs.Lawful.{inUse, has, valuesOf, sameIvSize, lawful as lawfulSet, regionsOk, marksOf, regionOk, saizOk, setRules}
+use Rattle.field_table.specs.Lines.{lineFor, lineNumber, absentValue, wanted, lines, every}
+use Rattle.told_sizes.specs.Told.{mayHave, sizesAgree, samplesAgree, toldSum}
+use Rattle.share_words.specs.Share.{shareLen, heldAt, dropped}
+use Rattle.slots.specs.Share.{askedOf, openOk, lawful as lawfulShare, setOk, referenceOk, prftOk, opened, isOpen}
+use Rattle.locmaf_read_block.specs.Entries.{entry, body, entriesAt, says, readable, content, member, lawful as lawfulEntries, known}
+use Rattle.locmaf_read_block.specs.Front.{wholly, taken}
+use Rattle.locmaf_read_block.specs.Numbers.{numbersRun, numberFront, numbersF}
+use Rattle.locmaf_read_block.specs.Records.{number}
+use Rattle.locmaf_read_block.specs.Tuples.{tupleFront, tupleF, bodyF, tuplesF, kindOf, tuplesRun}
 use Rattle.boxes.specs.Box.{fullBox, box}
-use Rattle.protected.specs.Protected.{protection}
-use Rattle.chunk.specs.Front.{trunFlags, emsgBoxes, stypBox, moofWhole, tfhdBox, plain, sizeOf, prftBox, mfhdBox, trunRows, tfhdFlags, trunBox, tfdtBox, trunRow, front, moofBox}
-use Rattle.fields.specs.Cells.{sentList, packed, sentOne, carried, oldValues, cellOf}
-use Rattle.fields.specs.Said.{sayingOf, among}
-use Rattle.fields.specs.Words.{regionsOf, regionOf, setWords}
-use Rattle.reading.specs.Deletions.{moofField, deletionsOk}
-use Rattle.reading.specs.Read.{countReached, stands, subsamples, countFrom, setRungs, brandsFit, came, cameOf, fieldRungs, countOf}
-use Rattle.object.specs.Bmdt.{durationsOf, bmdtOf}
-use Rattle.object.specs.Ids.{idsOk}
-use Rattle.object.specs.Prft.{prftOf}
-use Rattle.object.specs.Sums.{samplesOk, sizesOk, protectedOk}
-use Rattle.object.specs.Values.{allFit, listed, fits, boxed}
-use Rattle.exchange.specs.Kept.{prftWords, keptWords}
+use Rattle.cmaf_write_moof.specs.Moof.{protection, trunFlags, moofWhole, tfhdBox, plain, mfhdBox, trunRows, tfhdFlags, trunBox, tfdtBox, trunRow, moofBox}
+use Rattle.cmaf_write_emsg.specs.Emsg.{emsgBoxes}
+use Rattle.cmaf_write_prelude.specs.Prelude.{stypBox, prftBox}
+use Rattle.effective.specs.Sizes.{sizeOf}
+use Rattle.cmaf_write_front.specs.Front.{front}
+use Rattle.locmaf_read_field.specs.Cells.{sentList, sentOne, carried, cellOf}
+use Rattle.field_rules.specs.Fields.{packed, oldValues}
+use Rattle.locmaf_read_said.specs.Said.{sayingOf}
+use Rattle.field_rules.specs.Words.{regionsOf, regionOf, setWords}
+use Rattle.locmaf_read_said.specs.Deletions.{moofField, deletionsOk}
+use Rattle.locmaf_read_set.specs.Read.{countReached, stands, subsamples, countFrom, setRungs, brandsFit, came, cameOf, fieldRungs, countOf}
+use Rattle.effective.specs.Durations.{durationsOf}
+use Rattle.locmaf_read_times.specs.Bmdt.{bmdtOf}
+use Rattle.locmaf_read_head.specs.Ids.{idsOk}
+use Rattle.locmaf_read_times.specs.Prft.{prftOf}
+use Rattle.effective.specs.Sums.{samplesOk, sizesOk, protectedOk}
+use Rattle.locmaf_read_events.specs.Values.{allFit, listed, fits, boxed}
+use Rattle.reference.specs.Kept.{prftWords, keptWords}
 use Rattle.receiver.specs.Object.{tuples, lengthAt, reads, isDelta, blockReads, headerId, blockEnd, entries, payload, headerReads, headRungs, blockAt, blockLength}
-use Rattle.receiver.specs.Receive.{receiving, newSet, sumsOk, splitRungs, heldOk, idsRight, valuesOk, afterRefusal, accepted, bmdt, sequence, valueRungs, receiveRungs, events, chunk, prft}
-use Rattle.given.specs.Given.{F}
+use Rattle.receiver.specs.Receive.{receiving, newSet, sumsOk, splitRungs, heldOk, idsRight, valuesOk, accepted, bmdt, sequence, valueRungs, receiveRungs, events, chunk, prft}
+use Rattle.answers.specs.Refusals.{afterRefusal}
+use Rattle.cmaf_read_facts.specs.Given.{F}
 use Rattle.false_codecs.specs.Example.{parameters}
 use Rattle.demands.specs.Three.{receives}
 use Rattle.demands.specs.Join.{outs, shareAfter, Joins}

@@ -8,15 +8,16 @@ use mathlib.Core.List.{List, [], _∷_, _++_}
 use lib.ListN.{length, getD, drop, length-append}
 use lib.Seq.{drop-at}
 use Rattle.laws.specs.Tests.{allLe}
-use Rattle.slots.specs.Share.{heldAt, trackOf}
+use Rattle.share_words.specs.Share.{heldAt}
+use Rattle.slots.specs.Share.{trackOf}
 use Rattle.slots.specs.Table.{Out}
-use Rattle.exchange.specs.Took.{Took}
-use Rattle.accepted.specs.Accepted.{payload}
+use Rattle.answers.specs.Took.{Took}
+use Rattle.cmaf_read_chunk.specs.Accepted.{payload}
 use Rattle.encoder.specs.Object.{front}
 use Rattle.receiver.specs.Receive.{chunk, receiving}
 use Rattle.receiver.proofs.AlikeTheorems.{done-is}
 use Rattle.meaning.specs.Meaning.{Meaning, meaningOf, unbranded}
-use Rattle.given.specs.Given.{F}
+use Rattle.cmaf_read_facts.specs.Given.{F}
 use Rattle.demands.specs.Codec.{Codec, gave}
 use Rattle.demands.specs.Two.{Send, isDelta, object, Becomes, sent, got, RoundTrip, DemandTwoFresh}
 use Rattle.demands.proofs.Encoded as Ours

@@ -6,12 +6,12 @@ use mathlib.Core.Bool.{cond}
 use mathlib.Core.List.{List, []}
 use lib.Dec.{eqb}
 use lib.ListN.{getD}
-use Rattle.slots.specs.Share.{heldAt, dropped}
+use Rattle.share_words.specs.Share.{heldAt, dropped}
 use Rattle.slots.specs.Table.{Out, out}
-use Rattle.exchange.specs.Took.{Took, took, refused}
+use Rattle.answers.specs.Took.{Took, took, refused}
 use Rattle.encoder.specs.Encode.{encoding}
 use Rattle.receiver.specs.Receive.{receiving}
-use Rattle.given.specs.Given.{F}
+use Rattle.cmaf_read_facts.specs.Given.{F}
 use Rattle.demands.specs.Codec.{Codec}
 
 -- with any number but 0

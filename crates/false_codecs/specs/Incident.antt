@@ -7,13 +7,13 @@ use mathlib.Core.List.{List, _++_}
 use lib.Dec.{eqb}
 use lib.ListN.{getD, take, drop}
 use lib.Seq.{slice}
-use Rattle.fieldset.specs.Lines.{lines, lineFor}
-use Rattle.slots.specs.Share.{setAt}
+use Rattle.field_table.specs.Lines.{lines, lineFor}
+use Rattle.share_words.specs.Share.{setAt}
 use Rattle.slots.specs.Table.{Out, out}
-use Rattle.exchange.specs.Took.{Took}
+use Rattle.answers.specs.Took.{Took}
 use Rattle.receiver.specs.Object.{isDelta}
 use Rattle.receiver.specs.Receive.{receiving}
-use Rattle.given.specs.Given.{F}
+use Rattle.cmaf_read_facts.specs.Given.{F}
 
 -- where the first sample's flags (id 12) stand in a share: a mark, and the value
 unfoldable pub flagsAt : ℕ

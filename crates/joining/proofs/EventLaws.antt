@@ -16,12 +16,13 @@ use Rattle.media.specs.declared.clocks.TrackTicks.{TrackTicks}
 use Rattle.media.specs.declared.clocks.TrackTime.{TrackTime}
 use Rattle.media.specs.declared.clocks.TrackTime.the-variants.{At, Outside}
 use Rattle.media.specs.Clocks.{onTrack}
-use Rattle.block.specs.declared.records.Record.{Record}
-use Rattle.block.specs.Records.{recordsF}
-use Rattle.block.specs.Events.{Event, eventOf, eventsF}
-use Rattle.fields.specs.Said.{numbers}
-use Rattle.object.specs.Events.{fromBmdt}
-use Rattle.object.specs.Values.{listed, withTime, boxed, boxes}
+use Rattle.locmaf_read_block.specs.declared.records.Record.{Record}
+use Rattle.locmaf_read_block.specs.Records.{recordsF}
+use Rattle.block_items.specs.Events.{Event}
+use Rattle.locmaf_read_block.specs.Events.{eventOf, eventsF}
+use Rattle.field_rules.specs.Fields.{numbers}
+use Rattle.locmaf_read_events.specs.Events.{fromBmdt}
+use Rattle.locmaf_read_events.specs.Values.{listed, withTime, boxed, boxes}
 use Rattle.receiver.specs.Object.{saying, payload}
 use Rattle.receiver.specs.Receive.{track, bmdt, prft, events, brands, valuesOk}
 use Rattle.rebuilt.specs.Chunk.{Short, AllShort}

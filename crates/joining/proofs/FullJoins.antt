@@ -11,12 +11,13 @@ use lib.Seq.{take-append-seam}
 use Rattle.wire.specs.declared.form.Row.{Row}
 use Rattle.track.specs.declared.Asked.{Asked}
 use Rattle.track.specs.Track.{u32}
-use Rattle.slots.specs.declared.share.Side.the-variants.{Receiver}
-use Rattle.slots.specs.Share.{shareLen, isOpen, lawful, opened, dropped}
+use Rattle.slots.specs.declared.lawful.Side.the-variants.{Receiver}
+use Rattle.share_words.specs.Share.{shareLen, referenceLen, dropped}
+use Rattle.slots.specs.Share.{isOpen, lawful, opened}
 use Rattle.slots.specs.Table.{Out, out}
-use Rattle.slots.proofs.Lawful.{dropped-long, dropped-lawful}
-use Rattle.exchange.specs.Took.{Took}
-use Rattle.exchange.specs.Kept.{keptWords}
+use Rattle.slots.proofs.StaysLawful.{dropped-long, dropped-lawful}
+use Rattle.answers.specs.Took.{Took}
+use Rattle.reference.specs.Kept.{keptWords}
 use Rattle.receiver.specs.Object.{isDelta}
 use Rattle.receiver.specs.Receive.{prft, newSet, sequence, chunk, accepted, receiving}
 use Rattle.receiver.proofs.PassedLaws.{passed}
@@ -33,7 +34,7 @@ use Rattle.joining.proofs.NearCalls.{receive-near}
 opened-near : (a : Asked) (n : ℕ) (r : List ℕ) → n ≤ u32 → Near a n (dropped (made a n r)) (opened a)
 unfolding dropped opened
 opened-near a n r h =
-    record { count = n; count′ = 0; rest = replicate 987 0; is = refl; is′ = refl; small = omega arith; apart = omega arith }
+    record { count = n; count′ = 0; rest = replicate referenceLen 0; is = refl; is′ = refl; small = omega arith; apart = omega arith }
 
 module _ (F : List Row) (a : Asked) (n : ℕ) (r : List ℕ) (is-on : eqb (a .track) 0 ≡ false) (few : n ≤ u32) (l : length (made a n r) ≡ shareLen)
     (o room : List ℕ) (full : isDelta F o ≡ false) (z : receiving F o room (made a n r) .answer .number ≡ 0) where
@@ -53,7 +54,7 @@ module _ (F : List Row) (a : Asked) (n : ℕ) (r : List ℕ) (is-on : eqb (a .tr
   -- and then the count alone is another
   unread : Stays a n (receiving F o room (dropped (made a n r))) (receiving F o room (opened a))
   unfolding dropped opened
-  unread = receive-near a n n 0 (replicate 987 0) (omega arith) (omega arith) F o room is-on
+  unread = receive-near a n n 0 (replicate referenceLen 0) (omega arith) (omega arith) F o room is-on
 
   pub full-joins : Stays a n (receiving F o room (made a n r)) (receiving F o room (opened a))
   full-joins = subst (λ (x : Out Took). Stays a n x (receiving F o room (opened a))) (sym forgets) unread

@@ -1,5 +1,5 @@
 -- A call on two shares that agree but for the count of accepted objects: what it gives matches, and the shares stay so. Assumes nothing.
-use Prim.Native.Nat.{ℕ, _+_, _%_, _^_, _≤_}
+use Prim.Native.Nat.{ℕ, _+_, _-_, _%_, _^_, _≤_}
 use native.Mathlib.Omega.{arith}
 use mathlib.Core.Path.{_≡_, refl, sym, _∙_, ap, subst}
 use mathlib.Core.Bool.{Bool, true, false, cond, not, _&&_, false≢true}
@@ -11,16 +11,17 @@ use Rattle.laws.specs.Ladder.{Rung, _else_, ladder, Hold}
 use Rattle.laws.proofs.LadderLaws.{climbs-both}
 use Rattle.wire.specs.declared.form.Row.{Row}
 use Rattle.track.specs.declared.Asked.{Asked}
-use Rattle.track.specs.Track.{u32}
-use Rattle.track.specs.Track.{lawful as lawfulTrack}
-use Rattle.slots.specs.declared.share.Side.the-variants.{Receiver}
-use Rattle.slots.specs.Share.{heldAt, isOpen, lawful, opened, dropped}
+use Rattle.track.specs.Track.{u32, lawful as lawfulTrack}
+use Rattle.slots.specs.declared.lawful.Side.the-variants.{Receiver}
+use Rattle.share_words.specs.Share.{heldAt, prftAt, prftEnd, referenceLen, dropped}
+use Rattle.slots.specs.Share.{isOpen, lawful, opened}
 use Rattle.slots.specs.Table.{Out, out, onShare}
 use Rattle.slots.specs.Calls.{openRungs, openedRungs, opening, grouping}
-use Rattle.exchange.specs.Took.{Took}
-use Rattle.exchange.specs.Kept.{prftWords, keptWords}
+use Rattle.answers.specs.Took.{Took}
+use Rattle.reference.specs.Kept.{prftWords, referenceWords, keptWords}
 use Rattle.receiver.specs.Object.{isDelta}
-use Rattle.receiver.specs.Receive.{bmdt, prft, newSet, sequence, chunk, accepted, afterRefusal, refusing, done, receiveRungs, receiving}
+use Rattle.receiver.specs.Receive.{bmdt, prft, newSet, sequence, chunk, accepted, refusing, done, receiveRungs, receiving}
+use Rattle.answers.specs.Refusals.{afterRefusal}
 use Rattle.receiver.proofs.PassedLaws.{passed}
 use Rattle.joining.specs.Number.{numberAt, unnumbered}
 use Rattle.joining.specs.Matches.{frontBytes, countOf}
@@ -60,7 +61,7 @@ module _ (a : Asked) (d n m : ℕ) (r : List ℕ) (small : m ≤ u32) (apart : n
 
   forgotten : Near a d (dropped (made a n r)) (dropped (made a m r))
   unfolding dropped
-  forgotten = record { count = n; count′ = m; rest = replicate 987 0; is = refl; is′ = refl; small = small; apart = apart }
+  forgotten = record { count = n; count′ = m; rest = replicate referenceLen 0; is = refl; is′ = refl; small = small; apart = apart }
 
   refusal-near : (k : ℕ) → Near a d (afterRefusal k (made a n r)) (afterRefusal k (made a m r))
   unfolding afterRefusal
@@ -77,7 +78,8 @@ module _ (a : Asked) (d n m : ℕ) (r : List ℕ) (small : m ≤ u32) (apart : n
   module _ (F : List Row) (o room : List ℕ) where
     -- what is kept from the mark of the reference on
     abbrev kept : List ℕ
-    kept = 1 ∷ (cond (isDelta F o) (slice 1 6 r) (prftWords (prft F o (made a n r) .prft)) ++ newSet F o (made a n r))
+    kept =
+        referenceWords (cond (isDelta F o) (slice (prftAt - heldAt) (prftEnd - heldAt) r) (prftWords (prft F o (made a n r) .prft))) (newSet F o (made a n r))
 
     accepted-near : Near a d (accepted F o (made a n r)) (accepted F o (made a m r))
     unfolding accepted keptWords newSet bmdt
@@ -91,7 +93,7 @@ module _ (a : Asked) (d n m : ℕ) (r : List ℕ) (small : m ≤ u32) (apart : n
               sym
               (λ j.
               made a (sequence F o (made a m r))
-              (1 ∷ (cond (isDelta F o) (slice 1 6 r) (prftWords (time-same F o a n m r j .prft)) ++ newSet F o (made a n r))));
+              (referenceWords (cond (isDelta F o) (slice (prftAt - heldAt) (prftEnd - heldAt) r) (prftWords (time-same F o a n m r j .prft))) (newSet F o (made a n r))));
           small = sequence-few F o (made a m r);
           apart = counts-on F o;
         }

@@ -13,14 +13,16 @@ use Rattle.laws.specs.Ladder.{_else_}
 use Rattle.wire.specs.declared.form.Row.{Row}
 use Rattle.track.specs.declared.Asked.{Asked}
 use Rattle.track.specs.Track.{u32}
-use Rattle.slots.specs.declared.share.Side.the-variants.{Receiver}
-use Rattle.slots.specs.Share.{acceptedAt, heldAt, askedOf, isOpen, prftOk, referenceOk, openOk, lawful}
-use Rattle.chunk.specs.Front.{front}
-use Rattle.fields.specs.Said.{Says, numbers}
-use Rattle.reading.specs.Read.{setRungs}
-use Rattle.object.specs.Prft.{timesOf, prftOf}
-use Rattle.object.specs.Values.{allFit, boxes}
-use Rattle.object.proofs.PrftLaws.{prft-none, prft-some}
+use Rattle.slots.specs.declared.lawful.Side.the-variants.{Receiver}
+use Rattle.share_words.specs.Share.{acceptedAt, heldAt}
+use Rattle.slots.specs.Share.{askedOf, isOpen, prftOk, referenceOk, openOk, lawful}
+use Rattle.cmaf_write_front.specs.Front.{front}
+use Rattle.locmaf_read_said.specs.Said.{Says}
+use Rattle.field_rules.specs.Fields.{numbers}
+use Rattle.locmaf_read_set.specs.Read.{setRungs}
+use Rattle.locmaf_read_times.specs.Prft.{timesOf, prftOf}
+use Rattle.locmaf_read_events.specs.Values.{allFit, boxes}
+use Rattle.locmaf_read_times.proofs.PrftLaws.{prft-none, prft-some}
 use Rattle.receiver.specs.Object.{isDelta, headRungs, saying, payload}
 use Rattle.receiver.specs.Receive.{track, reference, bmdt, prft, events, brands, newSet, valuesOk, sumsOk, heldOk, idsRight, splitRungs, valueRungs, sequence, chunk, receiveRungs}
 use Rattle.joining.specs.Number.{numberAt, numberIn, unnumbered}
@@ -30,7 +32,7 @@ use Rattle.joining.proofs.EventLaws.{brands-few, events-short}
 
 -- ---- a share by its parts
 
-pub parted : (s : List ℕ) → 9 ≤ length s → s ≡ made (askedOf s) (getD s acceptedAt 0) (drop heldAt s)
+pub parted : (s : List ℕ) → heldAt ≤ length s → s ≡ made (askedOf s) (getD s acceptedAt 0) (drop heldAt s)
 parted (a ∷ b ∷ c ∷ d ∷ e ∷ f ∷ g ∷ h ∷ n ∷ r) l = refl
 parted [] l = absurd (omega arith)
 parted (a ∷ []) l = absurd (omega arith)

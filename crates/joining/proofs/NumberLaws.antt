@@ -10,12 +10,16 @@ use Rattle.laws.proofs.BytesLaws.{length-be, de-be-small}
 use Rattle.laws.proofs.SliceLaws.{slice-between}
 use Rattle.boxes.specs.Box.{box, fullBox}
 use Rattle.boxes.specs.Box as B
-use Rattle.tree.specs.Whole.{kindOf}
-use Rattle.tree.proofs.BoxedLaws.{box-kind}
+use Rattle.cmaf_read_tree.specs.Whole.{kindOf}
+use Rattle.cmaf_read_tree.proofs.BoxedLaws.{box-kind}
 use Rattle.track.specs.declared.Track.{Track}
-use Rattle.chunk.specs.declared.outer.Prft.{Prft}
-use Rattle.chunk.specs.Front.{Event, stypBox, prftBox, emsgBoxes, mfhdBox, plain, protection, moofBox, moofWhole, front}
-use Rattle.shape.specs.Top.{topOf}
+use Rattle.prft_value.specs.declared.Prft.{Prft}
+use Rattle.event_value.specs.Events.{Event}
+use Rattle.cmaf_write_prelude.specs.Prelude.{stypBox, prftBox}
+use Rattle.cmaf_write_emsg.specs.Emsg.{emsgBoxes}
+use Rattle.cmaf_write_moof.specs.Moof.{mfhdBox, plain, moofBox, moofWhole, protection}
+use Rattle.cmaf_write_front.specs.Front.{front}
+use Rattle.cmaf_read_shape.specs.Top.{topOf}
 use Rattle.rebuilt.specs.Chunk.{AllShort}
 use Rattle.rebuilt.proofs.BeforeMoof.{moof-place}
 use Rattle.joining.specs.Number.{numberAt, numberIn, zeroed, unnumbered}

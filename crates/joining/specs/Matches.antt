@@ -4,9 +4,9 @@ use Prim.Native.Nat.{ℕ, _+_, _%_, _^_}
 use mathlib.Core.Path.{_≡_}
 use mathlib.Core.List.{List}
 use lib.ListN.{getD, take, drop}
-use Rattle.slots.specs.Share.{acceptedAt, heldAt}
+use Rattle.share_words.specs.Share.{acceptedAt, heldAt}
 use Rattle.slots.specs.Table.{Out}
-use Rattle.exchange.specs.Took.{Took}
+use Rattle.answers.specs.Took.{Took}
 use Rattle.joining.specs.Number.{numberAt, unnumbered}
 
 -- the front that a call wrote: none where it was refused

@@ -7,7 +7,7 @@ use Rattle.track.specs.declared.Asked.{Asked}
 use Rattle.track.specs.Track.{u32}
 use Rattle.slots.specs.Share.{paramWords}
 use Rattle.slots.specs.Table.{Out}
-use Rattle.exchange.specs.Took.{Took}
+use Rattle.answers.specs.Took.{Took}
 use Rattle.joining.specs.Matches.{Matches}
 
 -- a share by its parts: the parameters, the count, and all that belongs to the reference

@@ -5,7 +5,7 @@ use mathlib.Core.List.{List, _++_}
 use lib.ListN.{take, drop}
 use lib.Seq.{slice}
 use Rattle.laws.specs.Bytes.{be, de}
-use Rattle.shape.specs.Top.{topOf}
+use Rattle.cmaf_read_shape.specs.Top.{topOf}
 
 -- 01: "Order: `styp`? `prft`? `emsg`* `moof` `mdat`"; "`moof` has `mfhd`, then one `traf`": the boxes before the `moof` are passed by their sizes, as a chunk's are
 -- when it is encoded. The number stands behind the size and type of the `moof` (8 bytes), and the size, type, version and flags of the `mfhd` (12 bytes) (D140)

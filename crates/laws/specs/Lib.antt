@@ -6,3 +6,4 @@ pub mod Tests
 pub mod Walk
 pub mod ByLength
 pub mod Each
+pub mod Options

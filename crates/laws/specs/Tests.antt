@@ -1,6 +1,6 @@
 -- Tests of numbers, of lists of them, and rows of tests.
 use Prim.Native.Nat.{ℕ, _+_}
-use mathlib.Core.Bool.{Bool, true, false, not}
+use mathlib.Core.Bool.{Bool, true, false, not, _||_}
 use mathlib.Core.List.{List, [], _∷_}
 use lib.Dec.{eqb, leb}
 use lib.Bits.{bitOr}
@@ -31,6 +31,11 @@ allLe bound (x ∷ xs) = leb x bound and allLe bound xs
 unfoldable pub sum : List ℕ → ℕ
 sum [] = 0
 sum (x ∷ xs) = x + sum xs
+
+-- the number is one of a list
+unfoldable pub among : ℕ → List ℕ → Bool
+among id [] = false
+among id (d ∷ ds) = eqb d id || among id ds
 
 -- ==== What only mirrors the code
 

@@ -7,7 +7,7 @@ use lib.Seq.{drop-length}
 use Rattle.laws.proofs.SliceLaws.{drop-last}
 use Rattle.slots.specs.Table.{Out, out, shareAt}
 use Rattle.slots.proofs.TableLaws.{by-cases}
-use Rattle.exchange.specs.Took.{Took, refused}
+use Rattle.answers.specs.Took.{Took, refused}
 use Rattle.encoder.specs.Encode.{encoding}
 use Rattle.encoder.proofs.Theorems.{encode-last, encode-refuses}
 use Rattle.receiver.specs.Receive.{receiving}

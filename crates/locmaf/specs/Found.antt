@@ -8,7 +8,7 @@ use mathlib.Core.List.{List}
 use lib.ListN.{length, drop}
 use Rattle.wire.specs.declared.form.Row.{Row}
 use Rattle.slots.specs.Table.{Out, onTable}
-use Rattle.exchange.specs.Took.{Took, refused}
+use Rattle.answers.specs.Took.{Took, refused}
 use Rattle.encoder.specs.Encode.{encoding}
 use Rattle.receiver.specs.Receive.{receiving}
 use Rattle.locmaf.specs.Told.{tell}

@@ -3,15 +3,16 @@
 ghost use mathlib.Core.Path.{_≡_};
 ghost use Rattle.wire.specs.Form.{rows};
 ghost use Rattle.wire.specs.declared.form.Form.the-variants.{Rfc9000};
-ghost use Rattle.slots.specs.declared.share.Side.the-variants.{Encoder, Receiver};
+ghost use Rattle.slots.specs.declared.lawful.Side.the-variants.{Encoder, Receiver};
 ghost use Rattle.slots.specs.Share.{asked};
-ghost use Rattle.slots.specs.Table.{tableLen, out, onTable, itself};
+ghost use Rattle.share_words.specs.Share.{tableLen};
+ghost use Rattle.slots.specs.Table.{out, onTable, itself};
 ghost use Rattle.slots.specs.Calls.{opening, closing, grouping};
-ghost use Rattle.exchange.specs.Took.{refused};
+ghost use Rattle.answers.specs.Took.{refused};
 ghost use Rattle.encoder.specs.Encode.{wished, encoding};
 ghost use Rattle.receiver.specs.Receive.{receiving};
 ghost use Rattle.locmaf.specs.Told.{told, tell};
-use slots::share::Side;
+use slots::lawful::Side;
 
 // ---- the encoder
 
@@ -20,7 +21,7 @@ use slots::share::Side;
 pub extern "C" fn locmaf_encoder_words() -> u64
     ensures { λ r. ⌜ r ≡ tableLen ⌝ }
 {
-    slots::calls::TABLE as u64
+    share_words::share::TABLE as u64
 }
 
 // Opens a slot on a track. The number is 0, or why nothing was changed.
@@ -37,7 +38,9 @@ pub extern "C" fn locmaf_encoder_open(
     protection: u64,
     iv_size: u64,
 ) -> u64
-    ensures { λ r. ⌜ out r (now (table .exit)) ≡ onTable itself (opening Encoder (asked track timescale description duration size flags protection «iv_size»)) (now (table .entry)) slot ⌝ }
+    ensures { λ r. ⌜ out r (now (table .exit))
+        ≡ onTable itself (opening Encoder (asked track timescale description duration size flags protection «iv_size»))
+        (now (table .entry)) slot ⌝ }
 {
     slots::calls::open(
         Side::Encoder,
@@ -81,7 +84,10 @@ pub extern "C" fn locmaf_encode(
     number: &mut u64,
     front: &mut u64,
 ) -> u64
-    ensures { λ r. ⌜ told (now (number .exit)) (now (front .exit)) r (now (output .exit)) (now (table .exit)) ≡ tell (onTable (refused (now (output .entry))) (encoding (rows Rfc9000) (wished wish) (now (chunk .entry)) (now (output .entry))) (now (table .entry)) slot) ⌝ }
+    ensures { λ r. ⌜ told (now (number .exit)) (now (front .exit)) r (now (output .exit)) (now (table .exit))
+        ≡ tell (onTable (refused (now (output .entry)))
+        (encoding (rows Rfc9000) (wished wish) (now (chunk .entry)) (now (output .entry)))
+        (now (table .entry)) slot) ⌝ }
 {
     let payload = encoder::encode::encode(table, slot, wish, chunk, output, number, front);
     payload.len() as u64
@@ -94,7 +100,7 @@ pub extern "C" fn locmaf_encode(
 pub extern "C" fn locmaf_receiver_words() -> u64
     ensures { λ r. ⌜ r ≡ tableLen ⌝ }
 {
-    slots::calls::TABLE as u64
+    share_words::share::TABLE as u64
 }
 
 // Opens a slot on a track. The number is 0, or why nothing was changed.
@@ -111,7 +117,9 @@ pub extern "C" fn locmaf_receiver_open(
     protection: u64,
     iv_size: u64,
 ) -> u64
-    ensures { λ r. ⌜ out r (now (table .exit)) ≡ onTable itself (opening Receiver (asked track timescale description duration size flags protection «iv_size»)) (now (table .entry)) slot ⌝ }
+    ensures { λ r. ⌜ out r (now (table .exit))
+        ≡ onTable itself (opening Receiver (asked track timescale description duration size flags protection «iv_size»))
+        (now (table .entry)) slot ⌝ }
 {
     slots::calls::open(
         Side::Receiver,
@@ -154,7 +162,10 @@ pub extern "C" fn locmaf_receive(
     number: &mut u64,
     front: &mut u64,
 ) -> u64
-    ensures { λ r. ⌜ told (now (number .exit)) (now (front .exit)) r (now (output .exit)) (now (table .exit)) ≡ tell (onTable (refused (now (output .entry))) (receiving (rows Rfc9000) (now (object .entry)) (now (output .entry))) (now (table .entry)) slot) ⌝ }
+    ensures { λ r. ⌜ told (now (number .exit)) (now (front .exit)) r (now (output .exit)) (now (table .exit))
+        ≡ tell (onTable (refused (now (output .entry)))
+        (receiving (rows Rfc9000) (now (object .entry)) (now (output .entry)))
+        (now (table .entry)) slot) ⌝ }
 {
     let payload = receiver::receive::receive(table, slot, object, output, number, front);
     payload.len() as u64

@@ -8,25 +8,25 @@ use mathlib.Core.Option.{Option, none, some}
 use lib.Dec.{eqb, ltb}
 use lib.IntN.{ℤ, pos, _-ℤ_}
 use lib.Seq.{slice}
-use Rattle.tree.specs.Numbers.{u16, u32, u64}
+use Rattle.cmaf_read_tree.specs.Numbers.{u16, u32, u64}
 use Rattle.track.specs.declared.Track.{Track}
-use Rattle.shape.specs.declared.parts.Part.{Part}
-use Rattle.shape.specs.declared.inner.Inner.{Inner}
-use Rattle.shape.specs.Parts.{endOf, bodyOf}
-use Rattle.shape.specs.Top.{topOf}
-use Rattle.shape.specs.Inner.{innerOf}
-use Rattle.chunk.specs.declared.outer.Prft.{Prft}
-use Rattle.chunk.specs.Front.{Event}
-use Rattle.prelude.specs.Prft.{prftOf}
-use Rattle.prelude.specs.Emsg.{emsgAt, schemeAt, schemeEnd, valueEnd}
-use Rattle.fragment.specs.declared.defaults.Defaults.{Defaults}
-use Rattle.fragment.specs.declared.rows.Run.{Run}
-use Rattle.fragment.specs.Words.{bitOf}
-use Rattle.fragment.specs.Headers.{bmdtOf}
-use Rattle.fragment.specs.Defaults.{defaultsOf}
-use Rattle.fragment.specs.Rows.{durations, sampleFlags, offsets, first, runOf, hasColumn, cell, sizeAt, firstFlags}
-use Rattle.encryption.specs.declared.entries.Entries.{Entries}
-use Rattle.encryption.specs.Entries.{entriesOf, pairsAt, lengthAt}
+use Rattle.byte_parts.specs.declared.Part.{Part}
+use Rattle.cmaf_read_shape.specs.declared.inner.Inner.{Inner}
+use Rattle.cmaf_read_shape.specs.Parts.{endOf, bodyOf}
+use Rattle.cmaf_read_shape.specs.Top.{topOf}
+use Rattle.cmaf_read_shape.specs.Inner.{innerOf}
+use Rattle.prft_value.specs.declared.Prft.{Prft}
+use Rattle.event_value.specs.Events.{Event}
+use Rattle.cmaf_read_prelude.specs.Prft.{prftOf}
+use Rattle.cmaf_read_prelude.specs.Emsg.{emsgAt, schemeAt, schemeEnd, valueEnd}
+use Rattle.cmaf_read_moof.specs.declared.defaults.Defaults.{Defaults}
+use Rattle.cmaf_read_trun.specs.declared.rows.Run.{Run}
+use Rattle.cmaf_read_shape.specs.Words.{bitOf}
+use Rattle.cmaf_read_moof.specs.Headers.{bmdtOf}
+use Rattle.cmaf_read_moof.specs.Defaults.{defaultsOf}
+use Rattle.cmaf_read_trun.specs.Rows.{durations, sampleFlags, offsets, first, runOf, hasColumn, cell, sizeAt, firstFlags}
+use Rattle.cmaf_read_senc.specs.declared.entries.Entries.{Entries}
+use Rattle.cmaf_read_senc.specs.Entries.{entriesOf, pairsAt, lengthAt}
 
 -- clear and protected bytes
 pub record Subsample : Type 0 where

@@ -15,12 +15,12 @@ use Rattle.laws.specs.Bytes.{be}
 use Rattle.laws.specs.Tests.{allLe}
 use Rattle.laws.proofs.BytesLaws.{be-slice}
 use Rattle.laws.proofs.SliceLaws.{slice-none, take-slice, drop-slice}
-use Rattle.shape.specs.declared.parts.Part.{Part}
-use Rattle.shape.specs.Parts.{endOf, bodyOf, Inside}
-use Rattle.shape.proofs.PartLaws.{body-short, body-long}
-use Rattle.prelude.specs.Styp.{stypOk, minorVersion}
-use Rattle.prelude.proofs.StypLaws.{styp-long, minor-some}
-use Rattle.accepted.specs.Accepted.{bytesAt, brandsOf}
+use Rattle.byte_parts.specs.declared.Part.{Part}
+use Rattle.cmaf_read_shape.specs.Parts.{endOf, bodyOf, Inside}
+use Rattle.cmaf_read_shape.proofs.PartLaws.{body-short, body-long}
+use Rattle.cmaf_read_prelude.specs.Styp.{stypOk, minorVersion}
+use Rattle.cmaf_read_prelude.proofs.StypLaws.{styp-long, minor-some}
+use Rattle.cmaf_read_chunk.specs.Accepted.{bytesAt, brandsOf}
 use Rattle.meaning.specs.Meaning.{stypOf}
 use Rattle.meant.specs.BySet.{stypBy}
 

@@ -13,23 +13,24 @@ use Rattle.laws.specs.Bytes.{be}
 use Rattle.laws.specs.Tests.{allLe}
 use Rattle.laws.proofs.BytesLaws.{be-slice}
 use Rattle.laws.proofs.SliceLaws.{slice-none, slice-join}
-use Rattle.tree.specs.Numbers.{u16, u32, u64}
+use Rattle.cmaf_read_tree.specs.Numbers.{u16, u32, u64}
 use Rattle.track.specs.declared.Track.{Track}
 use Rattle.track.proofs.IvLaws.{iv-eights}
-use Rattle.fieldset.specs.Lawful.{has}
-use Rattle.protected.specs.Protected.{valueAt, when, ivBytes}
-use Rattle.fragment.specs.Samples.{eachFrom}
-use Rattle.fields.proofs.StandLaws.{Stand, stand-first, stand-next}
-use Rattle.encryption.specs.declared.entries.Entries.{Entries}
-use Rattle.encryption.specs.Entries.{pairsAt}
-use Rattle.encryption.proofs.EntryLaws.{left-whole}
-use Rattle.encryption.proofs.SencLaws.{entries-iv}
-use Rattle.gather.specs.Entries.{ivWords, clearBytes, protectedBytes}
-use Rattle.gather.specs.Set.{entries, chunkSet}
-use Rattle.accepted.specs.Accepted.{inner}
-use Rattle.accepted.proofs.ChunkFacts.{Facts}
+use Rattle.field_set.specs.Lawful.{has, valueAt}
+use Rattle.boxes.specs.Box.{when}
+use Rattle.cmaf_write_senc.specs.Protected.{ivBytes}
+use Rattle.cmaf_read_trun.specs.Samples.{eachFrom}
+use Rattle.field_rules.proofs.StandLaws.{Stand, stand-first, stand-next}
+use Rattle.cmaf_read_senc.specs.declared.entries.Entries.{Entries}
+use Rattle.cmaf_read_senc.specs.Entries.{pairsAt}
+use Rattle.cmaf_read_senc.proofs.EntryLaws.{left-whole}
+use Rattle.cmaf_read_senc.proofs.SencLaws.{entries-iv}
+use Rattle.cmaf_read_set.specs.Entries.{ivWords, clearBytes, protectedBytes}
+use Rattle.cmaf_read_set.specs.Set.{entries, chunkSet}
+use Rattle.cmaf_read_chunk.specs.Accepted.{inner}
+use Rattle.cmaf_read_chunk.proofs.ChunkFacts.{Facts}
 use Rattle.meaning.specs.Meaning.{pairsFrom, entryAt, protectionAt}
-use Rattle.given.proofs.SencWalk.{Walk, protection, count-is, ivs-here, clear-here, protected-here}
+use Rattle.cmaf_read_facts.proofs.SencWalk.{Walk, protection, count-is, ivs-here, clear-here, protected-here}
 use Rattle.meant.specs.BySet.{pairsBy, entryBy}
 
 -- k subsamples of those from a place on, the first with the number q of them and j of the set

@@ -9,14 +9,13 @@ use lib.ListN.{length, getD, length-append}
 use lib.Seq.{slice, getD-append-add}
 use Rattle.laws.proofs.SliceLaws.{slice-lent}
 use Rattle.laws.proofs.TestLaws.{left, right}
-use Rattle.shape.specs.declared.parts.Part.{Part}
-use Rattle.shape.specs.Parts.{endOf, Inside}
-use Rattle.chunk.specs.Front.{Event}
-use Rattle.chunk.specs.Events.{part, eventAt}
-use Rattle.chunk.specs.Events as E
-use Rattle.prelude.specs.Emsg.{schemeAt, schemeEnd, valueEnd, emsgOk, emsgAt, emsgsOk, eventWords, emsgWords}
-use Rattle.prelude.proofs.EmsgLaws.{strings, emsg-inside}
-use Rattle.prelude.proofs.EventLaws.{event-length}
+use Rattle.byte_parts.specs.declared.Part.{Part}
+use Rattle.cmaf_read_shape.specs.Parts.{endOf, Inside}
+use Rattle.event_value.specs.Events.{Event, part, eventAt}
+use Rattle.event_value.specs.Events as E
+use Rattle.cmaf_read_prelude.specs.Emsg.{schemeAt, schemeEnd, valueEnd, emsgOk, emsgAt, emsgsOk, eventWords, emsgWords}
+use Rattle.cmaf_read_prelude.proofs.EmsgLaws.{strings, emsg-inside}
+use Rattle.cmaf_read_prelude.proofs.EventLaws.{event-length}
 use Rattle.meaning.specs.Meaning.{eventOf, eventsFrom}
 
 module _ (c : List ℕ) where

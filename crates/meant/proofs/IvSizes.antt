@@ -12,17 +12,17 @@ use lib.Seq.{slice, length-slice}
 use Rattle.laws.specs.Each.{AllOf}
 use Rattle.laws.proofs.SliceLaws.{slice-none}
 use Rattle.track.specs.declared.Track.{Track}
-use Rattle.fieldset.specs.Lawful.{has}
-use Rattle.encryption.specs.declared.entries.Entries.{Entries}
-use Rattle.encryption.specs.Entries.{lengthAt}
-use Rattle.encryption.proofs.EntryLaws.{left-whole}
-use Rattle.encryption.proofs.SencLaws.{entries-iv}
-use Rattle.gather.specs.Set.{entries, run, chunkSet}
-use Rattle.accepted.specs.Accepted.{inner}
-use Rattle.accepted.proofs.ChunkFacts.{Facts, chunk-facts}
+use Rattle.field_set.specs.Lawful.{has}
+use Rattle.cmaf_read_senc.specs.declared.entries.Entries.{Entries}
+use Rattle.cmaf_read_senc.specs.Entries.{lengthAt}
+use Rattle.cmaf_read_senc.proofs.EntryLaws.{left-whole}
+use Rattle.cmaf_read_senc.proofs.SencLaws.{entries-iv}
+use Rattle.cmaf_read_set.specs.Set.{entries, run, chunkSet}
+use Rattle.cmaf_read_chunk.specs.Accepted.{inner}
+use Rattle.cmaf_read_chunk.proofs.ChunkFacts.{Facts, chunk-facts}
 use Rattle.meaning.specs.Meaning.{entryAt, protectionAt, sampleAt, samplesFrom, meaningOf}
-use Rattle.given.specs.Given.{F}
-use Rattle.given.proofs.SencWalk.{Walk, walk-start, walk-next}
+use Rattle.cmaf_read_facts.specs.Given.{F}
+use Rattle.cmaf_read_facts.proofs.SencWalk.{Walk, walk-start, walk-next}
 use Rattle.meant.specs.IvSizes.{SizedIv, IvsSized}
 use Rattle.meant.proofs.EntryMeans.{ivs-stand}
 

@@ -10,22 +10,22 @@ use lib.Dec.{eqb}
 use lib.ListN.{length}
 use Rattle.laws.proofs.TestLaws.{and-left}
 use Rattle.track.specs.declared.Track.{Track}
-use Rattle.shape.specs.declared.inner.Inner.{Inner}
-use Rattle.shape.specs.Parts.{bodyOf}
-use Rattle.prelude.specs.Styp.{minorVersion}
-use Rattle.prelude.specs.Prft.{prftTrack}
-use Rattle.fieldset.specs.Lawful.{has}
-use Rattle.protected.specs.Protected.{valueAt, countIn, flagWhen}
-use Rattle.encryption.specs.Entries.{lengthAt}
-use Rattle.gather.specs.Set.{defaults, run, entries, chunkSet}
-use Rattle.gather.proofs.SetSays.{says-other}
-use Rattle.rules.specs.Rules.{outerOk}
-use Rattle.accepted.specs.Accepted.{top, inner, boxes, prft, brands, payload, fields}
-use Rattle.accepted.proofs.ChunkFacts.{Facts, chunk-facts, payload-length}
+use Rattle.cmaf_read_shape.specs.declared.inner.Inner.{Inner}
+use Rattle.cmaf_read_shape.specs.Parts.{bodyOf}
+use Rattle.cmaf_read_prelude.specs.Styp.{minorVersion}
+use Rattle.cmaf_read_prelude.specs.Prft.{prftTrack}
+use Rattle.field_set.specs.Lawful.{has, valueAt, countIn}
+use Rattle.boxes.specs.Box.{flagWhen}
+use Rattle.cmaf_read_senc.specs.Entries.{lengthAt}
+use Rattle.cmaf_read_set.specs.Set.{defaults, run, entries, chunkSet}
+use Rattle.cmaf_read_set.proofs.SetSays.{says-other}
+use Rattle.cmaf_read_rules.specs.Rules.{outerOk}
+use Rattle.cmaf_read_chunk.specs.Accepted.{top, inner, boxes, prft, brands, payload, fields}
+use Rattle.cmaf_read_chunk.proofs.ChunkFacts.{Facts, chunk-facts, payload-length}
 use Rattle.meaning.specs.Meaning.{Sample, sampleAt, samplesFrom, stypOf, meaningOf}
-use Rattle.given.specs.Given.{F}
-use Rattle.given.proofs.SizeGives.{size-same, chunk-sized}
-use Rattle.given.proofs.SencWalk.{Walk, walk-start, walk-next}
+use Rattle.cmaf_read_facts.specs.Given.{F}
+use Rattle.cmaf_read_facts.proofs.SizeGives.{size-same, chunk-sized}
+use Rattle.cmaf_read_facts.proofs.SencWalk.{Walk, walk-start, walk-next}
 use Rattle.meant.specs.BySet.{sampleBy, samplesBy, stypBy, meaningBy, MeansBySet}
 use Rattle.meant.proofs.SampleMeans.{duration-means, offset-means, flags-means}
 use Rattle.meant.proofs.EntryMeans.{protection-means}

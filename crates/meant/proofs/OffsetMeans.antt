@@ -7,7 +7,7 @@ use mathlib.Core.Bool.{Bool, true, false, cond}
 use borrow.Author.Tests.{ltb-true, ltb-false, lt-ltb, le-ltb}
 use lib.Dec.{ltb}
 use lib.IntN.{pos, _-ℤ_}
-use Rattle.gather.specs.Set.{raised}
+use Rattle.cmaf_read_samples.specs.Held.{raised}
 use Rattle.meaning.specs.Meaning.{signed}
 
 -- a number below 2^31

@@ -15,22 +15,22 @@ use Rattle.laws.proofs.TestLaws.{left, right, both-of, le-at}
 use Rattle.media.specs.Flags.{wideOf, fiveOf, only}
 use Rattle.media.proofs.FlagLaws.{only-wide}
 use Rattle.track.specs.declared.Track.{Track}
-use Rattle.fieldset.specs.Lawful.{has}
-use Rattle.protected.specs.Protected.{valueAt}
-use Rattle.fragment.specs.declared.defaults.Defaults.{Defaults}
-use Rattle.fragment.specs.declared.rows.Run.{Run}
-use Rattle.fragment.specs.Words.{bitOf}
-use Rattle.fragment.specs.Rows.{durations, offsets, sampleFlags, first, hasColumn, cell, firstFlags}
-use Rattle.fragment.specs.Samples.{columnOf}
-use Rattle.fragment.proofs.EachLaws.{column-at}
-use Rattle.gather.specs.Set.{raised, defaults, run, chunkSet}
-use Rattle.gather.proofs.FitLaws.{column-length}
-use Rattle.gather.proofs.SetSays.{says-value, says-choice, says-other}
-use Rattle.rules.specs.Rules.{flagsOk, offsetsOk}
-use Rattle.rules.proofs.SampleLaws.{flags-row, column-some}
-use Rattle.accepted.specs.Accepted.{inner}
-use Rattle.accepted.proofs.ChunkFacts.{Facts}
-use Rattle.accepted.proofs.SetValues.{column-le}
+use Rattle.field_set.specs.Lawful.{has, valueAt}
+use Rattle.cmaf_read_moof.specs.declared.defaults.Defaults.{Defaults}
+use Rattle.cmaf_read_trun.specs.declared.rows.Run.{Run}
+use Rattle.cmaf_read_shape.specs.Words.{bitOf}
+use Rattle.cmaf_read_trun.specs.Rows.{durations, offsets, sampleFlags, first, hasColumn, cell, firstFlags}
+use Rattle.cmaf_read_trun.specs.Samples.{columnOf}
+use Rattle.cmaf_read_trun.proofs.EachLaws.{column-at}
+use Rattle.cmaf_read_samples.specs.Held.{raised}
+use Rattle.cmaf_read_set.specs.Set.{defaults, run, chunkSet}
+use Rattle.cmaf_read_set.proofs.FitLaws.{column-length}
+use Rattle.cmaf_read_set.proofs.SetSays.{says-value, says-choice, says-other}
+use Rattle.cmaf_read_rules.specs.Rules.{flagsOk, offsetsOk}
+use Rattle.cmaf_read_trun.proofs.SampleLaws.{flags-row, column-some}
+use Rattle.cmaf_read_chunk.specs.Accepted.{inner}
+use Rattle.cmaf_read_chunk.proofs.ChunkFacts.{Facts}
+use Rattle.cmaf_read_chunk.proofs.SetValues.{column-le}
 use Rattle.meaning.specs.Meaning.{columnAt, flagsAt, offsetAt, signed}
 use Rattle.meant.proofs.OffsetMeans.{raised-low, raised-signed}
 

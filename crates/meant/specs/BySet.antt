@@ -15,14 +15,16 @@ use Rattle.laws.specs.Ladder.{Hold}
 use Rattle.media.specs.Flags.{wideOf}
 use Rattle.track.specs.declared.Track.{Track}
 use Rattle.track.specs.Track.{ivOk}
-use Rattle.fieldset.specs.Lines.{bmdtAt}
-use Rattle.fieldset.specs.Lawful.{has}
-use Rattle.protected.specs.Protected.{valueAt, countIn, when, flagWhen, ivBytes}
-use Rattle.chunk.specs.declared.outer.Prft.{Prft}
-use Rattle.chunk.specs.Front.{Event, sizeOf}
-use Rattle.accepted.specs.Accepted.{prft, brands, boxes, payload, fields, acceptRungs}
+use Rattle.field_table.specs.Lines.{bmdtAt}
+use Rattle.field_set.specs.Lawful.{has, valueAt, countIn}
+use Rattle.boxes.specs.Box.{when, flagWhen}
+use Rattle.cmaf_write_senc.specs.Protected.{ivBytes}
+use Rattle.prft_value.specs.declared.Prft.{Prft}
+use Rattle.event_value.specs.Events.{Event}
+use Rattle.effective.specs.Sizes.{sizeOf}
+use Rattle.cmaf_read_chunk.specs.Accepted.{prft, brands, boxes, payload, fields, acceptRungs}
 use Rattle.meaning.specs.Meaning.{Subsample, Protection, Sample, Meaning, meaningOf}
-use Rattle.given.specs.Given.{F}
+use Rattle.cmaf_read_facts.specs.Given.{F}
 
 -- k subsamples from the number j on
 unfoldable pub pairsBy : List ℕ → ℕ → ℕ → List Subsample

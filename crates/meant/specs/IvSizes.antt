@@ -11,9 +11,9 @@ use Rattle.laws.specs.Each.{AllOf}
 use Rattle.laws.specs.Ladder.{Hold}
 use Rattle.track.specs.declared.Track.{Track}
 use Rattle.track.specs.Track.{ivOk}
-use Rattle.accepted.specs.Accepted.{acceptRungs}
+use Rattle.cmaf_read_chunk.specs.Accepted.{acceptRungs}
 use Rattle.meaning.specs.Meaning.{Protection, meaningOf}
-use Rattle.given.specs.Given.{F}
+use Rattle.cmaf_read_facts.specs.Given.{F}
 
 -- a sample that is protected has an IV of as many bytes as the parameter says
 abbrev pub SizedIv : Track → Option Protection → Type 0

@@ -1,5 +1,6 @@
 // The three clocks. Each time is a value of its own clock's kind, and no function takes or gives two kinds but as the time of an event, which is on
 // one of two clocks: nothing adds them.
+// Letters: `z` a number on the wire.
 ghost use mathlib.Core.Path.{_≡_};
 ghost use Rattle.wire.specs.Form.{rows};
 ghost use Rattle.wire.specs.Zigzag.{codeOf};

@@ -1,4 +1,5 @@
 // Sample flags: the 32-bit field of a box, built one field after another, and the five-bit form of the wire.
+// Letters: `v` a number, `f` flags.
 ghost use mathlib.Core.Path.{_≡_};
 ghost use Prim.Native.Nat.{_%_};
 ghost use Rattle.media.specs.Flags.{placed, nonSync, dependsOn, isDependedOn, wideOf, fiveOf, only};

@@ -7,18 +7,21 @@ use mathlib.Core.List.{List, [], _∷_, _++_, append-assoc}
 use borrow.Author.Tests.{eq-eqb, ne-eqb}
 use lib.ListN.{length, drop, length-append}
 use lib.Seq.{take-all}
+use Rattle.constants.specs.Maxima.{brandBytesMost}
 use Rattle.laws.proofs.TestLaws.{both, and-is}
 use Rattle.track.specs.declared.Track.{Track}
 use Rattle.boxes.specs.Box as B
-use Rattle.tree.specs.Whole.{kindOf, sized}
-use Rattle.shape.specs.Parts.{part, boxAt}
-use Rattle.shape.specs.Top.{row, emsgs, emsgsFrom, topOf}
-use Rattle.shape.proofs.RunLaws.{leads, emsgs-none, emsgs-more}
-use Rattle.chunk.specs.declared.outer.Prft.{Prft}
-use Rattle.chunk.specs.Front.{Event, stypBox, prftBox, emsgBox, emsgBoxes}
-use Rattle.shape.specs.Left.{Left}
-use Rattle.shape.proofs.LeftLaws.{left-all, left-past}
-use Rattle.shape.proofs.OneBoxLaws.{OneBox, one-kind, one-sized, one-size, one-after, maybe-not, maybe-found}
+use Rattle.cmaf_read_tree.specs.Whole.{kindOf, sized}
+use Rattle.cmaf_read_shape.specs.Parts.{part, boxAt}
+use Rattle.cmaf_read_shape.specs.Top.{row, emsgs, emsgsFrom, topOf}
+use Rattle.cmaf_read_shape.proofs.RunLaws.{leads, emsgs-none, emsgs-more}
+use Rattle.prft_value.specs.declared.Prft.{Prft}
+use Rattle.event_value.specs.Events.{Event}
+use Rattle.cmaf_write_prelude.specs.Prelude.{stypBox, prftBox}
+use Rattle.cmaf_write_emsg.specs.Emsg.{emsgBox, emsgBoxes}
+use Rattle.cmaf_read_shape.specs.Left.{Left}
+use Rattle.cmaf_read_shape.proofs.LeftLaws.{left-all, left-past}
+use Rattle.cmaf_read_shape.proofs.OneBoxLaws.{OneBox, one-kind, one-sized, one-size, one-after, maybe-not, maybe-found}
 use Rattle.rebuilt.specs.Chunk.{AllShort}
 use Rattle.rebuilt.proofs.OuterRead.{styp-box, prft-box, emsg-box}
 
@@ -49,7 +52,7 @@ run-not (x ∷ es) l h here behind e =
     here (sym (ap kindOf (append-assoc (emsgBox x) (emsgBoxes es) l) ∙ one-kind (emsg-box x (h .0)) (emsgBoxes es ++ l)) ∙ e)
 
 -- the boxes, and the list l behind them, which begins as a `moof` does
-module _ (t : Track) (p : Prft) (events : List Event) (brands l : List ℕ) (m : kindOf l ≡ B.moof) (few : length brands ≤ 64) (short : AllShort events) where
+module _ (t : Track) (p : Prft) (events : List Event) (brands l : List ℕ) (m : kindOf l ≡ B.moof) (few : length brands ≤ brandBytesMost) (short : AllShort events) where
   -- what is left from each on
   abbrev rest₂ : List ℕ
   rest₂ = emsgBoxes events ++ l

@@ -6,10 +6,10 @@ use borrow.Author.Tests.{eqb-true, ltb-true}
 use lib.Dec.{eqb, ltb}
 use Rattle.laws.proofs.TestLaws.{left, right}
 use Rattle.laws.specs.Tests.{_and_}
-use Rattle.protected.specs.Protected.{flagWhen}
-use Rattle.fragment.specs.Words.{bitOf}
-use Rattle.fragment.specs.Defaults.{fieldsIn, tfhdFlagsOk}
-use Rattle.fragment.specs.Rows.{columnsIn, runFlagsOk}
+use Rattle.boxes.specs.Box.{flagWhen}
+use Rattle.cmaf_read_shape.specs.Words.{bitOf}
+use Rattle.cmaf_read_moof.specs.Defaults.{fieldsIn, tfhdFlagsOk}
+use Rattle.cmaf_read_trun.specs.Rows.{columnsIn, runFlagsOk}
 use Rattle.rebuilt.specs.Read.{trunWord}
 
 -- a flag as a bit

@@ -11,15 +11,17 @@ use Rattle.laws.specs.Tests.{allLe}
 use Rattle.laws.proofs.TestLaws.{left, right, both, allLe-append}
 use Rattle.track.specs.declared.Track.{Track}
 use Rattle.track.specs.Track.{narrow}
-use Rattle.fieldset.specs.Lawful.{has}
-use Rattle.boxes.specs.Box.{box, fullBox}
-use Rattle.protected.specs.Protection.{Protectable}
-use Rattle.protected.specs.Protected.{countIn, valueAt, when, flagWhen, ivBytes, subsamples, infoSize, infoSizes, allSized}
-use Rattle.protected.specs.Protected.{sencEntries, sencBox, saizBox, saioBox, protection}
-use Rattle.protected.proofs.PairLaws.{info-small}
-use Rattle.chunk.specs.Front.{Event, stypBox, mediaBytes, prftBox, emsgBox, emsgBoxes}
-use Rattle.chunk.specs.Front.{mfhdBox, tfhdBox, tfdtBox, trunRow, trunRows, trunBox, plain, moofBox, moofWhole}
-use Rattle.given.specs.Given.{AllBoxed}
+use Rattle.field_set.specs.Lawful.{has, countIn, valueAt}
+use Rattle.boxes.specs.Box.{box, fullBox, when, flagWhen}
+use Rattle.cmaf_write_senc.specs.Protection.{Protectable}
+use Rattle.cmaf_write_senc.specs.Protected.{ivBytes, subsamples, sencEntries, sencBox}
+use Rattle.cmaf_write_saiz.specs.Saiz.{infoSize, infoSizes, allSized, saizBox, saioBox}
+use Rattle.cmaf_write_moof.specs.Moof.{protection, mfhdBox, tfhdBox, tfdtBox, trunRow, trunRows, trunBox, plain, moofBox, moofWhole}
+use Rattle.cmaf_write_saiz.proofs.InfoLaws.{info-small}
+use Rattle.event_value.specs.Events.{Event}
+use Rattle.cmaf_write_prelude.specs.Prelude.{stypBox, mediaBytes, prftBox}
+use Rattle.cmaf_write_emsg.specs.Emsg.{emsgBox, emsgBoxes}
+use Rattle.cmaf_read_facts.specs.Given.{AllBoxed}
 use Rattle.rebuilt.specs.Chunk.{chunkOf}
 use Rattle.rebuilt.specs.Says.{FrontBytes}
 use Rattle.rebuilt.proofs.FitLaws.{given-fits}

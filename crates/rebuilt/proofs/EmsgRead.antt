@@ -12,19 +12,19 @@ use Rattle.laws.specs.Tests.{noZero}
 use Rattle.laws.proofs.TestLaws.{left, right}
 use Rattle.boxes.specs.Box as B
 use Rattle.boxes.proofs.BoxLaws.{length-fullBox}
-use Rattle.tree.specs.Numbers.{u32, u64}
-use Rattle.shape.specs.declared.parts.Part.{Part}
-use Rattle.shape.specs.Parts.{part, endOf}
-use Rattle.chunk.specs.Front.{Event, emsgBox, emsgBoxes}
-use Rattle.chunk.specs.Events.{eventAt, eventsFrom, eventsOf}
-use Rattle.prelude.specs.Emsg.{beforeZero, zeroFrom, schemeAt, schemeEnd, valueEnd, eventWords, emsgWords}
-use Rattle.shape.specs.Left.{Left}
-use Rattle.shape.proofs.LeftLaws.{left-to, left-on, left-number, left-part, left-past}
-use Rattle.given.specs.Given.{BoxedEvent, AllBoxed}
+use Rattle.cmaf_read_tree.specs.Numbers.{u32, u64}
+use Rattle.byte_parts.specs.declared.Part.{Part}
+use Rattle.cmaf_read_shape.specs.Parts.{part, endOf}
+use Rattle.event_value.specs.Events.{Event, eventAt, eventsFrom, eventsOf}
+use Rattle.cmaf_write_emsg.specs.Emsg.{emsgBox, emsgBoxes}
+use Rattle.cmaf_read_prelude.specs.Emsg.{beforeZero, zeroFrom, schemeAt, schemeEnd, valueEnd, eventWords, emsgWords}
+use Rattle.cmaf_read_shape.specs.Left.{Left}
+use Rattle.cmaf_read_shape.proofs.LeftLaws.{left-to, left-on, left-number, left-part, left-past}
+use Rattle.cmaf_read_facts.specs.Given.{BoxedEvent, AllBoxed}
 use Rattle.rebuilt.proofs.FullBoxes.{full-body}
 use lib.Seq.{getD-append-add}
-use Rattle.prelude.proofs.EventLaws.{event-length}
-use Rattle.shape.proofs.OneBoxLaws.{one-found}
+use Rattle.cmaf_read_prelude.proofs.EventLaws.{event-length}
+use Rattle.cmaf_read_shape.proofs.OneBoxLaws.{one-found}
 use Rattle.rebuilt.specs.Chunk.{AllShort}
 use Rattle.rebuilt.proofs.OuterRead.{emsg-box}
 

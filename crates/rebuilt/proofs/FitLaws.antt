@@ -7,28 +7,30 @@ use mathlib.Core.List.{List, [], _∷_}
 use borrow.Author.Tests.{ltb-true}
 use lib.Dec.{leb, ltb}
 use lib.ListN.{length, getD}
+use Rattle.constants.specs.Maxima.{payloadMost}
 use Rattle.laws.specs.Tests.{sum}
 use Rattle.track.specs.declared.Track.{Track}
 use Rattle.track.specs.declared.Asked.{Asked}
 use Rattle.track.specs.Track.{narrow, lawful as lawfulTrack}
 use Rattle.track.proofs.TrackLaws.{ranges}
-use Rattle.fieldset.specs.Lines.{bmdtAt}
-use Rattle.fieldset.specs.Lawful.{has, valuesOf}
-use Rattle.fieldset.proofs.LawfulLaws.{lawful-facts}
-use Rattle.protected.specs.Protected.{valueAt, countIn}
+use Rattle.field_table.specs.Lines.{bmdtAt}
+use Rattle.field_set.specs.Lawful.{has, valuesOf, valueAt, countIn}
+use Rattle.field_set.proofs.LawfulLaws.{lawful-facts}
 use Rattle.boxes.proofs.BoxLaws.{length-box}
-use Rattle.protected.specs.Protection.{Protectable}
-use Rattle.protected.proofs.ProtectableLaws.{lawful-protectable}
-use Rattle.chunk.specs.declared.outer.Prft.{Prft}
-use Rattle.chunk.specs.Front.{Event, sizeOf, moofBox}
-use Rattle.emsgs.specs.Records.{sent, allSent, textBytes, recordBytes, listBytes}
-use Rattle.given.specs.Given.{F, Given}
+use Rattle.cmaf_write_senc.specs.Protection.{Protectable}
+use Rattle.cmaf_write_senc.proofs.ProtectableLaws.{lawful-protectable}
+use Rattle.prft_value.specs.declared.Prft.{Prft}
+use Rattle.event_value.specs.Events.{Event}
+use Rattle.effective.specs.Sizes.{sizeOf}
+use Rattle.cmaf_write_moof.specs.Moof.{moofBox}
+use Rattle.locmaf_write_events.specs.Records.{sent, allSent, textBytes, recordBytes, listBytes}
+use Rattle.cmaf_read_facts.specs.Given.{F, Given}
 use Rattle.rebuilt.specs.Chunk.{AllShort, Fits}
 use Rattle.rebuilt.proofs.WholeFront.{body-low}
-use Rattle.fields.proofs.Bounds.{Bounded, bounded}
+use Rattle.field_rules.proofs.Bounds.{Bounded, bounded}
 
 -- the size of a sample has 32 bits
-size-low : (t : Track) (w : List ℕ) → Bounded t w → (payload i : ℕ) → payload ≤ 16777216 → t .size ≤ 0xffff_ffff → sizeOf t w payload i < 2 ^ 32
+size-low : (t : Track) (w : List ℕ) → Bounded t w → (payload i : ℕ) → payload ≤ payloadMost → t .size ≤ 0xffff_ffff → sizeOf t w payload i < 2 ^ 32
 unfolding sizeOf
 size-low t w bounds payload i few own = by (leb (countIn w) 1) (has 1 w) refl (ltb i (countIn w - 1)) refl (has 6 w) refl
   where

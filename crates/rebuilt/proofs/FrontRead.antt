@@ -6,15 +6,16 @@ use mathlib.Core.Bool.{Bool, true, false, _||_}
 use mathlib.Core.List.{List, _++_}
 use lib.ListN.{length}
 use Rattle.track.specs.declared.Track.{Track}
-use Rattle.fieldset.specs.Lawful.{has}
+use Rattle.field_set.specs.Lawful.{has}
 use Rattle.boxes.specs.Box.{box}
 use Rattle.boxes.specs.Box as B
-use Rattle.shape.specs.declared.inner.Inner.{Inner}
-use Rattle.shape.specs.Inner.{innerOf}
-use Rattle.chunk.specs.declared.outer.Prft.{Prft}
-use Rattle.chunk.specs.Front.{Event, moofBox, moofWhole}
-use Rattle.fragment.specs.declared.defaults.Defaults.{Defaults}
-use Rattle.shape.specs.Left.{Left}
+use Rattle.cmaf_read_shape.specs.declared.inner.Inner.{Inner}
+use Rattle.cmaf_read_shape.specs.Inner.{innerOf}
+use Rattle.prft_value.specs.declared.Prft.{Prft}
+use Rattle.event_value.specs.Events.{Event}
+use Rattle.cmaf_write_moof.specs.Moof.{moofBox, moofWhole}
+use Rattle.cmaf_read_moof.specs.declared.defaults.Defaults.{Defaults}
+use Rattle.cmaf_read_shape.specs.Left.{Left}
 use Rattle.rebuilt.specs.Chunk.{chunkOf, Fits}
 use Rattle.rebuilt.specs.Read.{Senc, lacks, stands, Read}
 use Rattle.rebuilt.proofs.InnerFront.{Last, lastBy, left-three, placeOf, lastAt, innerBy, left-tfhd, left-tfdt, left-trun, left-last, inner-is}

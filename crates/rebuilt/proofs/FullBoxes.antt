@@ -6,12 +6,11 @@ use mathlib.Core.Bool.{Bool, true}
 use mathlib.Core.List.{List, [], _++_, append-nil}
 use lib.ListN.{length}
 use Rattle.laws.specs.Bytes.{be}
-use Rattle.boxes.specs.Box.{fullBox}
-use Rattle.tree.specs.Numbers.{u32}
-use Rattle.protected.specs.Protected.{when, flagWhen}
-use Rattle.chunk.proofs.MoofLaws.{when-length}
-use Rattle.shape.specs.Left.{Left}
-use Rattle.shape.proofs.LeftLaws.{left-past, left-number, left-inside}
+use Rattle.boxes.specs.Box.{fullBox, when, flagWhen}
+use Rattle.cmaf_read_tree.specs.Numbers.{u32}
+use Rattle.cmaf_write_moof.proofs.MoofLaws.{when-length}
+use Rattle.cmaf_read_shape.specs.Left.{Left}
+use Rattle.cmaf_read_shape.proofs.LeftLaws.{left-past, left-number, left-inside}
 
 module _ {c : List ℕ} {at end : ℕ} (type version flags : ℕ) (body ys : List ℕ) (h : Left c at end (fullBox type version flags body ++ ys)) where
   inside : Left c (at + 8) (at + 8 + length (be 4 (version * 2 ^ 24 + flags) ++ body)) (be 4 (version * 2 ^ 24 + flags) ++ body)

@@ -7,21 +7,22 @@ use mathlib.Core.Bool.{Bool, true, false, _||_}
 use mathlib.Core.List.{List, [], _++_, append-assoc, append-nil}
 use lib.ListN.{length}
 use Rattle.track.specs.declared.Track.{Track}
-use Rattle.fieldset.specs.Lawful.{has}
+use Rattle.field_set.specs.Lawful.{has}
 use Rattle.boxes.specs.Box.{box}
 use Rattle.boxes.specs.Box as B
 use Rattle.boxes.proofs.BoxLaws.{length-box}
-use Rattle.shape.specs.declared.parts.Part.{Part}
-use Rattle.shape.specs.declared.inner.Inner.{Inner}
-use Rattle.shape.specs.Parts.{part}
-use Rattle.shape.specs.Inner.{pickOf, lastOf, trafOf, innerOf}
-use Rattle.protected.specs.Protection.{Protectable}
-use Rattle.protected.specs.Protected.{sencBox, saizBox, saioBox, protection}
-use Rattle.protected.proofs.ProtectionLaws.{protection-none, protection-all}
-use Rattle.chunk.specs.Front.{mfhdBox, tfhdBox, tfdtBox, trunBox, plain, moofBox}
-use Rattle.shape.specs.Left.{Left}
-use Rattle.shape.proofs.LeftLaws.{left-past, left-box, left-none-any, left-inside, body-part}
-use Rattle.shape.proofs.OneBoxLaws.{one-found, one-any}
+use Rattle.byte_parts.specs.declared.Part.{Part}
+use Rattle.cmaf_read_shape.specs.declared.inner.Inner.{Inner}
+use Rattle.cmaf_read_shape.specs.Parts.{part}
+use Rattle.cmaf_read_shape.specs.Inner.{pickOf, lastOf, trafOf, innerOf}
+use Rattle.cmaf_write_senc.specs.Protection.{Protectable}
+use Rattle.cmaf_write_senc.specs.Protected.{sencBox}
+use Rattle.cmaf_write_saiz.specs.Saiz.{saizBox, saioBox}
+use Rattle.cmaf_write_moof.specs.Moof.{protection, mfhdBox, tfhdBox, tfdtBox, trunBox, plain, moofBox}
+use Rattle.cmaf_write_moof.proofs.ProtectionLaws.{protection-none, protection-all}
+use Rattle.cmaf_read_shape.specs.Left.{Left}
+use Rattle.cmaf_read_shape.proofs.LeftLaws.{left-past, left-box, left-none-any, left-inside, body-part}
+use Rattle.cmaf_read_shape.proofs.OneBoxLaws.{one-found, one-any}
 use Rattle.rebuilt.proofs.WholeFront.{mfhd-box, tfhd-box, tfdt-box, trun-box, senc-box, saiz-box, saio-box, inside-low}
 
 -- ---- the boxes of protected samples: three or none

@@ -5,28 +5,30 @@ use mathlib.Core.Path.{_≡_, sym, _∙_, ap, ap₂, refl}
 use mathlib.Core.List.{List, [], _∷_, _++_, append-assoc}
 use lib.ListN.{length, take, drop, length-append, take-append-drop, length-take, length-drop}
 use lib.Seq.{length-take-le, take-at, drop-at, slice-empty}
+use Rattle.constants.specs.Maxima.{brandBytesMost}
 use Rattle.laws.specs.Bytes.{be}
 use Rattle.laws.proofs.BytesLaws.{length-be}
-use Rattle.boxes.specs.Box.{box}
+use Rattle.boxes.specs.Box.{box, when}
 use Rattle.boxes.specs.Box as B
 use Rattle.boxes.proofs.BoxLaws.{length-box, length-fullBox}
-use Rattle.shape.specs.declared.parts.Part.{Part}
-use Rattle.shape.specs.Parts.{part, bodyOf}
-use Rattle.chunk.specs.Front.{stypBox, Event, mediaBytes, prftBox, emsgBox, emsgBoxes}
-use Rattle.accepted.specs.Accepted.{bytesAt, brandsOf}
-use Rattle.shape.specs.Left.{Left}
-use Rattle.shape.proofs.LeftLaws.{left-inside, body-part}
+use Rattle.byte_parts.specs.declared.Part.{Part}
+use Rattle.cmaf_read_shape.specs.Parts.{part, bodyOf}
+use Rattle.cmaf_write_prelude.specs.Prelude.{stypBox, mediaBytes, prftBox}
+use Rattle.cmaf_write_emsg.specs.Emsg.{emsgBox, emsgBoxes}
+use Rattle.event_value.specs.Events.{Event}
+use Rattle.cmaf_read_chunk.specs.Accepted.{bytesAt, brandsOf}
+use Rattle.cmaf_read_shape.specs.Left.{Left}
+use Rattle.cmaf_read_shape.proofs.LeftLaws.{left-inside, body-part}
 use mathlib.Core.Bool.{Bool, true, false, cond}
 use lib.Dec.{eqb}
 use Rattle.track.specs.declared.Track.{Track}
-use Rattle.tree.specs.Whole.{container, whole}
-use Rattle.shape.proofs.OneBoxLaws.{OneBox, leaf-box, leaf-full, one-front, Maybe, stands, lacks}
-use Rattle.protected.specs.Protected.{when}
-use Rattle.chunk.specs.declared.outer.Prft.{Prft}
+use Rattle.cmaf_read_tree.specs.Whole.{container, whole}
+use Rattle.cmaf_read_shape.proofs.OneBoxLaws.{OneBox, leaf-box, leaf-full, one-front, Maybe, stands, lacks}
+use Rattle.prft_value.specs.declared.Prft.{Prft}
 use Rattle.rebuilt.specs.Chunk.{Short, AllShort}
 
 -- each is one box, or none where it may be missing
-pub styp-box : (bs : List ℕ) → length bs ≤ 64 → Maybe B.styp (stypBox bs)
+pub styp-box : (bs : List ℕ) → length bs ≤ brandBytesMost → Maybe B.styp (stypBox bs)
 unfolding stypBox container
 styp-box [] h = lacks refl
 styp-box (b ∷ bs) h =

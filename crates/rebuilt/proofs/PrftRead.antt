@@ -12,17 +12,17 @@ use Rattle.laws.proofs.BytesLaws.{length-be}
 use Rattle.track.specs.declared.Track.{Track}
 use Rattle.boxes.specs.Box.{fullBox}
 use Rattle.boxes.specs.Box as B
-use Rattle.tree.specs.Numbers.{u32, u64}
-use Rattle.shape.specs.declared.parts.Part.{Part}
-use Rattle.shape.specs.Parts.{part}
-use Rattle.chunk.specs.declared.outer.Prft.{Prft}
-use Rattle.chunk.specs.Front.{mediaBytes, prftBox}
-use Rattle.chunk.proofs.OuterLaws.{prft-none, prft-length, media-short, media-long}
-use Rattle.prelude.specs.Fields.{versionAt, flagsAt}
-use Rattle.prelude.specs.Prft.{prftOk, mediaTime, prftOf, prftTrack}
-use Rattle.shape.specs.Left.{Left}
-use Rattle.shape.proofs.LeftLaws.{left-on, left-number, last-number}
-use Rattle.given.specs.Given.{BoxedPrft}
+use Rattle.cmaf_read_tree.specs.Numbers.{u32, u64}
+use Rattle.byte_parts.specs.declared.Part.{Part}
+use Rattle.cmaf_read_shape.specs.Parts.{part}
+use Rattle.prft_value.specs.declared.Prft.{Prft}
+use Rattle.cmaf_write_prelude.specs.Prelude.{mediaBytes, prftBox}
+use Rattle.cmaf_write_prelude.proofs.OuterLaws.{prft-none, prft-length, media-short, media-long}
+use Rattle.cmaf_read_prelude.specs.Fields.{versionAt, flagsAt}
+use Rattle.cmaf_read_prelude.specs.Prft.{prftOk, mediaTime, prftOf, prftTrack}
+use Rattle.cmaf_read_shape.specs.Left.{Left}
+use Rattle.cmaf_read_shape.proofs.LeftLaws.{left-on, left-number, last-number}
+use Rattle.cmaf_read_facts.specs.Given.{BoxedPrft}
 use Rattle.rebuilt.proofs.FullBoxes.{full-word, full-body}
 
 -- what it says: it is right, and our track's

@@ -8,16 +8,17 @@ use lib.ListN.{length, length-append}
 use Rattle.laws.specs.Bytes.{be}
 use Rattle.laws.proofs.BytesLaws.{length-be}
 use Rattle.track.specs.declared.Track.{Track}
-use Rattle.fieldset.specs.Lawful.{has}
-use Rattle.tree.specs.Numbers.{u16}
-use Rattle.protected.specs.Protected.{valueAt, when, flagWhen, ivBytes, subsamples, sencEntries}
-use Rattle.protected.proofs.SencLaws.{iv-length, subsamples-length}
-use Rattle.encryption.specs.declared.entries.Entries.{Entries}
-use Rattle.encryption.specs.Entries.{mapLength, pairsAt, lengthAt}
-use Rattle.gather.specs.Entries.{allFrom}
-use Rattle.shape.specs.Left.{Left}
+use Rattle.field_set.specs.Lawful.{has, valueAt}
+use Rattle.cmaf_read_tree.specs.Numbers.{u16}
+use Rattle.boxes.specs.Box.{when, flagWhen}
+use Rattle.cmaf_write_senc.specs.Protected.{ivBytes, subsamples, sencEntries}
+use Rattle.cmaf_write_senc.proofs.SencLaws.{iv-length, subsamples-length}
+use Rattle.cmaf_read_senc.specs.declared.entries.Entries.{Entries}
+use Rattle.cmaf_read_senc.specs.Entries.{mapLength, pairsAt, lengthAt}
+use Rattle.cmaf_read_set.specs.Entries.{allFrom}
+use Rattle.cmaf_read_shape.specs.Left.{Left}
 use Rattle.rebuilt.proofs.SencValues.{valuesFrom, values-append, pairsOf, pairsFrom}
-use Rattle.shape.proofs.LeftLaws.{left-to, left-on, left-number}
+use Rattle.cmaf_read_shape.proofs.LeftLaws.{left-to, left-on, left-number}
 
 -- the entries of n samples, with so many subsamples in all, stand from a place on, and are cut as they were written
 pub record Written (c : List ℕ) (end : ℕ) (t : Track) (w : List ℕ) (e : Entries) (n most at : ℕ) : Type 0 where

@@ -7,11 +7,11 @@ use mathlib.Core.List.{List, [], _∷_, _++_}
 use lib.ListN.{length}
 use lib.Seq.{slice, slice-cons, slice-empty}
 use Rattle.laws.specs.Tests.{sum}
-use Rattle.fieldset.specs.Lines.{lines, lineFor, setLen}
-use Rattle.fieldset.specs.Lawful.{has, valuesOf}
-use Rattle.protected.specs.Protected.{valueAt, flagWhen}
-use Rattle.fieldset.proofs.ValueLaws.{pairsLeft, pairs-all, pairs-end, pairs-next}
-use Rattle.fragment.specs.Samples.{eachFrom}
+use Rattle.field_table.specs.Lines.{lines, lineFor, setLen}
+use Rattle.field_set.specs.Lawful.{has, valuesOf, valueAt}
+use Rattle.boxes.specs.Box.{flagWhen}
+use Rattle.field_set.proofs.ValueLaws.{pairsLeft, pairs-all, pairs-end, pairs-next}
+use Rattle.cmaf_read_trun.specs.Samples.{eachFrom}
 
 -- a field that stands: k values from the number i on
 unfoldable pub valuesFrom : ℕ → List ℕ → ℕ → ℕ → List ℕ

@@ -4,20 +4,21 @@ use native.Mathlib.Omega.{arith}
 use mathlib.Core.Path.{_≡_, refl, ap₂, _∙_, ap}
 use mathlib.Core.List.{List, _∷_, _++_, []}
 use Rattle.laws.specs.Bytes.{be}
-use Rattle.tree.specs.Numbers.{u16, u32, u64}
-use Rattle.protected.specs.Protected.{valueAt, ivBytes, subsamples, flagWhen, sencEntries}
-use Rattle.fragment.specs.Samples.{eachFrom}
-use Rattle.shape.specs.Left.{Left}
-use Rattle.shape.proofs.LeftLaws.{left-on, left-number}
+use Rattle.cmaf_read_tree.specs.Numbers.{u16, u32, u64}
+use Rattle.field_set.specs.Lawful.{valueAt, has}
+use Rattle.cmaf_write_senc.specs.Protected.{ivBytes, subsamples, sencEntries}
+use Rattle.boxes.specs.Box.{flagWhen}
+use Rattle.cmaf_read_trun.specs.Samples.{eachFrom}
+use Rattle.cmaf_read_shape.specs.Left.{Left}
+use Rattle.cmaf_read_shape.proofs.LeftLaws.{left-on, left-number}
 use Rattle.rebuilt.proofs.SencBack.{Written, pairs-is, left-pairs, all-are}
 use Rattle.rebuilt.proofs.SencValues.{valuesFrom, pairsOf, pairsFrom}
 use native.Mathlib.Nat.{zero-mul, suc-mul}
 use mathlib.Core.Bool.{Bool, true}
 use Rattle.track.specs.declared.Track.{Track}
-use Rattle.fieldset.specs.Lawful.{has}
-use Rattle.encryption.specs.declared.entries.Entries.{Entries}
-use Rattle.encryption.specs.Entries.{pairsAt}
-use Rattle.gather.specs.Entries.{ivWords, clearBytes, protectedBytes, allFrom, allIvs, allCounts, allClear, allProtected}
+use Rattle.cmaf_read_senc.specs.declared.entries.Entries.{Entries}
+use Rattle.cmaf_read_senc.specs.Entries.{pairsAt}
+use Rattle.cmaf_read_set.specs.Entries.{ivWords, clearBytes, protectedBytes, allFrom, allIvs, allCounts, allClear, allProtected}
 
 module _ (c : List ℕ) (end at : ℕ) (w ys : List ℕ) where
   -- the words of an IV

@@ -12,25 +12,25 @@ use Rattle.laws.proofs.TestLaws.{both}
 use Rattle.track.specs.declared.Track.{Track}
 use Rattle.media.specs.Flags.{wideOf}
 use Rattle.media.proofs.FlagLaws.{wide-at}
-use Rattle.fieldset.specs.Lawful.{has}
+use Rattle.field_set.specs.Lawful.{has, valueAt}
 use Rattle.boxes.specs.Box as B
-use Rattle.tree.specs.Numbers.{u32}
-use Rattle.shape.specs.declared.parts.Part.{Part}
-use Rattle.shape.specs.Parts.{part}
-use Rattle.protected.specs.Protected.{valueAt, when, flagWhen}
-use Rattle.chunk.specs.Front.{tfhdFlags, tfhdBox, tfdtBox}
-use Rattle.chunk.specs.Lengths.{tfhdLength}
-use Rattle.chunk.proofs.MoofLaws.{tfhd-length, flag-low, tfdt-length}
-use Rattle.fragment.specs.Words.{wordOf, bitOf}
-use Rattle.fragment.specs.Defaults.{fieldsIn, tfhdOk, fieldOf, defaultsOf}
-use Rattle.shape.specs.Left.{Left}
-use Rattle.shape.proofs.LeftLaws.{left-on, left-number, last-number}
+use Rattle.cmaf_read_tree.specs.Numbers.{u32}
+use Rattle.byte_parts.specs.declared.Part.{Part}
+use Rattle.cmaf_read_shape.specs.Parts.{part}
+use Rattle.boxes.specs.Box.{when, flagWhen}
+use Rattle.cmaf_write_moof.specs.Moof.{tfhdFlags, tfhdBox, tfdtBox}
+use Rattle.cmaf_write_moof.specs.Lengths.{tfhdLength}
+use Rattle.cmaf_write_moof.proofs.MoofLaws.{tfhd-length, flag-low, tfdt-length}
+use Rattle.cmaf_read_shape.specs.Words.{wordOf, bitOf}
+use Rattle.cmaf_read_moof.specs.Defaults.{fieldsIn, tfhdOk, fieldOf, defaultsOf}
+use Rattle.cmaf_read_shape.specs.Left.{Left}
+use Rattle.cmaf_read_shape.proofs.LeftLaws.{left-on, left-number, last-number}
 use Rattle.rebuilt.specs.Chunk.{Narrow}
 use Rattle.rebuilt.proofs.Bits.{tfhdWord, TfhdBits, tfhd-bits}
 use Rattle.rebuilt.proofs.FullBoxes.{full-word, full-body, when-past, when-number, when-last}
 use Rattle.laws.specs.Tests.{_and_}
-use Rattle.fieldset.specs.Lines.{bmdtAt}
-use Rattle.fragment.specs.Headers.{tfdtOk, bmdtOf}
+use Rattle.field_table.specs.Lines.{bmdtAt}
+use Rattle.cmaf_read_moof.specs.Headers.{tfdtOk, bmdtOf}
 
 module _ {c : List ℕ} {at end : ℕ} (t : Track) (w ys : List ℕ) (h : Left c at end (tfhdBox t w ++ ys)) (k : Narrow t w) where
   abbrev b : Part

@@ -8,15 +8,18 @@ use Rattle.track.specs.declared.Track.{Track}
 use Rattle.boxes.specs.Box.{box}
 use Rattle.boxes.specs.Box as B
 use Rattle.boxes.proofs.BoxLaws.{length-box}
-use Rattle.tree.specs.Whole.{kindOf}
-use Rattle.shape.specs.declared.top.Top.{Top}
-use Rattle.shape.specs.Parts.{part}
-use Rattle.shape.specs.Top.{topOf}
-use Rattle.chunk.specs.declared.outer.Prft.{Prft}
-use Rattle.chunk.specs.Front.{Event, stypBox, prftBox, emsgBoxes, moofBox, moofWhole}
-use Rattle.shape.specs.Left.{Left}
-use Rattle.shape.proofs.LeftLaws.{left-past}
-use Rattle.shape.proofs.OneBoxLaws.{OneBox, one-kind, one-found}
+use Rattle.cmaf_read_tree.specs.Whole.{kindOf}
+use Rattle.cmaf_read_shape.specs.declared.top.Top.{Top}
+use Rattle.cmaf_read_shape.specs.Parts.{part}
+use Rattle.cmaf_read_shape.specs.Top.{topOf}
+use Rattle.prft_value.specs.declared.Prft.{Prft}
+use Rattle.event_value.specs.Events.{Event}
+use Rattle.cmaf_write_prelude.specs.Prelude.{stypBox, prftBox}
+use Rattle.cmaf_write_emsg.specs.Emsg.{emsgBoxes}
+use Rattle.cmaf_write_moof.specs.Moof.{moofBox, moofWhole}
+use Rattle.cmaf_read_shape.specs.Left.{Left}
+use Rattle.cmaf_read_shape.proofs.LeftLaws.{left-past}
+use Rattle.cmaf_read_shape.proofs.OneBoxLaws.{OneBox, one-kind, one-found}
 use Rattle.rebuilt.specs.Chunk.{chunkOf, Sizable}
 use Rattle.rebuilt.proofs.WholeFront.{moof-box, mdat-box}
 use Rattle.rebuilt.proofs.BeforeMoof.{left₁ as before₁, left₂ as before₂, left₃ as before₃, styp-found, prft-found, emsgs-found}

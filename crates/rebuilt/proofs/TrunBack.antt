@@ -12,19 +12,20 @@ use Rattle.laws.specs.Bytes.{be}
 use Rattle.track.specs.declared.Track.{Track}
 use Rattle.media.specs.Flags.{wideOf}
 use Rattle.media.proofs.FlagLaws.{wide-at}
-use Rattle.fieldset.specs.Lawful.{has}
+use Rattle.field_set.specs.Lawful.{has, valueAt, countIn}
 use Rattle.boxes.specs.Box as B
-use Rattle.tree.specs.Numbers.{u32}
-use Rattle.shape.specs.declared.parts.Part.{Part}
-use Rattle.shape.specs.Parts.{part}
-use Rattle.protected.specs.Protected.{valueAt, countIn, when, flagWhen}
-use Rattle.chunk.specs.Front.{sizeOf, offsetField, trunRow, trunRows, trunFlags, trunBox}
-use Rattle.chunk.specs.Lengths.{rowLength}
-use Rattle.chunk.proofs.MoofLaws.{row-length}
-use Rattle.fragment.specs.Words.{wordOf, bitOf}
-use Rattle.fragment.specs.Rows.{first, durations, sizes, sampleFlags, offsets, columnsIn, runHead, runWidth, runOf, firstFlags, hasColumn, cell}
-use Rattle.shape.specs.Left.{Left}
-use Rattle.shape.proofs.LeftLaws.{left-to, left-on, left-number}
+use Rattle.cmaf_read_tree.specs.Numbers.{u32}
+use Rattle.byte_parts.specs.declared.Part.{Part}
+use Rattle.cmaf_read_shape.specs.Parts.{part}
+use Rattle.boxes.specs.Box.{when, flagWhen}
+use Rattle.effective.specs.Sizes.{sizeOf}
+use Rattle.cmaf_write_moof.specs.Moof.{offsetField, trunRow, trunRows, trunFlags, trunBox}
+use Rattle.cmaf_write_moof.specs.Lengths.{rowLength}
+use Rattle.cmaf_write_moof.proofs.MoofLaws.{row-length}
+use Rattle.cmaf_read_shape.specs.Words.{wordOf, bitOf}
+use Rattle.cmaf_read_trun.specs.Rows.{first, durations, sizes, sampleFlags, offsets, columnsIn, runHead, runWidth, runOf, firstFlags, hasColumn, cell}
+use Rattle.cmaf_read_shape.specs.Left.{Left}
+use Rattle.cmaf_read_shape.proofs.LeftLaws.{left-to, left-on, left-number}
 use Rattle.rebuilt.proofs.Bits.{flag-is, flag-four, TrunBits, trun-bits}
 use Rattle.rebuilt.specs.Chunk.{Columns}
 use Rattle.rebuilt.specs.Read.{trunWord, TrunRead}

@@ -5,25 +5,29 @@ use mathlib.Core.Path.{_≡_, refl, sym, _∙_, ap}
 use mathlib.Core.Bool.{Bool, true, false, _||_}
 use mathlib.Core.List.{List, [], _++_, append-assoc, append-nil}
 use lib.ListN.{length, length-append}
+use Rattle.constants.specs.Maxima.{samplesMost, payloadMost}
 use Rattle.laws.specs.Bytes.{be}
 use Rattle.laws.proofs.BytesLaws.{length-be}
 use Rattle.track.specs.declared.Track.{Track}
-use Rattle.fieldset.specs.Lawful.{has}
-use Rattle.boxes.specs.Box.{box}
+use Rattle.field_set.specs.Lawful.{has, countIn}
+use Rattle.boxes.specs.Box.{box, flagWhen}
 use Rattle.boxes.specs.Box as B
 use Rattle.boxes.proofs.BoxLaws.{length-box, length-fullBox}
-use Rattle.tree.specs.Whole.{container, whole}
-use Rattle.tree.proofs.WholeLaws.{whole-empty}
-use Rattle.shape.proofs.OneBoxLaws.{OneBox, leaf-box, leaf-full, one-front, maybe-front}
-use Rattle.protected.specs.Protection.{Protectable}
-use Rattle.protected.specs.Protected.{infoSize, allSized, sencBox, saizBox, saioBox, protection, flagWhen}
-use Rattle.protected.proofs.ProtectionLaws.{saio-length, protection-none, protection-all, protection-length}
-use Rattle.protected.proofs.SaizLaws.{saiz-length-same, saiz-length-other}
-use Rattle.protected.proofs.SencLaws.{entryHead, senc-length, heads-small}
-use Rattle.chunk.specs.declared.outer.Prft.{Prft}
-use Rattle.chunk.specs.Front.{Event, countIn, mfhdBox, tfhdFlags, tfhdBox, tfdtBox, trunFlags, trunBox, plain, moofBox, moofWhole, front}
-use Rattle.chunk.specs.Lengths.{tfhdLength, rowLength, trunLength, plainLength}
-use Rattle.chunk.proofs.MoofLaws.{flag-low, tfhd-length, tfdt-length, trun-length, plain-length, rows-small}
+use Rattle.cmaf_read_tree.specs.Whole.{container, whole}
+use Rattle.cmaf_read_tree.proofs.WholeLaws.{whole-empty}
+use Rattle.cmaf_read_shape.proofs.OneBoxLaws.{OneBox, leaf-box, leaf-full, one-front, maybe-front}
+use Rattle.cmaf_write_senc.specs.Protection.{Protectable}
+use Rattle.cmaf_write_saiz.specs.Saiz.{infoSize, allSized, saizBox, saioBox}
+use Rattle.cmaf_write_senc.specs.Protected.{sencBox}
+use Rattle.cmaf_write_moof.specs.Moof.{protection, mfhdBox, tfhdFlags, tfhdBox, tfdtBox, trunFlags, trunBox, plain, moofBox, moofWhole}
+use Rattle.cmaf_write_saiz.proofs.SaizLaws.{saio-length, saiz-length-same, saiz-length-other}
+use Rattle.cmaf_write_moof.proofs.ProtectionLaws.{protection-none, protection-all, protection-length}
+use Rattle.cmaf_write_senc.proofs.SencLaws.{entryHead, senc-length, heads-small}
+use Rattle.prft_value.specs.declared.Prft.{Prft}
+use Rattle.event_value.specs.Events.{Event}
+use Rattle.cmaf_write_front.specs.Front.{front}
+use Rattle.cmaf_write_moof.specs.Lengths.{tfhdLength, rowLength, trunLength, plainLength}
+use Rattle.cmaf_write_moof.proofs.MoofLaws.{flag-low, tfhd-length, tfdt-length, trun-length, plain-length, rows-small}
 use Rattle.rebuilt.specs.Chunk.{chunkOf, Sizable}
 use Rattle.rebuilt.proofs.OuterRead.{styp-box, prft-box, emsgs-front}
 
@@ -56,7 +60,7 @@ rows-low : (w : List ℕ) → rowLength w ≤ 16
 unfolding rowLength
 rows-low w = omega (arith, flag-low (has 3 w) 4, flag-low (has 7 w) 4, flag-low (has 5 w) 4)
 
-trun-low : (w : List ℕ) → countIn w ≤ 64 → trunLength w ≤ 1048
+trun-low : (w : List ℕ) → countIn w ≤ samplesMost → trunLength w ≤ 1048
 unfolding trunLength
 trun-low w h = omega (arith, flag-low (has 12 w) 4, rows-small (countIn w) (rowLength w) h (rows-low w))
 
@@ -142,7 +146,7 @@ module _ (t : Track) (w : List ℕ) (s : Protectable t w) where
           inner = λ _. one-front (mfhd-box sequence) _ ∙ ap whole (sym (append-nil (box B.traf inside))) ∙ one-front traf-box [] ∙ whole-empty [] refl;
         }
 
-pub mdat-box : (bs : List ℕ) → length bs ≤ 16777216 → OneBox B.mdat (box B.mdat bs)
+pub mdat-box : (bs : List ℕ) → length bs ≤ payloadMost → OneBox B.mdat (box B.mdat bs)
 unfolding container
 mdat-box bs h = leaf-box B.mdat bs (omega (arith, length-box B.mdat bs)) (omega arith) refl
 

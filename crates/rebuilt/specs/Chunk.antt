@@ -5,16 +5,20 @@ use mathlib.Core.Path.{_≡_}
 use mathlib.Core.Bool.{true}
 use mathlib.Core.List.{List, _++_}
 use lib.ListN.{length, getD}
+use Rattle.constants.specs.Maxima.{samplesMost, payloadMost, blockMost, brandBytesMost}
 use Rattle.laws.specs.Each.{AllOf}
 use Rattle.track.specs.declared.Track.{Track}
-use Rattle.fieldset.specs.Lines.{bmdtAt}
-use Rattle.fieldset.specs.Lawful.{has}
+use Rattle.field_table.specs.Lines.{bmdtAt}
+use Rattle.field_set.specs.Lawful.{has, valueAt, countIn}
 use Rattle.boxes.specs.Box.{box}
 use Rattle.boxes.specs.Box as B
-use Rattle.protected.specs.Protected.{valueAt, countIn}
-use Rattle.protected.specs.Protection.{Protectable}
-use Rattle.chunk.specs.declared.outer.Prft.{Prft}
-use Rattle.chunk.specs.Front.{Event, stypBox, prftBox, emsgBoxes, sizeOf, moofBox, moofWhole}
+use Rattle.cmaf_write_senc.specs.Protection.{Protectable}
+use Rattle.prft_value.specs.declared.Prft.{Prft}
+use Rattle.event_value.specs.Events.{Event}
+use Rattle.cmaf_write_prelude.specs.Prelude.{stypBox, prftBox}
+use Rattle.cmaf_write_emsg.specs.Emsg.{emsgBoxes}
+use Rattle.effective.specs.Sizes.{sizeOf}
+use Rattle.cmaf_write_moof.specs.Moof.{moofBox, moofWhole}
 
 -- the boxes of the chunk with the payload bs
 unfoldable pub chunkOf : Track → ℕ → List ℕ → Prft → List Event → List ℕ → List ℕ → List ℕ
@@ -23,9 +27,9 @@ chunkOf t sequence w p events brands bs =
 
 -- an event whose box has a size of 32 bits
 pub record Short (e : Event) : Type 0 where
-  pub scheme : length (e .scheme) ≤ 16384
-  pub value : length (e .value) ≤ 16384
-  pub message : length (e .message) ≤ 16384
+  pub scheme : length (e .scheme) ≤ blockMost
+  pub value : length (e .value) ≤ blockMost
+  pub message : length (e .message) ≤ blockMost
 
 abbrev pub AllShort : List Event → Type 0
 AllShort = AllOf Short
@@ -34,8 +38,8 @@ AllShort = AllOf Short
 pub record Sizable (t : Track) (w : List ℕ) (p : Prft) (events : List Event) (brands bs : List ℕ) : Type 0 where
   pub set : Protectable t w
   pub events-short : AllShort events
-  pub brands-few : length brands ≤ 64
-  pub payload-few : length bs ≤ 16777216
+  pub brands-few : length brands ≤ brandBytesMost
+  pub payload-few : length bs ≤ payloadMost
 
 -- numbers that fit the fields of the `tfhd`
 pub record Narrow (t : Track) (w : List ℕ) : Type 0 where
@@ -45,7 +49,7 @@ pub record Narrow (t : Track) (w : List ℕ) : Type 0 where
 
 -- and the columns of the `trun`
 pub record Columns (t : Track) (w : List ℕ) (payload : ℕ) : Type 0 where
-  pub few : countIn w ≤ 64
+  pub few : countIn w ≤ samplesMost
   pub duration : has 3 w ≡ true → (i : ℕ) → i < countIn w → valueAt 3 i w < 2 ^ 32
   pub size : (i : ℕ) → i < countIn w → sizeOf t w payload i < 2 ^ 32
 

@@ -8,18 +8,20 @@ use lib.Dec.{eqb, ltb}
 use lib.ListN.{length, getD}
 use Rattle.track.specs.declared.Track.{Track}
 use Rattle.media.specs.Flags.{wideOf}
-use Rattle.fieldset.specs.Lines.{bmdtAt}
-use Rattle.fieldset.specs.Lawful.{has}
-use Rattle.shape.specs.declared.parts.Part.{Part}
-use Rattle.shape.specs.declared.inner.Inner.{Inner}
-use Rattle.shape.specs.Parts.{part}
-use Rattle.protected.specs.Protected.{valueAt, countIn, flagWhen, sencBox}
-use Rattle.chunk.specs.Front.{sizeOf, offsetField}
-use Rattle.fragment.specs.Words.{wordOf, bitOf}
-use Rattle.fragment.specs.Headers.{tfdtOk, bmdtOf}
-use Rattle.fragment.specs.Defaults.{tfhdOk, fieldOf, defaultsOf}
-use Rattle.fragment.specs.Rows.{durations, sizes, sampleFlags, offsets, first, countOf, dataOffset, runOf, firstFlags, hasColumn, cell}
-use Rattle.shape.specs.Left.{Left}
+use Rattle.field_table.specs.Lines.{bmdtAt}
+use Rattle.field_set.specs.Lawful.{has, valueAt, countIn}
+use Rattle.byte_parts.specs.declared.Part.{Part}
+use Rattle.cmaf_read_shape.specs.declared.inner.Inner.{Inner}
+use Rattle.cmaf_read_shape.specs.Parts.{part}
+use Rattle.boxes.specs.Box.{flagWhen}
+use Rattle.cmaf_write_senc.specs.Protected.{sencBox}
+use Rattle.effective.specs.Sizes.{sizeOf}
+use Rattle.cmaf_write_moof.specs.Moof.{offsetField}
+use Rattle.cmaf_read_shape.specs.Words.{wordOf, bitOf}
+use Rattle.cmaf_read_moof.specs.Headers.{tfdtOk, bmdtOf}
+use Rattle.cmaf_read_moof.specs.Defaults.{tfhdOk, fieldOf, defaultsOf}
+use Rattle.cmaf_read_trun.specs.Rows.{durations, sizes, sampleFlags, offsets, first, countOf, dataOffset, runOf, firstFlags, hasColumn, cell}
+use Rattle.cmaf_read_shape.specs.Left.{Left}
 
 -- the `senc` that was found: none, or the one that was written
 pub data Senc (t : Track) (c w : List ℕ) (b : Part) : Type 0 where

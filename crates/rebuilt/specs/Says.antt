@@ -9,10 +9,10 @@ use Rattle.laws.specs.Ladder.{Hold}
 use Rattle.track.specs.declared.Track.{Track}
 use Rattle.track.specs.declared.Asked.{Asked}
 use Rattle.track.specs.Track.{narrow, lawful as lawfulTrack}
-use Rattle.chunk.specs.declared.outer.Prft.{Prft}
-use Rattle.chunk.specs.Front.{Event as Box}
-use Rattle.accepted.specs.Accepted.{prft, brands, boxes, payload, fields, acceptRungs}
-use Rattle.given.specs.Given.{F, Given}
+use Rattle.prft_value.specs.declared.Prft.{Prft}
+use Rattle.event_value.specs.Events.{Event as Box}
+use Rattle.cmaf_read_chunk.specs.Accepted.{prft, brands, boxes, payload, fields, acceptRungs}
+use Rattle.cmaf_read_facts.specs.Given.{F, Given}
 use Rattle.rebuilt.specs.Chunk.{chunkOf}
 
 -- it is a list of bytes

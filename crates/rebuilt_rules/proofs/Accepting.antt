@@ -8,26 +8,26 @@ use lib.Dec.{leb}
 use Rattle.laws.specs.Ladder.{Hold}
 use Rattle.laws.proofs.TestLaws.{both}
 use Rattle.wire.specs.declared.form.Row.{Row}
-use Rattle.tree.specs.Whole.{whole}
+use Rattle.cmaf_read_tree.specs.Whole.{whole}
 use Rattle.track.specs.declared.Track.{Track}
-use Rattle.chunk.specs.Front.{Event as Box}
-use Rattle.chunk.specs.Events.{eventsOf}
-use Rattle.shape.specs.declared.top.Top.{Top}
-use Rattle.shape.specs.declared.inner.Inner.{Inner}
-use Rattle.shape.specs.Parts.{bodyOf}
-use Rattle.shape.specs.Top.{topOf, topOk}
-use Rattle.shape.specs.Inner.{innerOf, innerOk}
-use Rattle.prelude.specs.Styp.{stypOk, brandsIn}
-use Rattle.prelude.specs.Prft.{prftOk}
-use Rattle.prelude.specs.Emsg.{emsgsOk, emsgWords}
-use Rattle.fragment.specs.Headers.{mfhdOk, tfdtOk, bmdtOf}
-use Rattle.fragment.specs.Defaults.{tfhdOk}
-use Rattle.fragment.specs.Rows.{trunOk, countOf}
-use Rattle.encryption.specs.Entries.{sencOk, sencCount, subsamples}
-use Rattle.encryption.specs.Sizes.{saizOk, saizCount, saioOk}
-use Rattle.emsgs.specs.Records.{allSent, listBytes}
-use Rattle.rules.specs.Rules.{rulesOk}
-use Rattle.accepted.specs.Accepted.{bmdt, boxes, events, boxesOk, countsOk, maximaOk, lateRungs, acceptRungs}
+use Rattle.event_value.specs.Events.{Event as Box, eventsOf}
+use Rattle.cmaf_read_shape.specs.declared.top.Top.{Top}
+use Rattle.cmaf_read_shape.specs.declared.inner.Inner.{Inner}
+use Rattle.cmaf_read_shape.specs.Parts.{bodyOf}
+use Rattle.cmaf_read_shape.specs.Top.{topOf, topOk}
+use Rattle.cmaf_read_shape.specs.Inner.{innerOf, innerOk}
+use Rattle.cmaf_read_prelude.specs.Styp.{stypOk, brandsIn}
+use Rattle.cmaf_read_prelude.specs.Prft.{prftOk}
+use Rattle.cmaf_read_prelude.specs.Emsg.{emsgsOk, emsgWords}
+use Rattle.cmaf_read_moof.specs.Headers.{mfhdOk, tfdtOk, bmdtOf}
+use Rattle.cmaf_read_moof.specs.Defaults.{tfhdOk}
+use Rattle.cmaf_read_trun.specs.Rows.{trunOk, countOf}
+use Rattle.cmaf_read_senc.specs.Entries.{sencOk, sencCount, subsamples}
+use Rattle.cmaf_read_senc.specs.Sizes.{saizOk, saizCount, saioOk}
+use Rattle.locmaf_write_events.specs.Records.{allSent, listBytes}
+use Rattle.cmaf_read_rules.specs.Rules.{rulesOk}
+use Rattle.cmaf_read_chunk.specs.Accepted.{bmdt, boxes, events, countsOk, maximaOk, lateRungs, acceptRungs}
+use Rattle.cmaf_read_boxes.specs.Right.{boxesOk}
 
 module _ (F : List Row) (t : Track) (c : List ℕ) (T : Top) (I : Inner) (es : List Box) where
   -- the tests on boxes, on their counts, and the rules

@@ -10,22 +10,24 @@ use lib.ListN.{length}
 use Rattle.laws.specs.Tests.{sum}
 use Rattle.laws.proofs.TestLaws.{left, right, both}
 use Rattle.track.specs.declared.Track.{Track}
-use Rattle.fieldset.specs.Lines.{lines, lineFor, setLen}
-use Rattle.fieldset.specs.Lawful.{has, valuesOf}
-use Rattle.protected.specs.Protected.{valueAt, countIn, flagWhen, sencEntries, infoSize}
-use Rattle.chunk.specs.Front.{sizeOf}
-use Rattle.shape.specs.declared.parts.Part.{Part}
-use Rattle.shape.specs.Parts.{endOf}
-use Rattle.shape.specs.Left.{Left}
-use Rattle.fragment.specs.declared.rows.Run.{Run}
-use Rattle.fragment.specs.Rows.{sizeAt}
-use Rattle.encryption.specs.declared.entries.Entries.{Entries}
-use Rattle.encryption.specs.Entries.{mapLength, pairsAt, lengthAt, entriesOf}
-use Rattle.encryption.specs.Sizes.{infoSize as infoAt}
-use Rattle.sizes.specs.Sums.{bytesOf}
-use Rattle.object.specs.Sums.{samplesOk, protectedOk}
-use Rattle.given.proofs.SumGives.{pairs-split}
-use Rattle.rules.specs.Rules.{pairsSum, entryOk, entriesOk}
+use Rattle.field_table.specs.Lines.{lines, lineFor, setLen}
+use Rattle.field_set.specs.Lawful.{has, valuesOf, valueAt, countIn}
+use Rattle.boxes.specs.Box.{flagWhen}
+use Rattle.cmaf_write_senc.specs.Protected.{sencEntries}
+use Rattle.cmaf_write_saiz.specs.Saiz.{infoSize}
+use Rattle.effective.specs.Sizes.{sizeOf}
+use Rattle.byte_parts.specs.declared.Part.{Part}
+use Rattle.cmaf_read_shape.specs.Parts.{endOf}
+use Rattle.cmaf_read_shape.specs.Left.{Left}
+use Rattle.cmaf_read_trun.specs.declared.rows.Run.{Run}
+use Rattle.cmaf_read_trun.specs.Rows.{sizeAt}
+use Rattle.cmaf_read_senc.specs.declared.entries.Entries.{Entries}
+use Rattle.cmaf_read_senc.specs.Entries.{mapLength, pairsAt, lengthAt, entriesOf}
+use Rattle.cmaf_read_senc.specs.Sizes.{infoSize as infoAt}
+use Rattle.told_sizes.specs.Sums.{bytesOf}
+use Rattle.effective.specs.Sums.{samplesOk, protectedOk}
+use Rattle.cmaf_read_facts.proofs.SumGives.{pairs-split}
+use Rattle.cmaf_read_rules.specs.Rules.{pairsSum, entryOk, entriesOk}
 use Rattle.rebuilt.proofs.SencBack.{pairs-is, left-next}
 use Rattle.rebuilt.proofs.SencValues.{valuesFrom, values-slice, pairsFrom}
 use Rattle.rebuilt.proofs.SencWalk.{pairs-at}

@@ -9,7 +9,7 @@ use lib.Dec.{leb}
 use lib.ListN.{length, length-append}
 use Rattle.laws.proofs.TestLaws.{both}
 use Rattle.laws.specs.Ladder.{Hold}
-use Rattle.accepted.specs.Accepted.{acceptRungs}
+use Rattle.cmaf_read_chunk.specs.Accepted.{acceptRungs}
 use Rattle.boxes.specs.Box.{box}
 use Rattle.boxes.specs.Box as B
 use Rattle.boxes.proofs.BoxLaws.{length-box}
@@ -17,21 +17,22 @@ use Rattle.track.specs.declared.Asked.{Asked}
 use Rattle.track.specs.declared.Track.{Track}
 use Rattle.track.specs.Track.{narrow, lawful as lawfulTrack}
 use Rattle.track.proofs.TrackLaws.{ranges, lawful-iv}
-use Rattle.fieldset.proofs.MarkLaws.{marks}
-use Rattle.protected.specs.Protected.{countIn}
-use Rattle.chunk.specs.declared.outer.Prft.{Prft}
-use Rattle.chunk.specs.Front.{Event as Box, moofBox, moofWhole}
-use Rattle.chunk.proofs.MoofLaws.{moof-same}
-use Rattle.shape.specs.declared.top.Top.{Top}
-use Rattle.shape.specs.declared.inner.Inner.{Inner}
-use Rattle.shape.specs.Parts.{endOf, bodyOf}
-use Rattle.shape.specs.Top.{topOk}
-use Rattle.shape.specs.Left.{Left}
-use Rattle.shape.proofs.LeftLaws.{left-all, left-inside}
-use Rattle.shape.proofs.PartLaws.{body-in}
-use Rattle.emsgs.specs.Records.{allSent, listBytes}
-use Rattle.rules.specs.Rules.{outerOk, offsetOk, offsetsOk, rulesOk}
-use Rattle.given.specs.Given.{F, Given}
+use Rattle.field_set.proofs.MarkLaws.{marks}
+use Rattle.field_set.specs.Lawful.{countIn}
+use Rattle.prft_value.specs.declared.Prft.{Prft}
+use Rattle.event_value.specs.Events.{Event as Box}
+use Rattle.cmaf_write_moof.specs.Moof.{moofBox, moofWhole}
+use Rattle.cmaf_write_moof.proofs.MoofLaws.{moof-same}
+use Rattle.cmaf_read_shape.specs.declared.top.Top.{Top}
+use Rattle.cmaf_read_shape.specs.declared.inner.Inner.{Inner}
+use Rattle.cmaf_read_shape.specs.Parts.{endOf, bodyOf}
+use Rattle.cmaf_read_shape.specs.Top.{topOk}
+use Rattle.cmaf_read_shape.specs.Left.{Left}
+use Rattle.cmaf_read_shape.proofs.LeftLaws.{left-all, left-inside}
+use Rattle.cmaf_read_shape.proofs.PartLaws.{body-in}
+use Rattle.locmaf_write_events.specs.Records.{allSent, listBytes}
+use Rattle.cmaf_read_rules.specs.Rules.{outerOk, offsetOk, offsetsOk, rulesOk}
+use Rattle.cmaf_read_facts.specs.Given.{F, Given}
 use Rattle.rebuilt.specs.Chunk.{chunkOf, Sizable, Fits}
 use Rattle.rebuilt.specs.Says.{FrontAccepted}
 use Rattle.rebuilt.proofs.WholeFront.{chunk-whole}

@@ -10,19 +10,21 @@ use lib.ListN.{length, length-append}
 use Rattle.laws.proofs.TestLaws.{both}
 use Rattle.track.specs.declared.Track.{Track}
 use Rattle.track.specs.Track.{ivOk}
-use Rattle.fieldset.specs.Lawful.{has}
-use Rattle.protected.specs.Protection.{Protectable}
-use Rattle.protected.specs.Protected.{countIn, sencBox, saizBox, saioBox, protection}
-use Rattle.protected.proofs.ProtectionLaws.{saio-length}
-use Rattle.shape.specs.declared.top.Top.{Top}
-use Rattle.shape.specs.declared.inner.Inner.{Inner}
-use Rattle.shape.specs.Inner.{threeOrNone}
-use Rattle.shape.specs.Left.{Left}
-use Rattle.shape.proofs.LeftLaws.{left-past}
-use Rattle.encryption.specs.Entries.{entriesOf, sencOk, sencCount, subsamples}
-use Rattle.encryption.specs.Sizes.{saizOk, saizCount, saioOk}
-use Rattle.rules.specs.Rules.{countsOk, unprotectedOk, protectedOk}
-use Rattle.given.specs.Given.{Canonical}
+use Rattle.field_set.specs.Lawful.{has, countIn}
+use Rattle.cmaf_write_senc.specs.Protection.{Protectable}
+use Rattle.cmaf_write_senc.specs.Protected.{sencBox}
+use Rattle.cmaf_write_saiz.specs.Saiz.{saizBox, saioBox}
+use Rattle.cmaf_write_moof.specs.Moof.{protection}
+use Rattle.cmaf_write_saiz.proofs.SaizLaws.{saio-length}
+use Rattle.cmaf_read_shape.specs.declared.top.Top.{Top}
+use Rattle.cmaf_read_shape.specs.declared.inner.Inner.{Inner}
+use Rattle.cmaf_read_shape.specs.Inner.{threeOrNone}
+use Rattle.cmaf_read_shape.specs.Left.{Left}
+use Rattle.cmaf_read_shape.proofs.LeftLaws.{left-past}
+use Rattle.cmaf_read_senc.specs.Entries.{entriesOf, sencOk, sencCount, subsamples}
+use Rattle.cmaf_read_senc.specs.Sizes.{saizOk, saizCount, saioOk}
+use Rattle.cmaf_read_rules.specs.Rules.{countsOk, unprotectedOk, protectedOk}
+use Rattle.cmaf_read_facts.specs.Given.{Canonical}
 use Rattle.rebuilt.proofs.InnerFront.{Last, lastBy, left-three, left-none, placeOf, lastAt, insideEnd, innerBy}
 use Rattle.rebuilt.specs.Read.{Read}
 use Rattle.rebuilt_rules.proofs.MoofRight.{trafEnd, last-place, place-low}

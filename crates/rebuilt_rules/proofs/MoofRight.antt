@@ -8,27 +8,26 @@ use mathlib.Core.List.{List}
 use borrow.Author.Tests.{eq-eqb, ne-eqb, lt-ltb}
 use lib.ListN.{length, length-append}
 use Rattle.laws.specs.Bytes.{be}
-use Rattle.boxes.specs.Box.{box}
+use Rattle.boxes.specs.Box.{box, flagWhen}
 use Rattle.boxes.specs.Box as B
 use Rattle.boxes.proofs.BoxLaws.{length-box, length-fullBox}
 use Rattle.track.specs.declared.Track.{Track}
-use Rattle.protected.specs.Protection.{Protectable}
-use Rattle.protected.specs.Protected.{protection, countIn, flagWhen}
-use Rattle.chunk.specs.Front.{mfhdBox, tfhdBox, tfdtBox, trunBox, plain, moofBox}
-use Rattle.chunk.specs.Lengths.{tfhdLength, trunLength, rowLength}
-use Rattle.chunk.proofs.MoofLaws.{tfhd-length, tfdt-length, trun-length}
-use Rattle.shape.specs.Parts.{part}
-use Rattle.shape.specs.Inner.{threeOrNone, innerOk}
+use Rattle.cmaf_write_senc.specs.Protection.{Protectable}
+use Rattle.cmaf_write_moof.specs.Moof.{protection, mfhdBox, tfhdBox, tfdtBox, trunBox, plain, moofBox}
+use Rattle.field_set.specs.Lawful.{countIn, has}
+use Rattle.cmaf_write_moof.specs.Lengths.{tfhdLength, trunLength, rowLength}
+use Rattle.cmaf_write_moof.proofs.MoofLaws.{tfhd-length, tfdt-length, trun-length}
+use Rattle.cmaf_read_shape.specs.Parts.{part}
+use Rattle.cmaf_read_shape.specs.Inner.{threeOrNone, innerOk}
 use Rattle.rebuilt.proofs.WholeFront.{body-low}
 use Rattle.rebuilt.proofs.InnerFront.{Last, placeOf, insideOf, trafAt, lastAt, innerBy, moof-long}
 use native.Mathlib.Nat.{mul-zero, zero-mul, mul-comm}
 use lib.Dec.{ltb}
 use Rattle.laws.proofs.TestLaws.{both}
-use Rattle.fieldset.specs.Lawful.{has}
-use Rattle.fieldset.proofs.MarkLaws.{Marks}
-use Rattle.shape.specs.declared.parts.Part.{Part}
-use Rattle.fragment.specs.Words.{wordOf}
-use Rattle.fragment.specs.Rows.{runFlagsOk, runHead, runWidth, trunOk}
+use Rattle.field_set.proofs.MarkLaws.{Marks}
+use Rattle.byte_parts.specs.declared.Part.{Part}
+use Rattle.cmaf_read_shape.specs.Words.{wordOf}
+use Rattle.cmaf_read_trun.specs.Rows.{runFlagsOk, runHead, runWidth, trunOk}
 use Rattle.rebuilt.specs.Read.{trunWord, TrunRead}
 use Rattle.rebuilt.proofs.Bits.{flag-four, TrunBits, trun-bits}
 

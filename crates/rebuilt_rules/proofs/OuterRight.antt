@@ -13,21 +13,24 @@ use Rattle.laws.proofs.BytesLaws.{length-be}
 use Rattle.laws.proofs.TestLaws.{both}
 use Rattle.boxes.specs.Box as B
 use Rattle.boxes.proofs.BoxLaws.{length-fullBox}
-use Rattle.tree.specs.Numbers.{u32}
-use Rattle.chunk.specs.Front.{stypBox, mfhdBox, Event, emsgBox, emsgBoxes}
-use Rattle.chunk.proofs.OuterLaws.{styp-length}
-use Rattle.shape.specs.declared.parts.Part.{Part}
-use Rattle.shape.specs.Parts.{part, endOf}
-use Rattle.shape.specs.Left.{Left}
-use Rattle.shape.proofs.LeftLaws.{left-past, left-number, left-inside}
-use Rattle.prelude.specs.Styp.{stypOk, brandsIn, minorVersion}
-use Rattle.prelude.specs.Emsg.{schemeEnd, valueEnd, emsgOk, emsgsOk}
-use Rattle.fragment.specs.Headers.{mfhdOk}
-use Rattle.rules.specs.Rules.{clocksOk}
-use Rattle.given.specs.Given.{BoxedEvent, AllBoxed}
+use Rattle.cmaf_read_tree.specs.Numbers.{u32}
+use Rattle.cmaf_write_prelude.specs.Prelude.{stypBox}
+use Rattle.cmaf_write_emsg.specs.Emsg.{emsgBox, emsgBoxes}
+use Rattle.cmaf_write_moof.specs.Moof.{mfhdBox}
+use Rattle.event_value.specs.Events.{Event}
+use Rattle.cmaf_write_prelude.proofs.OuterLaws.{styp-length}
+use Rattle.byte_parts.specs.declared.Part.{Part}
+use Rattle.cmaf_read_shape.specs.Parts.{part, endOf}
+use Rattle.cmaf_read_shape.specs.Left.{Left}
+use Rattle.cmaf_read_shape.proofs.LeftLaws.{left-past, left-number, left-inside}
+use Rattle.cmaf_read_prelude.specs.Styp.{stypOk, brandsIn, minorVersion}
+use Rattle.cmaf_read_prelude.specs.Emsg.{schemeEnd, valueEnd, emsgOk, emsgsOk}
+use Rattle.cmaf_read_moof.specs.Headers.{mfhdOk}
+use Rattle.cmaf_read_rules.specs.Rules.{clocksOk}
+use Rattle.cmaf_read_facts.specs.Given.{BoxedEvent, AllBoxed}
 use Rattle.rebuilt.specs.Chunk.{AllShort}
 use Rattle.rebuilt.proofs.FullBoxes.{full-word}
-use Rattle.shape.proofs.OneBoxLaws.{one-found}
+use Rattle.cmaf_read_shape.proofs.OneBoxLaws.{one-found}
 use Rattle.rebuilt.proofs.OuterRead.{emsg-box}
 use Rattle.rebuilt.proofs.EmsgRead.{left-scheme, left-value, left-message}
 

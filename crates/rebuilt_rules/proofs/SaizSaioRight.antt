@@ -9,23 +9,24 @@ use mathlib.Core.List.{List, [], _∷_, _++_, append-nil}
 use borrow.Author.Tests.{le-ltb, eq-eqb, ne-eqb, eqb-true}
 use lib.Dec.{eqb}
 use lib.ListN.{length, length-append}
+use Rattle.constants.specs.Maxima.{samplesMost}
 use Rattle.laws.specs.Bytes.{be}
 use Rattle.laws.proofs.BytesLaws.{length-be}
 use Rattle.boxes.specs.Box.{fullBox}
 use Rattle.boxes.specs.Box as B
 use Rattle.boxes.proofs.BoxLaws.{length-fullBox}
-use Rattle.tree.specs.Numbers.{u8, u32}
+use Rattle.cmaf_read_tree.specs.Numbers.{u8, u32}
 use Rattle.track.specs.declared.Track.{Track}
-use Rattle.protected.specs.Protected.{countIn, infoSize, infoSizes, allSized, saizBox, saioBox}
-use Rattle.protected.specs.Protection.{Protectable}
-use Rattle.protected.proofs.PairLaws.{info-small}
-use Rattle.protected.proofs.SaizLaws.{sizes-length}
-use Rattle.protected.proofs.ProtectionLaws.{saio-length}
-use Rattle.shape.specs.declared.parts.Part.{Part}
-use Rattle.shape.specs.Parts.{part}
-use Rattle.shape.specs.Left.{Left}
-use Rattle.shape.proofs.LeftLaws.{left-past, left-number, left-byte, last-number}
-use Rattle.encryption.specs.Sizes.{saizOk, saizCount, infoSize as infoAt, saioOk, leadsTo}
+use Rattle.field_set.specs.Lawful.{countIn}
+use Rattle.cmaf_write_saiz.specs.Saiz.{infoSize, infoSizes, allSized, saizBox, saioBox}
+use Rattle.cmaf_write_senc.specs.Protection.{Protectable}
+use Rattle.cmaf_write_saiz.proofs.InfoLaws.{info-small}
+use Rattle.cmaf_write_saiz.proofs.SaizLaws.{sizes-length, saio-length}
+use Rattle.byte_parts.specs.declared.Part.{Part}
+use Rattle.cmaf_read_shape.specs.Parts.{part}
+use Rattle.cmaf_read_shape.specs.Left.{Left}
+use Rattle.cmaf_read_shape.proofs.LeftLaws.{left-past, left-number, left-byte, last-number}
+use Rattle.cmaf_read_senc.specs.Sizes.{saizOk, saizCount, infoSize as infoAt, saioOk, leadsTo}
 use Rattle.rebuilt.proofs.FullBoxes.{full-word, full-body}
 
 -- ---- the sizes of entries in the set
@@ -66,7 +67,7 @@ pub record SaizSays (t : Track) (c w : List ℕ) (b : Part) : Type 0 where
   pub says : (i : ℕ) → i < countIn w → infoAt c b i ≡ infoSize t w i
 
 -- it is right where a table l stands behind the count just if the byte x before it is 0
-says-by : {c : List ℕ} {at end : ℕ} (t : Track) (w : List ℕ) (x : ℕ) (l ys : List ℕ) → x < 256 → countIn w ≤ 64
+says-by : {c : List ℕ} {at end : ℕ} (t : Track) (w : List ℕ) (x : ℕ) (l ys : List ℕ) → x < 256 → countIn w ≤ samplesMost
     → Left c at end (fullBox B.saiz 0 0 (x ∷ (be 4 (countIn w) ++ l)) ++ ys) → length l ≡ cond (eqb x 0) (countIn w) 0
     → ((stop : ℕ) → Left c (at + 17) stop l → (i : ℕ) → i < countIn w → cond (eqb x 0) (u8 c (at + 17 + i)) x ≡ infoSize t w i)
     → SaizSays t c w (part at (length (fullBox B.saiz 0 0 (x ∷ (be 4 (countIn w) ++ l)))))

@@ -6,25 +6,26 @@ use mathlib.Core.Bool.{Bool, true, false, cond, not, _&&_, _||_}
 use mathlib.Core.List.{List, []}
 use borrow.Author.Tests.{eq-eqb, eqb-true}
 use lib.Dec.{eqb}
+use Rattle.constants.specs.Maxima.{payloadMost}
 use Rattle.laws.proofs.TestLaws.{both, neither}
 use Rattle.media.specs.Flags.{wideOf, fiveOf, only}
 use Rattle.media.proofs.FlagLaws.{wide-only}
 use Rattle.track.specs.declared.Track.{Track}
 use Rattle.track.specs.Track.{cenc}
-use Rattle.fieldset.specs.Lawful.{has}
-use Rattle.fieldset.proofs.LawfulLaws.{lawful-facts}
-use Rattle.protected.specs.Protected.{valueAt, countIn}
-use Rattle.shape.specs.declared.top.Top.{Top}
-use Rattle.shape.specs.declared.inner.Inner.{Inner}
-use Rattle.shape.specs.Parts.{bodyOf}
-use Rattle.fragment.specs.Words.{wordOf}
-use Rattle.fragment.specs.Rows.{sampleFlags, countOf, runOf, cell}
-use Rattle.fragment.specs.Samples.{eachFrom, columnOf}
-use Rattle.rules.specs.Rules.{allOnly, flagsOk, sizesOk, unprotectedOk}
-use Rattle.given.specs.Given.{Canonical}
+use Rattle.field_set.specs.Lawful.{has, valueAt, countIn}
+use Rattle.field_set.proofs.LawfulLaws.{lawful-facts}
+use Rattle.cmaf_read_shape.specs.declared.top.Top.{Top}
+use Rattle.cmaf_read_shape.specs.declared.inner.Inner.{Inner}
+use Rattle.cmaf_read_shape.specs.Parts.{bodyOf}
+use Rattle.cmaf_read_shape.specs.Words.{wordOf}
+use Rattle.cmaf_read_trun.specs.Rows.{sampleFlags, countOf, runOf, cell}
+use Rattle.cmaf_read_trun.specs.Samples.{eachFrom, columnOf}
+use Rattle.cmaf_read_trun.specs.Columns.{allOnly}
+use Rattle.cmaf_read_rules.specs.Rules.{flagsOk, sizesOk, unprotectedOk}
+use Rattle.cmaf_read_facts.specs.Given.{Canonical}
 use Rattle.rebuilt.specs.Read.{Read}
-use Rattle.fields.proofs.Bounds.{Bounded, bounded}
-use Rattle.fieldset.proofs.RuleLaws.{ruled}
+use Rattle.field_rules.proofs.Bounds.{Bounded, bounded}
+use Rattle.field_set.proofs.RuleLaws.{ruled}
 use Rattle.rebuilt_set.proofs.SizeLines.{sizes-are}
 use Rattle.rebuilt_rules.proofs.SizesAdd.{sizes-add}
 
@@ -67,7 +68,7 @@ module _ {t : Track} {c : List ℕ} {f : Inner} {w : List ℕ} {n offset : ℕ} 
       by false e = refl
 
   -- sizes sum to the payload; a `trun` without samples has its data offset alone
-  pub sizes-rule : n ≤ 16777216 → bodyOf (top .mdat) .len ≡ n → (countIn w ≡ 0 → wordOf c (f .trun) % 0x100_0000 ≡ 1) → sizesOk t c top f ≡ true
+  pub sizes-rule : n ≤ payloadMost → bodyOf (top .mdat) .len ≡ n → (countIn w ≡ 0 → wordOf c (f .trun) % 0x100_0000 ≡ 1) → sizesOk t c top f ≡ true
   unfolding sizesOk
   sizes-rule short body alone =
       rw (sizes-are k, sizes-add t w n (g .long) (lawful-facts t w (g .is-lawful) .count) short (g .sizes), body, eq-eqb n n refl, k .trun .count)

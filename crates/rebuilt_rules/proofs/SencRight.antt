@@ -13,26 +13,28 @@ use Rattle.laws.specs.Tests.{sum}
 use Rattle.laws.proofs.TestLaws.{and-left, either}
 use Rattle.laws.proofs.SliceLaws.{drop-slice}
 use Rattle.boxes.specs.Box as B
-use Rattle.tree.specs.Numbers.{u32}
+use Rattle.cmaf_read_tree.specs.Numbers.{u32}
 use Rattle.track.specs.declared.Track.{Track}
 use Rattle.track.specs.Track.{none, cenc, ivOk}
-use Rattle.fieldset.specs.Lawful.{has, valuesOf}
-use Rattle.fieldset.proofs.MarkLaws.{marks}
-use Rattle.protected.specs.Protected.{valueAt, countIn, flagWhen, sencEntries, sencBox, infoSize}
-use Rattle.protected.proofs.SencLaws.{senc-parts}
-use Rattle.chunk.proofs.MoofLaws.{flag-low}
-use Rattle.shape.specs.declared.parts.Part.{Part}
-use Rattle.shape.specs.Parts.{part, endOf}
-use Rattle.shape.specs.Left.{Left}
-use Rattle.encryption.specs.declared.entries.Entries.{Entries}
-use Rattle.encryption.specs.declared.entries.Filled.the-variants.{With}
-use Rattle.encryption.specs.Entries.{pairsAt, lengthAt, entriesOf, more, entriesIn, sencFilled, sencOk, sencCount, subsamples}
-use Rattle.encryption.proofs.EntryLaws.{map-least, pairs-here}
+use Rattle.field_set.specs.Lawful.{has, valuesOf, valueAt, countIn}
+use Rattle.field_set.proofs.MarkLaws.{marks}
+use Rattle.boxes.specs.Box.{flagWhen}
+use Rattle.cmaf_write_senc.specs.Protected.{sencEntries, sencBox}
+use Rattle.cmaf_write_saiz.specs.Saiz.{infoSize}
+use Rattle.cmaf_write_senc.proofs.SencLaws.{senc-parts}
+use Rattle.cmaf_write_moof.proofs.MoofLaws.{flag-low}
+use Rattle.byte_parts.specs.declared.Part.{Part}
+use Rattle.cmaf_read_shape.specs.Parts.{part, endOf}
+use Rattle.cmaf_read_shape.specs.Left.{Left}
+use Rattle.cmaf_read_senc.specs.declared.entries.Entries.{Entries}
+use Rattle.cmaf_read_senc.specs.declared.entries.Filled.the-variants.{With}
+use Rattle.cmaf_read_senc.specs.Entries.{pairsAt, lengthAt, entriesOf, more, entriesIn, sencFilled, sencOk, sencCount, subsamples}
+use Rattle.cmaf_read_senc.proofs.EntryLaws.{map-least, pairs-here}
 use Rattle.rebuilt.proofs.FullBoxes.{full-word}
 use Rattle.rebuilt.proofs.SencBack.{pairs-is, left-next}
 use Rattle.rebuilt.proofs.SencValues.{pairsFrom}
-use Rattle.fieldset.proofs.RuleLaws.{ruled}
-use Rattle.given.specs.Given.{Canonical}
+use Rattle.field_set.proofs.RuleLaws.{ruled}
+use Rattle.cmaf_read_facts.specs.Given.{Canonical}
 use Rattle.rebuilt_set.proofs.SencLines.{Entered, entered}
 
 -- k entries use up what was written of them

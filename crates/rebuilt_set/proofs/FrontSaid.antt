@@ -8,22 +8,21 @@ use Rattle.track.specs.declared.Asked.{Asked}
 use Rattle.track.specs.Track.{narrow, lawful as lawfulTrack}
 use Rattle.track.proofs.TrackLaws.{ranges, lawful-iv}
 use Rattle.boxes.specs.Box as B
-use Rattle.shape.specs.declared.top.Top.{Top}
-use Rattle.shape.specs.Parts.{bodyOf}
-use Rattle.shape.specs.Top.{topOf}
-use Rattle.shape.specs.Inner.{innerOf}
-use Rattle.chunk.specs.declared.outer.Prft.{Prft}
-use Rattle.chunk.specs.Front.{Event}
-use Rattle.chunk.specs.Events.{eventsOf}
-use Rattle.prelude.specs.Prft.{prftOf}
-use Rattle.prelude.specs.Emsg.{emsgWords}
-use Rattle.gather.specs.Set.{chunkSet}
-use Rattle.accepted.specs.Accepted.{bytesAt, brandsOf, boxes, prft, brands, payload, fields}
-use Rattle.shape.proofs.LeftLaws.{left-all}
+use Rattle.cmaf_read_shape.specs.declared.top.Top.{Top}
+use Rattle.cmaf_read_shape.specs.Parts.{bodyOf}
+use Rattle.cmaf_read_shape.specs.Top.{topOf}
+use Rattle.cmaf_read_shape.specs.Inner.{innerOf}
+use Rattle.prft_value.specs.declared.Prft.{Prft}
+use Rattle.event_value.specs.Events.{Event, eventsOf}
+use Rattle.cmaf_read_prelude.specs.Prft.{prftOf}
+use Rattle.cmaf_read_prelude.specs.Emsg.{emsgWords}
+use Rattle.cmaf_read_set.specs.Set.{chunkSet}
+use Rattle.cmaf_read_chunk.specs.Accepted.{bytesAt, brandsOf, boxes, prft, brands, payload, fields}
+use Rattle.cmaf_read_shape.proofs.LeftLaws.{left-all}
 use Rattle.rebuilt.specs.Chunk.{chunkOf, Sizable, Fits}
 use Rattle.rebuilt.proofs.TopFront.{left₁, left₂, left₄, writtenTop, chunk-top}
 use Rattle.rebuilt.proofs.PrftRead.{prft-says}
-use Rattle.given.specs.Given.{Given}
+use Rattle.cmaf_read_facts.specs.Given.{Given}
 use Rattle.rebuilt.specs.Says.{SaysBack, FrontSays}
 use Rattle.rebuilt.proofs.FitLaws.{given-fits}
 use Rattle.rebuilt.proofs.FrontRead.{inner-found, front-read}

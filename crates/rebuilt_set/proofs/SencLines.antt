@@ -12,31 +12,32 @@ use Rattle.laws.specs.Tests.{sum}
 use Rattle.track.specs.declared.Track.{Track}
 use Rattle.track.specs.Track.{ivOk, cenc}
 use Rattle.track.proofs.TrackLaws.{iv-size-le}
-use Rattle.fieldset.specs.Lawful.{has, valuesOf}
+use Rattle.field_set.specs.Lawful.{has, valuesOf, valueAt, countIn}
 use Rattle.laws.proofs.TestLaws.{neither}
 use Rattle.boxes.specs.Box as B
-use Rattle.shape.specs.declared.parts.Part.{Part}
-use Rattle.shape.specs.Parts.{part, endOf}
+use Rattle.byte_parts.specs.declared.Part.{Part}
+use Rattle.cmaf_read_shape.specs.Parts.{part, endOf}
 use Rattle.boxes.proofs.BoxLaws.{length-fullBox}
-use Rattle.given.specs.Given.{Canonical}
-use Rattle.protected.specs.Protected.{valueAt, countIn, flagWhen, sencEntries, sencBox}
-use Rattle.protected.specs.Protection.{Protectable}
-use Rattle.protected.proofs.ProtectableLaws.{lawful-protectable}
-use Rattle.protected.proofs.SencLaws.{senc-parts}
-use Rattle.chunk.proofs.MoofLaws.{flag-low}
-use Rattle.encryption.specs.declared.entries.Entries.{Entries}
-use Rattle.encryption.specs.Entries.{entriesOf}
-use Rattle.gather.specs.Entries.{allIvs, allCounts, allClear, allProtected}
-use Rattle.gather.specs.Set.{heldIf}
-use Rattle.shape.specs.Left.{Left}
-use Rattle.shape.proofs.LeftLaws.{left-on, left-number}
+use Rattle.cmaf_read_facts.specs.Given.{Canonical}
+use Rattle.boxes.specs.Box.{flagWhen}
+use Rattle.cmaf_write_senc.specs.Protected.{sencEntries, sencBox}
+use Rattle.cmaf_write_senc.specs.Protection.{Protectable}
+use Rattle.cmaf_write_senc.proofs.ProtectableLaws.{lawful-protectable}
+use Rattle.cmaf_write_senc.proofs.SencLaws.{senc-parts}
+use Rattle.cmaf_write_moof.proofs.MoofLaws.{flag-low}
+use Rattle.cmaf_read_senc.specs.declared.entries.Entries.{Entries}
+use Rattle.cmaf_read_senc.specs.Entries.{entriesOf}
+use Rattle.cmaf_read_set.specs.Entries.{allIvs, allCounts, allClear, allProtected}
+use Rattle.cmaf_read_samples.specs.Held.{heldIf}
+use Rattle.cmaf_read_shape.specs.Left.{Left}
+use Rattle.cmaf_read_shape.proofs.LeftLaws.{left-on, left-number}
 use Rattle.rebuilt.proofs.FullBoxes.{full-word, full-body}
 use Rattle.rebuilt.proofs.SencValues.{valuesFrom, pairs-sum}
 use Rattle.rebuilt.specs.Read.{Senc, lacks, stands}
-use Rattle.gather.proofs.CellLaws.{held-same}
-use Rattle.fields.proofs.Bounds.{Bounded, bounded}
+use Rattle.cmaf_read_samples.proofs.CellLaws.{held-same}
+use Rattle.field_rules.proofs.Bounds.{Bounded, bounded}
 use Rattle.track.proofs.IvLaws.{iv-eights, iv-stands}
-use Rattle.fieldset.proofs.RuleLaws.{Ruled, ruled}
+use Rattle.field_set.proofs.RuleLaws.{Ruled, ruled}
 use Rattle.rebuilt.proofs.SencBack.{Written}
 use Rattle.rebuilt.proofs.SencWalk.{ivs-are, counts-are, clear-are, protected-are}
 

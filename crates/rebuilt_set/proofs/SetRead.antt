@@ -15,26 +15,26 @@ use Rattle.track.specs.Track.{ivOk}
 use Rattle.track.proofs.TrackLaws.{iv-size-le}
 use Rattle.media.specs.Flags.{wideOf, fiveOf}
 use Rattle.media.proofs.FlagLaws.{five-wide}
-use Rattle.fieldset.specs.declared.lines.Line.{Line}
-use Rattle.fieldset.specs.Lines.{lines, spare, lineFor, wanted, bmdtAt, countAt}
-use Rattle.fieldset.specs.Lawful.{has, measureOf}
-use Rattle.shape.specs.declared.inner.Inner.{Inner}
-use Rattle.fields.specs.Cells.{Held}
-use Rattle.fields.specs.Words.{regionOf, regionsOf, setWords}
-use Rattle.protected.specs.Protected.{valueAt, countIn}
-use Rattle.fragment.specs.Rows.{durations, offsets, sampleFlags, first, firstFlags, cell, hasColumn}
-use Rattle.fragment.specs.Words.{bitOf}
-use Rattle.fragment.specs.Samples.{eachFrom, columnOf}
-use Rattle.gather.specs.Set.{heldIf, raised, run, heldFor, fieldOf, chunkSet}
+use Rattle.field_table.specs.declared.lines.Line.{Line}
+use Rattle.field_table.specs.Lines.{lines, spare, lineFor, wanted, bmdtAt, countAt, lineCount}
+use Rattle.field_set.specs.Lawful.{has, measureOf, valueAt, countIn}
+use Rattle.cmaf_read_shape.specs.declared.inner.Inner.{Inner}
+use Rattle.field_rules.specs.Fields.{Held}
+use Rattle.field_rules.specs.Words.{regionOf, regionsOf, setWords}
+use Rattle.cmaf_read_trun.specs.Rows.{durations, offsets, sampleFlags, first, firstFlags, cell, hasColumn}
+use Rattle.cmaf_read_shape.specs.Words.{bitOf}
+use Rattle.cmaf_read_trun.specs.Samples.{eachFrom, columnOf}
+use Rattle.cmaf_read_samples.specs.Held.{heldIf, raised}
+use Rattle.cmaf_read_set.specs.Set.{run, heldFor, fieldOf, chunkSet}
 use Rattle.rebuilt.proofs.SencValues.{valuesFrom, values-slice, values-each}
-use Rattle.fields.proofs.SetWords.{fieldIn, set-words}
-use Rattle.given.specs.Given.{Canonical}
+use Rattle.field_rules.proofs.SetWords.{fieldIn, set-words}
+use Rattle.cmaf_read_facts.specs.Given.{Canonical}
 use Rattle.rebuilt.specs.Read.{Read}
-use Rattle.gather.proofs.CellLaws.{held-same}
-use Rattle.fieldset.proofs.LineLaws.{shaped}
-use Rattle.fields.proofs.SetLaws.{line-of-id}
-use Rattle.fields.proofs.Bounds.{line-room, Bounded, bounded}
-use Rattle.fragment.proofs.EachLaws.{each-map, each-same}
+use Rattle.cmaf_read_samples.proofs.CellLaws.{held-same}
+use Rattle.field_table.proofs.LineLaws.{shaped}
+use Rattle.field_rules.proofs.SetLaws.{line-of-id}
+use Rattle.field_rules.proofs.Bounds.{line-room, Bounded, bounded}
+use Rattle.cmaf_read_trun.proofs.EachLaws.{each-map, each-same}
 use Rattle.rebuilt_set.proofs.SizeLines.{one-is, six-is}
 use Rattle.rebuilt_set.proofs.SencLines.{nine-line, eleven-line, thirteen-line, fifteen-line}
 
@@ -88,7 +88,7 @@ module _ {t : Track} {c : List ℕ} {f : Inner} {w : List ℕ} {n offset : ℕ} 
       ∙ values-each id w (countIn w) 0)
 
   -- the field of a line, by the values of its id
-  held-at : (i : ℕ) → i < 14
+  held-at : (i : ℕ) → i < lineCount
       → heldIf (has (getD lines i spare .id) w) (valuesFrom (getD lines i spare .id) w (wanted (getD lines i spare .want) (measureOf t w)) 0)
       ≡ fieldIn t w (getD lines i spare)
   unfolding has heldIf

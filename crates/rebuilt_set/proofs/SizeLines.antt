@@ -9,20 +9,21 @@ use lib.Dec.{eqb, leb}
 use lib.ListN.{getD, take}
 use Rattle.laws.proofs.TestLaws.{both-of, same-test, unless}
 use Rattle.track.specs.declared.Track.{Track}
-use Rattle.fieldset.specs.Lawful.{has}
-use Rattle.shape.specs.declared.inner.Inner.{Inner}
-use Rattle.protected.specs.Protected.{valueAt, countIn}
-use Rattle.chunk.specs.Front.{sizeOf}
-use Rattle.fragment.specs.Rows.{runOf, sizeAt}
-use Rattle.fragment.specs.Samples.{eachFrom, sizesOf}
-use Rattle.gather.specs.Set.{heldIf, allSame, defaults, run, sizes, size, equal, several}
+use Rattle.field_set.specs.Lawful.{has, valueAt, countIn}
+use Rattle.cmaf_read_shape.specs.declared.inner.Inner.{Inner}
+use Rattle.effective.specs.Sizes.{sizeOf}
+use Rattle.cmaf_read_trun.specs.Rows.{runOf, sizeAt}
+use Rattle.cmaf_read_trun.specs.Samples.{eachFrom, sizesOf}
+use Rattle.cmaf_read_samples.specs.Held.{heldIf}
+use Rattle.cmaf_read_samples.specs.Sizes.{allSame}
+use Rattle.cmaf_read_set.specs.Set.{defaults, run, sizes, size, equal, several}
 use Rattle.rebuilt.proofs.SencValues.{valuesFrom, values-each}
-use Rattle.given.specs.Given.{Canonical}
+use Rattle.cmaf_read_facts.specs.Given.{Canonical}
 use Rattle.rebuilt.specs.Read.{Read}
-use Rattle.gather.proofs.CellLaws.{held-same}
-use Rattle.fieldset.proofs.RuleLaws.{Ruled, ruled}
-use Rattle.fragment.proofs.EachLaws.{each-first, each-take, each-same}
-use Rattle.gather.proofs.SizeLaws.{same-all, same-few}
+use Rattle.cmaf_read_samples.proofs.CellLaws.{held-same}
+use Rattle.field_set.proofs.RuleLaws.{Ruled, ruled}
+use Rattle.cmaf_read_trun.proofs.EachLaws.{each-first, each-take, each-same}
+use Rattle.cmaf_read_samples.proofs.SizeLaws.{same-all, same-few}
 
 -- the track's own size, which isn't 0
 abbrev usual : Track → ℕ → Bool

@@ -1,9 +1,10 @@
 -- What is written for an object whose number is 0, and what stands in the share then. Assumes nothing.
-use Prim.Native.Nat.{ℕ, _+_, _-_, _%_, _≤_, _<_}
+use Prim.Native.Nat.{ℕ, _+_, _-_, _%_, _≤_}
 use native.Mathlib.Omega.{arith}
 use mathlib.Core.Path.{_≡_, refl, sym, _∙_, ap, subst}
+use mathlib.Core.Bool.{true, false}
 use mathlib.Core.List.{List, _++_}
-use borrow.Author.Tests.{le-leb, lt-leb, leb-true}
+use borrow.Author.Tests.{le-leb, leb-true}
 use lib.ListN.{length, getD, take, drop, length-drop}
 use lib.Seq.{take-all}
 use Rattle.laws.specs.Ladder.{ladder}
@@ -12,16 +13,18 @@ use Rattle.laws.proofs.SliceLaws.{slice-lent}
 use Rattle.wire.specs.declared.form.Row.{Row}
 use Rattle.track.specs.declared.Track.{Track}
 use Rattle.track.specs.Track.{u32}
-use Rattle.slots.specs.declared.share.Side.the-variants.{Receiver}
-use Rattle.slots.specs.Share.{acceptedAt, lawful}
+use Rattle.slots.specs.declared.lawful.Side.the-variants.{Receiver}
+use Rattle.share_words.specs.Share.{acceptedAt}
+use Rattle.slots.specs.Share.{lawful}
 use Rattle.slots.specs.Table.{out}
-use Rattle.chunk.specs.Events.{eventsOf}
-use Rattle.chunk.specs.Front.{front}
-use Rattle.chunk.specs.Writable.{Writable}
-use Rattle.object.specs.declared.head.Place.{Place}
-use Rattle.exchange.specs.Took.{took}
-use Rattle.exchange.specs.Kept.{keptWords}
-use Rattle.exchange.proofs.OpenLaws.{opened-facts}
+use Rattle.event_value.specs.Events.{eventsOf}
+use Rattle.cmaf_write_front.specs.Front.{front}
+use Rattle.cmaf_write_front.specs.Writable.{Writable}
+use Rattle.locmaf_read_head.specs.declared.head.Place.{Place}
+use Rattle.answers.specs.Took.{took}
+use Rattle.answers.specs.Room.{fits}
+use Rattle.reference.specs.Kept.{keptWords}
+use Rattle.reference.proofs.OpenLaws.{opened-facts}
 use Rattle.receiver.specs.declared.judge.Judged.{Judged}
 use Rattle.receiver.specs.Object.{isDelta, blockEnd, payload}
 use Rattle.receiver.specs.Receive.{track, prft, brands, newSet, sequence, chunk, accepted, refusing, done, roomRungs}
@@ -70,16 +73,16 @@ module _ (F : List Row) (o s : List ℕ) (t : Track) (p : Place) (a : Judgeable 
     front-is = λ i. front (a .track i) (sequence F o s) (r .words i) (payload-long a i) (r .time i) (r .list i) (brands-are i)
 
     -- what its length is, whatever the sequence number, is at most as much as there is
-    pub room : (n m : ℕ) → ((q : ℕ) → n ≡ length (written q)) → n ≤ m → (q : ℕ) → length (written q) ≤ m
-    room n m e h q = omega (arith, e q)
+    pub room : (n m : ℕ) → ((q : ℕ) → n ≡ length (written q)) → fits n m ≡ true → (q : ℕ) → length (written q) ≤ m
+    room n m e h q = let l = leb-true n m h in omega (arith, e q)
 
     module _ (output : List ℕ) where
       -- there is no room for it
-      pub short : (n : ℕ) → ((q : ℕ) → n ≡ length (written q)) → length output < n
+      pub short : (n : ℕ) → ((q : ℕ) → n ≡ length (written q)) → fits n (length output) ≡ false
           → refusing output s 17 ≡ ladder (roomRungs F o output s) (refusing output s) (done F o output s)
       short n e h =
           let l : length (chunk F o s) ≡ n = sym (e (sequence F o s) ∙ ap length front-is) in
-          broken _ 17 _ _ _ (lt-leb (length (chunk F o s)) (length output) (omega arith))
+          broken _ 17 _ _ _ (ap (λ (z : ℕ). fits z (length output)) l ∙ h)
 
       -- there is
       pub done-is : (q n : ℕ) (after kept : List ℕ) → q ≡ sequence F o s → n ≡ length (written q) → length (written q) ≤ length output

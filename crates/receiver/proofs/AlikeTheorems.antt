@@ -16,23 +16,26 @@ use Rattle.laws.proofs.TestLaws.{left, right, and-left, and-right}
 use Rattle.wire.specs.declared.form.Row.{Row}
 use Rattle.track.specs.declared.Track.{Track}
 use Rattle.track.specs.Track.{narrow}
-use Rattle.slots.specs.declared.share.Side.the-variants.{Receiver}
-use Rattle.slots.specs.Share.{acceptedAt, heldAt, prftAt, asked, trackOf, isOpen}
-use Rattle.slots.specs.Share.{lawful as lawfulShare}
+use Rattle.slots.specs.declared.lawful.Side.the-variants.{Receiver}
+use Rattle.share_words.specs.Share.{acceptedAt, heldAt, prftAt}
+use Rattle.slots.specs.Share.{asked, trackOf, isOpen, lawful as lawfulShare}
 use Rattle.slots.specs.Table.{Out, out}
 use Rattle.slots.specs.Calls.{openedRungs}
-use Rattle.block.specs.Entries.{Entry, onOption, isSome, readable, lawful, says}
-use Rattle.block.proofs.Order.{readable-perm, lawful-perm, says-perm}
-use Rattle.chunk.specs.declared.outer.Prft.{Prft}
-use Rattle.fields.specs.Said.{Says, numbers}
-use Rattle.reading.specs.Read.{fieldRungs, setRungs, newWords}
-use Rattle.object.specs.Ids.{idsOk}
-use Rattle.object.specs.Bmdt.{bmdtOf}
-use Rattle.object.specs.Prft.{prftOf}
-use Rattle.object.specs.Values.{listed}
-use Rattle.object.proofs.ObjectLaws.{bmdt-sent, full-alone}
-use Rattle.exchange.specs.Took.{Took, refused}
-use Rattle.exchange.specs.Kept.{prftWords, keptWords}
+use Rattle.locmaf_read_block.specs.Entries.{Entry, readable, lawful, says}
+use Rattle.laws.specs.Options.{onOption, isSome}
+use Rattle.locmaf_read_block.proofs.Order.{readable-perm, lawful-perm, says-perm}
+use Rattle.prft_value.specs.declared.Prft.{Prft}
+use Rattle.locmaf_read_said.specs.Said.{Says}
+use Rattle.field_rules.specs.Fields.{numbers}
+use Rattle.locmaf_read_set.specs.Read.{fieldRungs, setRungs, newWords}
+use Rattle.locmaf_read_head.specs.Ids.{idsOk}
+use Rattle.locmaf_read_times.specs.Bmdt.{bmdtOf}
+use Rattle.locmaf_read_times.specs.Prft.{prftOf}
+use Rattle.locmaf_read_events.specs.Values.{listed}
+use Rattle.locmaf_read_times.proofs.BmdtLaws.{bmdt-sent}
+use Rattle.locmaf_read_times.proofs.PrftFacts.{full-alone}
+use Rattle.answers.specs.Took.{Took, refused}
+use Rattle.reference.specs.Kept.{prftWords, referenceWords, keptWords}
 use Rattle.receiver.specs.Object.{isDelta, headRungs, tuples, reads, entries, saying, payload}
 use Rattle.receiver.specs.Receive.{reference, bmdt, prft, events, newSet, heldOk, idsRight, splitRungs, valueRungs, sequence, accepted, refusing, done, receiveRungs, receiving}
 use Rattle.receiver.specs.Laws.{FullForgets, AnyOrder}
@@ -98,7 +101,7 @@ none-is (some zs) e = absurd (false≢true (sym e))
 kept-full : (delta : Bool) (s s′ : List ℕ) {n n′ : ℕ} {p p′ : Prft} {w w′ : List ℕ} → delta ≡ false
     → take acceptedAt s ≡ take acceptedAt s′ → n ≡ n′ → p ≡ p′ → w ≡ w′ → keptWords delta n p w s ≡ keptWords delta n′ p′ w′ s′
 unfolding keptWords
-kept-full delta s s′ d e a b c = rw d (λ j. e j ++ (a j ∷ 1 ∷ (prftWords (b j) ++ c j)))
+kept-full delta s s′ d e a b c = rw d (λ j. e j ++ (a j ∷ referenceWords (prftWords (b j)) (c j)))
 
 words-forgot : (t t′ : Track) (delta : Bool) (r r′ : List ℕ) (said : Says) (b b′ : ℕ) → delta ≡ false → t ≡ t′ → b ≡ b′
     → newWords t delta r said b ≡ newWords t′ delta r′ said b′

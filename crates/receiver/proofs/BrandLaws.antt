@@ -9,25 +9,27 @@ use borrow.Author.Tests.{eqb-true, eq-eqb, ne-eqb}
 use lib.Dec.{eqb}
 use lib.ListN.{length, getD}
 use lib.Seq.{slice, slice-empty}
+use Rattle.locmaf_read_index.specs.Places.{standsAt, numberAt}
 use Rattle.laws.specs.Ladder.{Hold}
 use Rattle.laws.proofs.TestLaws.{right, and-right}
 use Rattle.wire.specs.declared.form.Row.{Row}
 use Rattle.track.specs.declared.Track.{Track}
-use Rattle.block.specs.Entries.{Tells}
-use Rattle.fields.specs.Said.{Says, numbers, saysIn, Telling}
-use Rattle.reading.specs.Read.{brandsFit, fieldRungs, setRungs}
-use Rattle.reading.proofs.TellingLaws.{part-says}
-use Rattle.receiver.specs.declared.judge.Part.{Part}
+use Rattle.locmaf_read_index.specs.Held.{Tells}
+use Rattle.locmaf_read_said.specs.Said.{Says, saysIn, Telling}
+use Rattle.field_rules.specs.Fields.{numbers}
+use Rattle.locmaf_read_set.specs.Read.{brandsFit, fieldRungs, setRungs}
+use Rattle.locmaf_read_said.proofs.TellingLaws.{part-says}
+use Rattle.byte_parts.specs.declared.Part.{Part}
 use Rattle.receiver.specs.Judge.{partIn}
 
 -- ---- the part of an odd id
 
-pub part-none : (index : List ℕ) (id : ℕ) → getD index (id * 3) 0 ≡ 0 → record { at = 0; len = 0 } ≡ partIn index id
+pub part-none : (index : List ℕ) (id : ℕ) → getD index (standsAt id) 0 ≡ 0 → record { at = 0; len = 0 } ≡ partIn index id
 unfolding partIn
 part-none index id e = rw (eq-eqb _ _ e)
 
-pub part-some : (index : List ℕ) (id : ℕ) → (getD index (id * 3) 0 ≡ 0 → ⊥)
-    → record { at = getD index (id * 3) 0 - 1; len = getD index (id * 3 + 1) 0 } ≡ partIn index id
+pub part-some : (index : List ℕ) (id : ℕ) → (getD index (standsAt id) 0 ≡ 0 → ⊥)
+    → record { at = getD index (standsAt id) 0 - 1; len = getD index (numberAt id) 0 } ≡ partIn index id
 unfolding partIn
 part-some index id e = rw (ne-eqb _ _ e)
 
@@ -45,11 +47,11 @@ brands-told F o index h = go (saysIn F o index 23) refl (h .each 23 (omega arith
   where
     go : (m : Option (List ℕ)) → saysIn F o index 23 ≡ m → Tells F o (length o) index [] [] 23 m → BrandsTold o (partIn index 23) (numbers m)
     go none e t =
-        let z : getD index 69 0 ≡ 0 = t 0 (omega arith) in
-        rw (eq-eqb (getD index 69 0) 0 z) (record { inside = omega arith; named = slice-empty 0 o; long = refl })
+        let z : getD index (standsAt 23) 0 ≡ 0 = t 0 (omega arith) in
+        rw (eq-eqb (getD index (standsAt 23) 0) 0 z) (record { inside = omega arith; named = slice-empty 0 o; long = refl })
     go (some bs) e t =
         let w = part-says F o index h bs e in
-        rw (ne-eqb (getD index 69 0) 0 (λ z. omega (arith, t .first))) (record { inside = w .1; named = w .0; long = w .2 })
+        rw (ne-eqb (getD index (standsAt 23) 0) 0 (λ z. omega (arith, t .first))) (record { inside = w .1; named = w .0; long = w .2 })
 
 -- some of four bytes each
 fours : (m : Option (List ℕ)) → brandsFit m ≡ true → length (numbers m) % 4 ≡ 0

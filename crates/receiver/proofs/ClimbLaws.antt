@@ -10,13 +10,13 @@ use Rattle.laws.specs.Ladder.{Hold}
 use Rattle.laws.proofs.LadderLaws.{numberOf, Numbered, all-hold, climbed-on, stopped-on}
 use Rattle.wire.specs.declared.form.Row.{Row}
 use Rattle.track.specs.declared.Track.{Track}
-use Rattle.fieldset.specs.Lines.{setLen}
-use Rattle.fieldset.specs.Lawful.{lawful as lawfulSet}
-use Rattle.slots.specs.Share.{setAt}
-use Rattle.fields.specs.Said.{Says, saysIn}
-use Rattle.reading.specs.Read.{newWords, fieldRungs, setRungs, ReadAs}
-use Rattle.object.specs.declared.head.Place.{Place}
-use Rattle.exchange.proofs.OpenLaws.{reference-long, lent}
+use Rattle.field_table.specs.Lines.{setLen}
+use Rattle.field_set.specs.Lawful.{lawful as lawfulSet}
+use Rattle.share_words.specs.Share.{setAt}
+use Rattle.locmaf_read_said.specs.Said.{Says, saysIn}
+use Rattle.locmaf_read_set.specs.Read.{newWords, fieldRungs, setRungs, ReadAs}
+use Rattle.locmaf_read_head.specs.declared.head.Place.{Place}
+use Rattle.reference.proofs.OpenLaws.{reference-long, lent}
 use Rattle.receiver.specs.declared.judge.Judged.{Judged}
 use Rattle.receiver.specs.Object.{isDelta, saying}
 use Rattle.receiver.specs.Receive.{track, reference, splitRungs, valueRungs, judgeRungs}

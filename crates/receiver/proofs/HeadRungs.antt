@@ -7,6 +7,7 @@ use mathlib.Core.List.{List}
 use borrow.Author.Tests.{eqb-true, leb-true}
 use lib.Dec.{eqb, leb}
 use lib.ListN.{length, drop, length-drop}
+use Rattle.constants.specs.Maxima.{blockMost}
 use Rattle.laws.specs.Ladder.{Hold}
 use Rattle.laws.proofs.LadderLaws.{numberOf, broken, passed}
 use Rattle.wire.specs.declared.form.Row.{Row}
@@ -14,11 +15,11 @@ use Rattle.wire.specs.declared.varint.Got.{Got}
 use Rattle.wire.specs.declared.varint.Got.the-variants.{Value, Cut}
 use Rattle.wire.specs.Varint.{readF, onGot}
 use Rattle.wire.proofs.VarintLaws.{read-size}
-use Rattle.block.specs.Records.{number}
-use Rattle.object.specs.declared.head.Place.{Place}
-use Rattle.object.specs.declared.head.Head.{Head}
-use Rattle.object.specs.declared.head.Head.the-variants.{Block, Refused}
-use Rattle.object.specs.Head.{placeOf, blockF, headOf}
+use Rattle.locmaf_read_block.specs.Records.{number}
+use Rattle.locmaf_read_head.specs.declared.head.Place.{Place}
+use Rattle.locmaf_read_head.specs.declared.head.Head.{Head}
+use Rattle.locmaf_read_head.specs.declared.head.Head.the-variants.{Block, Refused}
+use Rattle.locmaf_read_head.specs.Head.{placeOf, blockF, headOf}
 use Rattle.receiver.specs.Object.{headerReads, headerId, lengthAt, blockReads, blockLength, blockAt, blockEnd, isDelta, headRungs}
 
 -- a refusal is that of the rungs, and a block is the object's
@@ -30,7 +31,7 @@ pub record Opened (F : List Row) (o : List ℕ) (p : Place) : Type 0 where
   pub hold : Hold (headRungs F o)
   pub place : p ≡ placeOf (isDelta F o) (blockAt F o) (blockEnd F o)
   pub inside : blockEnd F o ≤ length o
-  pub block : blockLength F o ≤ 16384
+  pub block : blockLength F o ≤ blockMost
 
 -- what the rungs have to do with a head
 abbrev pub Says : List Row → List ℕ → Head → Type 0
@@ -81,7 +82,7 @@ module _ (F : List Row) (o : List ℕ) where
     unfolding headRungs
     cut-off b = record { number = sym (passed _ 12 _ _ _ h (passed _ 10 _ _ _ k (broken _ 12 _ _ _ b))); some = λ z. omega arith }
 
-    sized : (n c : ℕ) → readF F (drop p o) ≡ Value n c → (x y : Bool) → leb n (length o - (p + c)) ≡ x → leb n 16384 ≡ y
+    sized : (n c : ℕ) → readF F (drop p o) ≡ Value n c → (x y : Bool) → leb n (length o - (p + c)) ≡ x → leb n blockMost ≡ y
         → Says F o (cond x (cond y (Block (placeOf delta (p + c) (p + c + n))) (Refused 15)) (Refused 12))
     unfolding headRungs blockEnd
     sized n c q true true u v =
@@ -89,9 +90,9 @@ module _ (F : List Row) (o : List ℕ) where
         let b = block-at p e n c q in
         let l = block-length p e n c q in
         let i : n ≤ length o - (p + c) = leb-true _ _ u in
-        let m : n ≤ 16384 = leb-true _ _ v in
+        let m : n ≤ blockMost = leb-true _ _ v in
         record {
-          hold = (h, (k, (block-reads p e n c q ∙ u, (ap (λ (z : ℕ). leb z 16384) l ∙ v, tt))));
+          hold = (h, (k, (block-reads p e n c q ∙ u, (ap (λ (z : ℕ). leb z blockMost) l ∙ v, tt))));
           place = rw (d, b, l);
           inside = omega (arith, b, l, r .0, r .1, length-drop p o);
           block = omega (arith, l);
@@ -100,7 +101,7 @@ module _ (F : List Row) (o : List ℕ) where
         record {
           number =
               sym (passed _ 12 _ _ _ h (passed _ 10 _ _ _ k (passed _ 12 _ _ _ (block-reads p e n c q ∙ u)
-              (broken _ 15 _ _ _ (ap (λ (z : ℕ). leb z 16384) (block-length p e n c q) ∙ v)))));
+              (broken _ 15 _ _ _ (ap (λ (z : ℕ). leb z blockMost) (block-length p e n c q) ∙ v)))));
           some = λ z. omega arith;
         }
     sized n c q false y u v = cut-off (block-reads p e n c q ∙ u)
@@ -112,9 +113,9 @@ module _ (F : List Row) (o : List ℕ) where
         go : (g : Got) → readF F (drop p o) ≡ g
             → Says F o
             (onGot g
-            (λ n c. cond (leb n (length o - (p + c))) (cond (leb n 16384) (Block (placeOf delta (p + c) (p + c + n))) (Refused 15)) (Refused 12))
+            (λ n c. cond (leb n (length o - (p + c))) (cond (leb n blockMost) (Block (placeOf delta (p + c) (p + c + n))) (Refused 15)) (Refused 12))
             (Refused 12))
-        go (Value n c) q = sized n c q (leb n (length o - (p + c))) (leb n 16384) refl refl
+        go (Value n c) q = sized n c q (leb n (length o - (p + c))) (leb n blockMost) refl refl
         go Cut q = cut-off (block-cut p e q)
 
   module _ (id p : ℕ) (h : headerReads F o ≡ true) (i : headerId F o ≡ id) (e : lengthAt F o ≡ p) where

@@ -8,44 +8,50 @@ use mathlib.Core.Option.{Option, none, some}
 use borrow.Author.Tests.{leb-true}
 use borrow.Rule.Slice.PartAt.{part-to-end}
 use lib.Dec.{leb}
-use lib.ListN.{length, getD, replicate, length-replicate, length-drop}
-use lib.ListN.{set as store}
+use lib.ListN.{length, getD, replicate, length-replicate, length-drop, set as store}
+use Rattle.constants.specs.Maxima.{brandBytesMost, eventsMost, eventBytesMost, payloadMost, numberMost}
+use Rattle.locmaf_read_index.specs.Places.{numberAt, manyAt}
 use Rattle.laws.specs.Tests.{_and_, allLe}
 use Rattle.laws.specs.Ladder.{Rung, ladder, Hold}
 use Rattle.laws.proofs.LadderLaws.{broken, passed, top}
 use Rattle.laws.proofs.TestLaws.{left, and-left, and-right}
 use Rattle.wire.specs.declared.form.Row.{Row}
 use Rattle.track.specs.declared.Track.{Track}
-use Rattle.fieldset.specs.Lines.{setLen}
-use Rattle.fieldset.specs.Lawful.{lawful as lawfulSet}
-use Rattle.slots.specs.Share.{setAt}
-use Rattle.block.specs.Entries.{onOption}
-use Rattle.chunk.specs.Events.{eventsOf, EventsFit}
-use Rattle.chunk.specs.Writable.{Writable, Sized, Headed, Branded}
-use Rattle.protected.proofs.ProtectableLaws.{lawful-protectable}
-use Rattle.fields.specs.Said.{Says, numbers, scalarIn}
-use Rattle.reading.specs.Read.{countOf, fieldOf, newWords, setRungs}
-use Rattle.reading.proofs.TellingLaws.{scalar-says}
-use Rattle.fields.proofs.SetLaws.{words-bmdt}
-use Rattle.reading.proofs.NewSetLaws.{taken-facts, new-lawful, new-long}
-use Rattle.object.specs.declared.head.Place.{Place}
-use Rattle.object.specs.declared.prft.Told.{Told}
-use Rattle.object.specs.Bmdt.{bmdtOf, Timed}
-use Rattle.object.specs.Prft.{prftOf}
-use Rattle.object.specs.Events.{EventsRead}
-use Rattle.object.specs.Values.{allFit, boxes}
-use Rattle.sizes.specs.Sums.{Summable}
-use Rattle.object.specs.Sums.{sizesOk, protectedOk}
-use Rattle.object.proofs.ValueLaws.{EventsTold, said-count, said-size, said-told}
-use Rattle.sizes.proofs.SumLaws.{lawful-summable}
-use Rattle.object.proofs.SumLaws.{sizes-sized}
-use Rattle.receiver.specs.declared.judge.Part.{Part}
+use Rattle.field_table.specs.Lines.{setLen}
+use Rattle.field_set.specs.Lawful.{lawful as lawfulSet}
+use Rattle.share_words.specs.Share.{setAt}
+use Rattle.laws.specs.Options.{onOption}
+use Rattle.event_value.specs.Events.{eventsOf, EventsFit, eventsLen}
+use Rattle.cmaf_write_front.specs.Writable.{Writable}
+use Rattle.effective.specs.Sizes.{Sized}
+use Rattle.prft_value.specs.Prft.{Headed}
+use Rattle.cmaf_write_prelude.specs.Branded.{Branded}
+use Rattle.cmaf_write_senc.proofs.ProtectableLaws.{lawful-protectable}
+use Rattle.locmaf_read_said.specs.Said.{Says, scalarIn}
+use Rattle.field_rules.specs.Fields.{numbers}
+use Rattle.locmaf_read_set.specs.Read.{countOf, fieldOf, newWords, setRungs}
+use Rattle.locmaf_read_said.proofs.TellingLaws.{scalar-says}
+use Rattle.field_rules.proofs.SetLaws.{words-bmdt}
+use Rattle.locmaf_read_set.proofs.NewSetLaws.{taken-facts, new-lawful, new-long}
+use Rattle.locmaf_read_head.specs.declared.head.Place.{Place}
+use Rattle.locmaf_read_times.specs.declared.prft.Told.{Told}
+use Rattle.locmaf_read_times.specs.Bmdt.{bmdtOf}
+use Rattle.effective.specs.Durations.{Timed}
+use Rattle.locmaf_read_times.specs.Prft.{prftOf}
+use Rattle.locmaf_read_events.specs.Events.{EventsRead}
+use Rattle.locmaf_read_events.specs.Values.{allFit, boxes}
+use Rattle.told_sizes.specs.Sums.{Summable}
+use Rattle.effective.specs.Sums.{sizesOk, protectedOk}
+use Rattle.locmaf_read_events.proofs.ValueLaws.{EventsTold, said-count, said-size, said-told}
+use Rattle.told_sizes.proofs.SumLaws.{lawful-summable}
+use Rattle.effective.proofs.SumLaws.{sizes-sized}
+use Rattle.byte_parts.specs.declared.Part.{Part}
 use Rattle.receiver.specs.declared.judge.Judged.{Judged}
 use Rattle.receiver.specs.Object.{isDelta, blockEnd, saying, payload}
 use Rattle.receiver.specs.Receive.{track, reference, bmdt, prft, events, brands, newSet, valuesOk, sumsOk, valueRungs}
 use Rattle.receiver.specs.Judge.{partIn, noneJudged, Judgeable, Split, JudgedAs}
-use Rattle.object.proofs.ObjectLaws.{prft-says, prft-headed}
-use Rattle.exchange.proofs.OpenLaws.{reference-long, lent}
+use Rattle.locmaf_read_times.proofs.PrftFacts.{prft-says, prft-headed}
+use Rattle.reference.proofs.OpenLaws.{reference-long, lent}
 use Rattle.receiver.proofs.ShareFacts.{iv-most, delta-lawful, reference-timed, kept-small}
 use Rattle.receiver.proofs.SaidLaws.{raw-bytes}
 use Rattle.receiver.proofs.BrandLaws.{BrandsTold, brands-told, brands-fours}
@@ -64,31 +70,31 @@ module _ (F : List Row) (o s : List ℕ) where
   plainOk =
       leb (bmdt F o s) 0x3fff_ffff_ffff_ffff
       && (prft F o s .ok
-      && (leb (length (payload F o)) 16777216
-      && (leb (length (brands F o s)) 64 && (leb (length (events F o s)) 16 && leb (length (numbers (saying F o 25))) 4096))))
+      && (leb (length (payload F o)) payloadMost
+      && (leb (length (brands F o s)) brandBytesMost && (leb (length (events F o s)) eventsMost && leb (length (numbers (saying F o 25))) eventBytesMost))))
 
   -- one by one
   record Plain : Type 0 where
     start : bmdt F o s ≤ 0x3fff_ffff_ffff_ffff
     told : prft F o s .ok ≡ true
-    carried : length (payload F o) ≤ 16777216
-    named : length (brands F o s) ≤ 64
+    carried : length (payload F o) ≤ payloadMost
+    named : length (brands F o s) ≤ brandBytesMost
     few : length (events F o s) ≤ 16
-    small : length (numbers (saying F o 25)) ≤ 4096
+    small : length (numbers (saying F o 25)) ≤ eventBytesMost
 
   plain-facts : plainOk ≡ true → Plain
   plain-facts e =
       let e₂ = and-right (leb (bmdt F o s) 0x3fff_ffff_ffff_ffff) _ e in
       let e₃ = and-right (prft F o s .ok) _ e₂ in
-      let e₄ = and-right (leb (length (payload F o)) 16777216) _ e₃ in
-      let e₅ = and-right (leb (length (brands F o s)) 64) _ e₄ in
+      let e₄ = and-right (leb (length (payload F o)) payloadMost) _ e₃ in
+      let e₅ = and-right (leb (length (brands F o s)) brandBytesMost) _ e₄ in
       record {
         start = leb-true _ _ (and-left (leb (bmdt F o s) 0x3fff_ffff_ffff_ffff) _ e);
         told = and-left (prft F o s .ok) _ e₂;
-        carried = leb-true _ _ (and-left (leb (length (payload F o)) 16777216) _ e₃);
-        named = leb-true _ _ (and-left (leb (length (brands F o s)) 64) _ e₄);
-        few = leb-true _ _ (and-left (leb (length (events F o s)) 16) _ e₅);
-        small = leb-true _ _ (and-right (leb (length (events F o s)) 16) _ e₅);
+        carried = leb-true _ _ (and-left (leb (length (payload F o)) payloadMost) _ e₃);
+        named = leb-true _ _ (and-left (leb (length (brands F o s)) brandBytesMost) _ e₄);
+        few = leb-true _ _ (and-left (leb (length (events F o s)) eventsMost) _ e₅);
+        small = leb-true _ _ (and-right (leb (length (events F o s)) eventsMost) _ e₅);
       }
 
   values-broken : plainOk ≡ false → valuesOk F o s ≡ false
@@ -179,18 +185,18 @@ module _ {F : List Row} {o s : List ℕ} {t : Track} {p : Place} {index ev : Lis
   brands-are : BrandsTold o q (brands F o s)
   brands-are = rw (w .named, ← ap (λ (f : Says). numbers (f 23)) (w .split .says)) (brands-told F o index (w .split .telling))
 
-  events-many : length (events F o s) ≡ getD index 77 0
+  events-many : length (events F o s) ≡ getD index (manyAt 25) 0
   unfolding events
-  events-many = said-count F o (blockEnd F o) index (replicate 160 0) ev (w .head .inside) (saying F o 25) (w .split .list)
+  events-many = said-count F o (blockEnd F o) index (replicate eventsLen 0) ev (w .head .inside) (saying F o 25) (w .split .list)
 
-  events-size : length (numbers (saying F o 25)) ≡ getD index 76 0
+  events-size : length (numbers (saying F o 25)) ≡ getD index (numberAt 25) 0
   events-size =
       sym (size-of (saying F o 25))
-      ∙ said-size F o (blockEnd F o) index (replicate 160 0) ev (w .head .inside) (saying F o 25) (w .split .list)
+      ∙ said-size F o (blockEnd F o) index (replicate eventsLen 0) ev (w .head .inside) (saying F o 25) (w .split .list)
 
   -- the code's test of all but the events
   pub plain-is : (leb b 0x3fff_ffff_ffff_ffff
-      && (r .ok && (leb (length o - p .end) 16777216 && (leb (q .len) 64 && (leb (getD index 77 0) 16 && leb (getD index 76 0) 4096)))))
+      && (r .ok && (leb (length o - p .end) payloadMost && (leb (q .len) brandBytesMost && (leb (getD index (manyAt 25) 0) eventsMost && leb (getD index (numberAt 25) 0) eventBytesMost)))))
       ≡ plainOk F o s
   plain-is = rw (bmdt-is, prft-is, payload-long (w .head), brands-are .long, events-many, events-size)
 
@@ -203,19 +209,19 @@ module _ {F : List Row} {o s : List ℕ} {t : Track} {p : Place} {index ev : Lis
     plain : Plain F o s
     plain = plain-facts F o s ok
 
-    told : EventsTold F t b o ev (getD index 77 0) (getD index 76 0) (saying F o 25)
+    told : EventsTold F t b o ev (getD index (manyAt 25) 0) (getD index (numberAt 25) 0) (saying F o 25)
     told =
-        said-told F o (blockEnd F o) index (replicate 160 0) ev (w .head .inside) (saying F o 25) (w .split .list) t b (length-replicate {A = ℕ} 160 0)
+        said-told F o (blockEnd F o) index (replicate eventsLen 0) ev (w .head .inside) (saying F o 25) (w .split .list) t b (length-replicate {A = ℕ} eventsLen 0)
         (omega (arith, plain .few, events-many)) (omega (arith, plain .small, events-size))
 
     -- the events, as `events_ok` is lent them
-    pub events-lent : EventsFit o ev (getD index 77 0)
+    pub events-lent : EventsFit o ev (getD index (manyAt 25) 0)
     events-lent = told .inside
 
-    pub payload-most : length o - p .end ≤ 16777216
+    pub payload-most : length o - p .end ≤ payloadMost
     payload-most = omega (arith, plain .carried, payload-long (w .head))
 
-    module _ {z : Bool} {ws : List ℕ} (read : EventsRead t b o ev (getD index 77 0) z ws) where
+    module _ {z : Bool} {ws : List ℕ} (read : EventsRead t b o ev (getD index (manyAt 25) 0) z ws) where
       -- the values are in range where its events are
       pub fit-is : z ≡ valuesOk F o s
       unfolding events
@@ -230,10 +236,10 @@ module _ {F : List Row} {o s : List ℕ} {t : Track} {p : Place} {index ev : Lis
       pub refuses-events : (a : Judged) (x : List ℕ) → a ≡ noneJudged 15 → valuesOk F o s ≡ false → JudgedAs (valueRungs F o s) F o s a ws x
       refuses-events a x e h = judged-none F o s (valueRungs F o s) 15 a ws x e (λ n. omega arith) (fifteen F o s h)
 
-      boxes-are : eventsOf o ws (getD index 77 0) ≡ boxes (track F o s) (bmdt F o s) (events F o s)
+      boxes-are : eventsOf o ws (getD index (manyAt 25) 0) ≡ boxes (track F o s) (bmdt F o s) (events F o s)
       unfolding events
       boxes-are =
-          ap (λ (v : List ℕ). eventsOf o v (getD index 77 0)) (read .stored)
+          ap (λ (v : List ℕ). eventsOf o v (getD index (manyAt 25) 0)) (read .stored)
           ∙ told .built
           ∙ ap (λ (u : Track). boxes u b (events F o s)) (w .head .track)
           ∙ ap (λ (n : ℕ). boxes (track F o s) n (events F o s)) bmdt-is
@@ -273,7 +279,7 @@ module _ {F : List Row} {o s : List ℕ} {t : Track} {p : Place} {index ev : Lis
     module _ (ok : plainOk F o s ≡ true) where
       stored-lawful : lawfulSet t (store x 0 b) ≡ true
       stored-lawful =
-          let m : b ≤ 2 ^ 62 - 1 = omega (arith, plain-facts F o s ok .start, bmdt-is) in
+          let m : b ≤ numberMost = omega (arith, plain-facts F o s ok .start, bmdt-is) in
           ap (lawfulSet t) stored
           ∙ new-lawful t (isDelta F o) (reference F o s) (saying F o) (g .hold) b m (iv-small (w .head)) long (delta-good (w .head)) raw
 
@@ -281,7 +287,7 @@ module _ {F : List Row} {o s : List ℕ} {t : Track} {p : Place} {index ev : Lis
       pub stored-summable : Summable (store x 0 b)
       stored-summable = lawful-summable t (store x 0 b) stored-long stored-lawful
 
-      module _ {y : Bool} {ws : List ℕ} (read : EventsRead t b o ev (getD index 77 0) y ws) (fit : valuesOk F o s ≡ true)
+      module _ {y : Bool} {ws : List ℕ} (read : EventsRead t b o ev (getD index (manyAt 25) 0) y ws) (fit : valuesOk F o s ≡ true)
           {z : Bool} (ez : z ≡ (sizesOk t (store x 0 b) (length o - p .end) and protectedOk t (store x 0 b) (length o - p .end))) where
         pub sums-are : z ≡ sumsOk F o s
         unfolding sumsOk
@@ -315,7 +321,7 @@ module _ {F : List Row} {o s : List ℕ} {t : Track} {p : Place} {index ev : Lis
             let e : (sizesOk t (store x 0 b) (length o - p .end) and protectedOk t (store x 0 b) (length o - p .end)) ≡ true = sym ez ∙ sums-are ∙ h in
             rw (← payload-long (w .head)) (sizes-sized t (store x 0 b) (length o - p .end) (left _ _ e) (payload-most ok))
 
-        writable : sumsOk F o s ≡ true → Writable (track F o s) (store x 0 b) (length (payload F o)) (r .prft) o ws (getD index 77 0) (brands F o s)
+        writable : sumsOk F o s ≡ true → Writable (track F o s) (store x 0 b) (length (payload F o)) (r .prft) o ws (getD index (manyAt 25) 0) (brands F o s)
         writable h =
             record {
               set = rw (← w .head .track) (lawful-protectable t (store x 0 b) stored-long (iv-small (w .head)) stored-lawful);
@@ -326,7 +332,7 @@ module _ {F : List Row} {o s : List ℕ} {t : Track} {p : Place} {index ev : Lis
             }
 
         pub accepts : sumsOk F o s ≡ true
-            → JudgedAs (valueRungs F o s) F o s (record { number = 0; prft = r .prft; events = getD index 77 0; brands = q }) ws (store x 0 b)
+            → JudgedAs (valueRungs F o s) F o s (record { number = 0; prft = r .prft; events = getD index (manyAt 25) 0; brands = q }) ws (store x 0 b)
         accepts h =
             record {
               answered = nothing F o s fit h;

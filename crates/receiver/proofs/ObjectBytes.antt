@@ -11,17 +11,18 @@ use borrow.Author.Tests.{le-leb}
 use lib.Dec.{eqb, leb}
 use lib.ListN.{length, drop, length-append}
 use lib.Seq.{drop-at, drop-append-seam}
+use Rattle.constants.specs.Maxima.{blockMost}
 use Rattle.laws.specs.Ladder.{Rung, _else_}
 use Rattle.laws.proofs.ListLaws.{flatten-long}
 use Rattle.wire.specs.declared.form.Row.{Row}
 use Rattle.wire.specs.declared.varint.Got.the-variants.{Value}
 use Rattle.wire.specs.Varint.{readF}
 use Rattle.wire.proofs.VarintLaws.{read-more}
-use Rattle.block.specs.Records.{number}
-use Rattle.block.specs.Entries.{entriesAt}
-use Rattle.block.specs.Whole.{WholeTuple}
-use Rattle.block.proofs.FrontLaws.{all-turned}
-use Rattle.block.proofs.WholeTuples.{entryIn, entries-joined}
+use Rattle.locmaf_read_block.specs.Records.{number}
+use Rattle.locmaf_read_block.specs.Entries.{entriesAt}
+use Rattle.locmaf_read_block.specs.Whole.{WholeTuple}
+use Rattle.locmaf_read_block.proofs.FrontLaws.{all-turned}
+use Rattle.locmaf_read_block.proofs.WholeTuples.{entryIn, entries-joined}
 use Rattle.receiver.specs.Object.{headerReads, headerId, lengthAt, blockReads, blockLength, blockAt, blockEnd, isDelta, headRungs, tuples, payload}
 use Rattle.receiver.specs.Parts.{Parts}
 use Rattle.receiver.specs.Receive.{receiving}
@@ -29,7 +30,7 @@ use Rattle.receiver.proofs.AlikeTheorems.{any-order}
 
 -- the rules of a header id and of a block of n bytes, both read
 abbrev headsOf : ℕ → ℕ → List Rung
-headsOf id n = (true else 12) ∷ ((eqb id 23 || eqb id 25) else 10) ∷ (true else 12) ∷ (leb n 16384 else 15) ∷ []
+headsOf id n = (true else 12) ∷ ((eqb id 23 || eqb id 25) else 10) ∷ (true else 12) ∷ (leb n blockMost else 15) ∷ []
 
 module _ {F : List Row} {o : List ℕ} (p : Parts F o) where
   abbrev header : ℕ

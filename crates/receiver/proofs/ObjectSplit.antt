@@ -14,15 +14,14 @@ use Rattle.laws.proofs.SliceLaws.{slice-lent}
 use Rattle.laws.proofs.ListLaws.{fronts-same}
 use Rattle.wire.specs.declared.form.Row.{Row}
 use Rattle.wire.specs.declared.varint.Got.{Got}
-use Rattle.wire.specs.declared.varint.Got.the-variants.{Value}
-use Rattle.wire.specs.declared.varint.Got.the-variants.{Cut as Ends}
+use Rattle.wire.specs.declared.varint.Got.the-variants.{Value, Cut as Ends}
 use Rattle.wire.specs.Varint.{readF, onGot}
 use Rattle.wire.proofs.VarintLaws.{read-size, read-prefix, read-once}
-use Rattle.block.specs.declared.tuples.Tuple.{Tuple}
-use Rattle.block.specs.Tuples.{tuplesF}
-use Rattle.block.specs.Records.{number}
-use Rattle.block.specs.Entries.{Entry, contents, entriesAt}
-use Rattle.block.proofs.SplitTuples.{WholeTuples, split-whole, split-once}
+use Rattle.locmaf_read_block.specs.declared.tuples.Tuple.{Tuple}
+use Rattle.locmaf_read_block.specs.Tuples.{tuplesF}
+use Rattle.locmaf_read_block.specs.Records.{number}
+use Rattle.locmaf_read_block.specs.Entries.{Entry, contents, entriesAt}
+use Rattle.locmaf_read_block.proofs.SplitTuples.{WholeTuples, split-whole, split-once}
 use Rattle.receiver.specs.Object.{headerReads, lengthAt, blockReads, blockLength, blockAt, blockEnd, tuples}
 use Rattle.receiver.specs.Parts.{Parts}
 use Rattle.receiver.proofs.SaidLaws.{block-inside}

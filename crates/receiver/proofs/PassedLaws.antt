@@ -6,14 +6,15 @@ use mathlib.Core.List.{List, _∷_, _++_}
 use borrow.Author.Tests.{leb-true}
 use lib.Dec.{leb}
 use lib.ListN.{length}
+use Rattle.constants.specs.Maxima.{payloadMost, numberMost}
 use Rattle.laws.specs.Ladder.{Rung, _else_, Hold}
 use Rattle.laws.proofs.LadderLaws.{hold-front, hold-back}
 use Rattle.laws.proofs.TestLaws.{left, and-left, and-right}
 use Rattle.wire.specs.declared.form.Row.{Row}
-use Rattle.slots.specs.declared.share.Side.the-variants.{Receiver}
+use Rattle.slots.specs.declared.lawful.Side.the-variants.{Receiver}
 use Rattle.slots.specs.Share.{trackOf, isOpen, lawful}
 use Rattle.slots.specs.Calls.{openedRungs}
-use Rattle.reading.specs.Read.{setRungs}
+use Rattle.locmaf_read_set.specs.Read.{setRungs}
 use Rattle.receiver.specs.Object.{isDelta, headRungs, saying, payload}
 use Rattle.receiver.specs.Receive.{reference, bmdt, prft, valuesOk, sumsOk, heldOk, splitRungs, valueRungs, judgeRungs, chunk, roomRungs, receiveRungs}
 
@@ -55,12 +56,12 @@ passed F o output s h =
 
 -- of the values, what the new share rests on
 pub value-facts : (F : List Row) (o s : List ℕ) → valuesOk F o s ≡ true
-    → (bmdt F o s ≤ 2 ^ 62 - 1) × (prft F o s .ok ≡ true) × (length (payload F o) ≤ 16777216)
+    → (bmdt F o s ≤ numberMost) × (prft F o s .ok ≡ true) × (length (payload F o) ≤ payloadMost)
 unfolding valuesOk
 value-facts F o s h =
     let ok = left _ _ h in
-    let rest = and-right (leb (bmdt F o s) (2 ^ 62 - 1)) _ ok in (
-      leb-true _ _ (and-left (leb (bmdt F o s) (2 ^ 62 - 1)) _ ok),
+    let rest = and-right (leb (bmdt F o s) numberMost) _ ok in (
+      leb-true _ _ (and-left (leb (bmdt F o s) numberMost) _ ok),
       and-left (prft F o s .ok) _ rest,
-      leb-true _ _ (and-left (leb (length (payload F o)) 16777216) _ (and-right (prft F o s .ok) _ rest)),
+      leb-true _ _ (and-left (leb (length (payload F o)) payloadMost) _ (and-right (prft F o s .ok) _ rest)),
     )

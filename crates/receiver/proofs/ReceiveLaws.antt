@@ -11,16 +11,17 @@ use Rattle.laws.proofs.LadderLaws.{broken, passed, Numbered, all-hold, climbed-
 use Rattle.wire.specs.declared.form.Row.{Row}
 use Rattle.track.specs.declared.Track.{Track}
 use Rattle.track.specs.Track.{lawful as lawfulTrack}
-use Rattle.slots.specs.declared.share.Side.the-variants.{Receiver}
-use Rattle.slots.specs.Share.{shareLen, trackAt, heldAt, askedOf, trackOf, lawful}
+use Rattle.slots.specs.declared.lawful.Side.the-variants.{Receiver}
+use Rattle.share_words.specs.Share.{shareLen, trackAt, heldAt}
+use Rattle.slots.specs.Share.{askedOf, trackOf, lawful}
 use Rattle.slots.specs.Table.{Out}
 use Rattle.slots.proofs.CallLaws.{shut, ajar}
-use Rattle.reading.specs.Read.{setRungs, fieldRungs}
-use Rattle.object.specs.declared.head.Place.{Place}
-use Rattle.object.specs.declared.head.Head.the-variants.{Block, Refused}
-use Rattle.object.specs.Head.{headOf}
-use Rattle.exchange.specs.Took.{Took}
-use Rattle.exchange.proofs.OpenLaws.{opened-facts}
+use Rattle.locmaf_read_set.specs.Read.{setRungs, fieldRungs}
+use Rattle.locmaf_read_head.specs.declared.head.Place.{Place}
+use Rattle.locmaf_read_head.specs.declared.head.Head.the-variants.{Block, Refused}
+use Rattle.locmaf_read_head.specs.Head.{headOf}
+use Rattle.answers.specs.Took.{Took}
+use Rattle.reference.proofs.OpenLaws.{opened-facts}
 use Rattle.receiver.specs.declared.judge.Judged.{Judged}
 use Rattle.receiver.specs.Object.{isDelta, headRungs}
 use Rattle.receiver.specs.Receive.{heldOk, splitRungs, valueRungs, judgeRungs, roomRungs, refusing, done, receiveRungs, receiving}

@@ -15,21 +15,20 @@ use Rattle.laws.proofs.BytesLaws.{bytes-are}
 use Rattle.laws.proofs.TestLaws.{low-slice}
 use Rattle.wire.specs.declared.form.Row.{Row}
 use Rattle.wire.specs.declared.varint.Got.{Got}
-use Rattle.wire.specs.declared.varint.Got.the-variants.{Value}
-use Rattle.wire.specs.declared.varint.Got.the-variants.{Cut as Ends}
+use Rattle.wire.specs.declared.varint.Got.the-variants.{Value, Cut as Ends}
 use Rattle.wire.specs.Varint.{readF, onGot}
 use Rattle.wire.specs.Form.{limit}
 use Rattle.wire.proofs.FormLaws.{Lawful}
 use Rattle.wire.proofs.VarintLaws.{read-size, read-bound}
-use Rattle.block.specs.declared.tuples.Tuple.{Tuple}
-use Rattle.block.specs.Front.{Series, wholly}
-use Rattle.block.specs.Tuples.{partOf, tuplesRun, tuplesF}
-use Rattle.block.specs.Records.{number}
-use Rattle.block.specs.Index.{bytesOf}
-use Rattle.block.specs.Entries.{content, contents, entriesAt, onOption, body, entry, says}
+use Rattle.locmaf_read_block.specs.declared.tuples.Tuple.{Tuple}
+use Rattle.locmaf_read_block.specs.Front.{Series, wholly}
+use Rattle.locmaf_read_block.specs.Tuples.{partOf, tuplesRun, tuplesF, bytesOf}
+use Rattle.locmaf_read_block.specs.Records.{number}
+use Rattle.locmaf_read_block.specs.Entries.{content, contents, entriesAt, body, entry, says}
+use Rattle.laws.specs.Options.{onOption}
 use Rattle.laws.specs.Each.{AllOf}
-use Rattle.block.proofs.NumberLaws.{numbers-inv}
-use Rattle.block.proofs.TupleRuns.{Proper, all-proper}
+use Rattle.locmaf_read_block.proofs.NumberLaws.{numbers-inv}
+use Rattle.locmaf_read_block.proofs.TupleRuns.{Proper, all-proper}
 use Rattle.receiver.specs.Object.{lengthAt, blockReads, blockLength, blockAt, blockEnd, headRungs, tuples, entries, saying}
 
 -- ---- the block

@@ -6,28 +6,30 @@ use mathlib.Core.List.{List, [], _∷_, _++_}
 use mathlib.Core.Option.{none}
 use lib.Dec.{leb}
 use lib.ListN.{length, drop}
+use Rattle.constants.specs.Maxima.{subsamplesMost, brandBytesMost, eventsMost, eventBytesMost, payloadMost, numberMost}
 use Rattle.laws.specs.Tests.{_and_, sum}
 use Rattle.laws.specs.Ladder.{Rung, _else_}
 use Rattle.wire.specs.declared.form.Row.{Row}
 use Rattle.wire.specs.declared.zigzag.Coding.the-variants.{Plain}
 use Rattle.wire.specs.Zigzag.{onReached}
 use Rattle.track.specs.declared.Track.{Track}
-use Rattle.fieldset.specs.declared.lines.Line.{Line}
-use Rattle.fieldset.specs.declared.lines.Measure.{Measure}
-use Rattle.fieldset.specs.Lines.{every, lines, lineFor}
-use Rattle.fieldset.specs.Lawful.{saizOk, setRules, sameIvSize}
-use Rattle.slots.specs.declared.share.Side.the-variants.{Receiver}
+use Rattle.field_table.specs.declared.lines.Line.{Line}
+use Rattle.field_table.specs.declared.lines.Measure.{Measure}
+use Rattle.field_table.specs.Lines.{every, lines, lineFor}
+use Rattle.field_set.specs.Lawful.{saizOk, setRules, sameIvSize}
+use Rattle.slots.specs.declared.lawful.Side.the-variants.{Receiver}
 use Rattle.slots.specs.Share.{trackOf}
 use Rattle.slots.specs.Calls.{openedRungs}
-use Rattle.chunk.specs.Front.{front}
-use Rattle.fields.specs.Said.{Says, Saying, omitted, deleted, sent, numbers, sayingOf}
-use Rattle.fields.specs.Cells.{oldValues, cellOf}
-use Rattle.reading.specs.Deletions.{deletionsOk}
-use Rattle.fields.specs.Words.{setWords, measure, wasOf}
-use Rattle.reading.specs.Read.{countReached, countOf, cameOf, subsamples, came, brandsFit, stands, marks, newWords, fieldRungs, setRungs}
-use Rattle.object.specs.Values.{allFit, boxes}
-use Rattle.object.specs.Sums.{sizesOk, protectedOk}
-use Rattle.exchange.specs.Took.{took}
+use Rattle.cmaf_write_front.specs.Front.{front}
+use Rattle.locmaf_read_said.specs.Said.{Says, Saying, omitted, deleted, sent, sayingOf}
+use Rattle.field_rules.specs.Fields.{numbers, oldValues}
+use Rattle.locmaf_read_field.specs.Cells.{cellOf}
+use Rattle.locmaf_read_said.specs.Deletions.{deletionsOk}
+use Rattle.field_rules.specs.Words.{setWords, measure, wasOf}
+use Rattle.locmaf_read_set.specs.Read.{countReached, countOf, cameOf, subsamples, came, brandsFit, stands, marks, newWords, fieldRungs, setRungs}
+use Rattle.locmaf_read_events.specs.Values.{allFit, boxes}
+use Rattle.effective.specs.Sums.{sizesOk, protectedOk}
+use Rattle.answers.specs.Took.{took}
 use Rattle.receiver.specs.Object.{isDelta, headRungs, saying, payload}
 use Rattle.receiver.specs.Receive.{reference, bmdt, prft, events, brands, newSet, valuesOk, sumsOk, heldOk, splitRungs, valueRungs, sequence, chunk, done, roomRungs, receiveRungs}
 
@@ -64,10 +66,10 @@ module _ (F : List Row) (o o′ s s′ : List ℕ) (e : Same F o o′ s s′) wh
   unfolding valuesOk
   same-values =
       λ j.
-      (leb (e .start j) (2 ^ 62 - 1)
+      (leb (e .start j) numberMost
       && (e .time j .ok
-      && (leb (length (e .rest j)) 16777216
-      && (leb (length (e .named j)) 64 && (leb (length (e .list j)) 16 && leb (length (e .listed j)) 4096)))))
+      && (leb (length (e .rest j)) payloadMost
+      && (leb (length (e .named j)) brandBytesMost && (leb (length (e .list j)) eventsMost && leb (length (e .listed j)) eventBytesMost)))))
       and allFit (e .clock j) (e .start j) (e .list j)
 
   same-sums : sumsOk F o s ≡ sumsOk F o′ s′
@@ -125,7 +127,7 @@ module _ (t : Track) (says : Says) (r r′ : List ℕ) where
   fields-full =
       λ j.
       ((every (λ l. each-full j l .cell .first) lines and brandsFit (says 23)) else 14)
-      ∷ ((each-full j (lineFor 11 lines) .cell .within and saizOk (t .«iv_size») (subsamples-full j) and leb (sum (subsamples-full j)) 256) else 15)
+      ∷ ((each-full j (lineFor 11 lines) .cell .within and saizOk (t .«iv_size») (subsamples-full j) and leb (sum (subsamples-full j)) subsamplesMost) else 15)
       ∷ ((every (λ l. each-full j l .cell .second) lines and setRules t (count-full j) (marks t false r says)) else 14)
       ∷ ((every (λ l. each-full j l .cell .within) lines and sameIvSize t (words-full 0 j)) else 15)
       ∷ []

@@ -1,5 +1,5 @@
 -- What is known of the share that an object is received on. Assumes nothing.
-use Prim.Native.Nat.{ℕ, _+_, _≤_}
+use Prim.Native.Nat.{ℕ, _+_, _-_, _≤_, _<_}
 use native.Mathlib.Omega.{arith}
 use mathlib.Core.Path.{_≡_, refl, sym, _∙_, ap}
 use mathlib.Core.Bool.{Bool, true, false, cond, not, _&&_, _||_}
@@ -13,15 +13,16 @@ use Rattle.laws.proofs.ListLaws.{drop-replicate}
 use Rattle.laws.proofs.TestLaws.{and-left, and-right, zeros-are}
 use Rattle.wire.specs.declared.form.Row.{Row}
 use Rattle.track.proofs.TrackLaws.{ranges}
-use Rattle.fieldset.specs.Lines.{setLen}
-use Rattle.fieldset.specs.Lawful.{lawful as lawfulSet}
-use Rattle.slots.specs.declared.share.Side.the-variants.{Receiver}
-use Rattle.slots.specs.Share.{shareLen, heldAt, prftAt, ntpAt, versionAt, prftFlagsAt, mediaTimeAt, setAt, u24, u62, askedOf, trackOf, prftOk, referenceOk, isOpen, lawful}
-use Rattle.block.proofs.AnswerLaws.{blank-zeros}
+use Rattle.field_table.specs.Lines.{setLen}
+use Rattle.field_set.specs.Lawful.{lawful as lawfulSet}
+use Rattle.slots.specs.declared.lawful.Side.the-variants.{Receiver}
+use Rattle.share_words.specs.Share.{shareLen, heldAt, prftAt, ntpAt, versionAt, prftFlagsAt, mediaTimeAt, prftEnd, setAt}
+use Rattle.slots.specs.Share.{u24, u62, askedOf, trackOf, prftOk, referenceOk, isOpen, lawful}
+use Rattle.locmaf_read_index.proofs.AnswerLaws.{blank-zeros}
 use Rattle.track.specs.Track.{u32}
-use Rattle.object.specs.Bmdt.{Timed}
-use Rattle.object.proofs.ObjectLaws.{lawful-timed, zeros-timed}
-use Rattle.exchange.proofs.OpenLaws.{Opened, opened-facts, held-facts, reference-long}
+use Rattle.effective.specs.Durations.{Timed}
+use Rattle.effective.proofs.DurationLaws.{lawful-timed, zeros-timed}
+use Rattle.reference.proofs.OpenLaws.{Opened, opened-facts, held-facts, reference-long}
 use Rattle.receiver.specs.Object.{isDelta}
 use Rattle.receiver.specs.Receive.{heldOk}
 
@@ -38,17 +39,17 @@ module _ (s : List ℕ) (l : length s ≡ shareLen) where
   -- where the words from the `prft` on are zeros
   zeros-behind : allZero (drop prftAt s) ≡ true → drop setAt s ≡ replicate setLen 0
   zeros-behind e =
-      let n : length (drop prftAt s) ≡ 986 = omega (arith, length-drop prftAt s) in
-      let z : drop prftAt s ≡ replicate 986 0 = zeros-are (drop prftAt s) e ∙ ap (λ (k : ℕ). replicate k 0) n in
-      sym (drop-drop 5 prftAt s) ∙ ap (drop 5) z ∙ drop-replicate 5 986 0
+      let n : length (drop prftAt s) ≡ shareLen - prftAt = omega (arith, length-drop prftAt s) in
+      let z : drop prftAt s ≡ replicate (shareLen - prftAt) 0 = zeros-are (drop prftAt s) e ∙ ap (λ (k : ℕ). replicate k 0) n in
+      sym (drop-drop (setAt - prftAt) prftAt s) ∙ ap (drop (setAt - prftAt)) z ∙ drop-replicate (setAt - prftAt) (shareLen - prftAt) 0
 
   zero-behind : (i : ℕ) → allZero (drop prftAt s) ≡ true → getD s (prftAt + i) 0 ≡ 0
   zero-behind i e = sym (getD-drop prftAt s i 0) ∙ zero-at (drop prftAt s) i e
 
   -- a word of the `prft`, where there is none
-  zero-prft : (i : ℕ) → ntpAt + i ≤ 14 → allZero (slice ntpAt setAt s) ≡ true → getD s (ntpAt + i) 0 ≡ 0
+  zero-prft : (i : ℕ) → ntpAt + i < prftEnd → allZero (slice ntpAt prftEnd s) ≡ true → getD s (ntpAt + i) 0 ≡ 0
   zero-prft i h e =
-      sym (getD-drop ntpAt (take setAt s) i 0 ∙ getD-take setAt s (ntpAt + i) 0 (omega arith)) ∙ zero-at (slice ntpAt setAt s) i e
+      sym (getD-drop ntpAt (take prftEnd s) i 0 ∙ getD-take prftEnd s (ntpAt + i) 0 (omega arith)) ∙ zero-at (slice ntpAt prftEnd s) i e
 
   module _ (h : lawful Receiver s ≡ true) (o : isOpen s ≡ true) where
     facts : Opened Receiver s
@@ -88,7 +89,7 @@ module _ (s : List ℕ) (l : length s ≡ shareLen) where
         none v f = (omega arith, omega arith)
 
         two : (b : Bool)
-            → cond b (allZero (slice ntpAt setAt s))
+            → cond b (allZero (slice ntpAt prftEnd s))
             (eqb (getD s prftAt 0) 1
             && (leb (getD s versionAt 0) 1
             && ((eqb (getD s versionAt 0) 1 || leb (getD s mediaTimeAt 0) u32)
@@ -97,7 +98,7 @@ module _ (s : List ℕ) (l : length s ≡ shareLen) where
             && leb (getD s mediaTimeAt 0) u62)))))
             ≡ true
             → (getD s versionAt 0 ≤ 1) × (getD s prftFlagsAt 0 ≤ 0xffffff)
-        two true e = none (zero-prft 2 (omega arith) e) (zero-prft 3 (omega arith) e)
+        two true e = none (zero-prft (versionAt - ntpAt) (omega arith) e) (zero-prft (prftFlagsAt - ntpAt) (omega arith) e)
         two false e =
             let a = and-right (eqb (getD s prftAt 0) 1) _ e in
             let b = and-right (leb (getD s versionAt 0) 1) _ a in
@@ -105,5 +106,5 @@ module _ (s : List ℕ) (l : length s ≡ shareLen) where
             (leb-true _ _ (and-left (leb (getD s versionAt 0) 1) _ a), leb-true _ _ (and-left (leb (getD s prftFlagsAt 0) u24) _ d))
 
         go : (b : Bool) → eqb (getD s heldAt 0) 0 ≡ b → (getD s versionAt 0 ≤ 1) × (getD s prftFlagsAt 0 ≤ 0xffffff)
-        go true q = none (zero-behind 3 (none-held q)) (zero-behind 4 (none-held q))
+        go true q = none (zero-behind (versionAt - prftAt) (none-held q)) (zero-behind (prftFlagsAt - prftAt) (none-held q))
         go false q = two (eqb (getD s prftAt 0) 0) (one-held q .0)

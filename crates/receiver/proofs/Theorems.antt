@@ -10,6 +10,7 @@ use borrow.Author.Tests.{le-leb}
 use lib.Dec.{leb}
 use lib.ListN.{length, drop}
 use lib.Seq.{drop-length}
+use Rattle.constants.specs.Maxima.{numberMost}
 use Rattle.laws.specs.Tests.{allLe}
 use Rattle.laws.specs.Ladder.{Rung, _else_, ladder, Given}
 use Rattle.laws.proofs.LadderLaws.{numberOf, given, climbs, ladder-append, ladder-seen, climbs-all}
@@ -22,31 +23,34 @@ use Rattle.wire.specs.Form.{rows}
 use Rattle.wire.proofs.FormLaws.{lawful as form-lawful}
 use Rattle.wire.proofs.SizeLaws.{limit-most}
 use Rattle.track.specs.Track.{u32}
-use Rattle.fieldset.specs.Lines.{setLen}
-use Rattle.fieldset.specs.Lawful.{lawful as lawfulSet}
-use Rattle.sizes.specs.Told.{sizesAgree}
-use Rattle.sizes.proofs.SumLaws.{lawful-summable}
-use Rattle.slots.specs.declared.share.Side.the-variants.{Receiver}
-use Rattle.slots.specs.Share.{shareLen, trackOf, acceptedOk, prftOk, setOk, lawful, dropped}
+use Rattle.field_table.specs.Lines.{setLen}
+use Rattle.field_set.specs.Lawful.{lawful as lawfulSet}
+use Rattle.told_sizes.specs.Told.{sizesAgree}
+use Rattle.told_sizes.proofs.SumLaws.{lawful-summable}
+use Rattle.slots.specs.declared.lawful.Side.the-variants.{Receiver}
+use Rattle.share_words.specs.Share.{shareLen, dropped}
+use Rattle.slots.specs.Share.{trackOf, acceptedOk, prftOk, setOk, lawful}
 use Rattle.slots.specs.Table.{Out, shareAt, tableRungs, onTable}
 use Rattle.slots.specs.Calls.{openedRungs}
 use Rattle.slots.specs.Laws.{after, Keeps, Apart}
-use Rattle.slots.proofs.Lawful.{dropped-lawful, dropped-long}
+use Rattle.slots.proofs.StaysLawful.{dropped-lawful, dropped-long}
 use Rattle.slots.proofs.Apart.{apart, others-stay}
-use Rattle.reading.proofs.NewSetLaws.{taken-facts, new-lawful, new-long}
-use Rattle.object.proofs.ObjectLaws.{prft-lawful}
-use Rattle.object.proofs.AgreeLaws.{sums-kept}
-use Rattle.exchange.specs.Took.{Took, refused, PastStays}
-use Rattle.exchange.proofs.TookLaws.{refused-past}
-use Rattle.exchange.proofs.OpenLaws.{Opened, opened-facts, held-facts, reference-long}
-use Rattle.exchange.proofs.AcceptedLaws.{Ranged, accepted-long, accepted-lawful}
+use Rattle.locmaf_read_set.proofs.NewSetLaws.{taken-facts, new-lawful, new-long}
+use Rattle.locmaf_read_times.proofs.PrftFacts.{prft-lawful}
+use Rattle.effective.proofs.AgreeLaws.{sums-kept}
+use Rattle.answers.specs.Took.{Took, refused, PastStays}
+use Rattle.answers.proofs.TookLaws.{refused-past}
+use Rattle.reference.proofs.OpenLaws.{Opened, opened-facts, held-facts, reference-long}
+use Rattle.prft_value.specs.Prft.{InRange}
+use Rattle.reference.proofs.AcceptedLaws.{accepted-long, accepted-lawful}
 use Rattle.receiver.specs.Object.{blockEnd, isDelta, headRungs, saying, payload}
-use Rattle.receiver.specs.Receive.{afterRefusal, reference, bmdt, prft, newSet, sumsOk, heldOk, judgeRungs, sequence, chunk, accepted, refusing, done, roomRungs, receiveRungs, receiving}
+use Rattle.answers.specs.Refusals.{afterRefusal}
+use Rattle.receiver.specs.Receive.{reference, bmdt, prft, newSet, sumsOk, heldOk, judgeRungs, sequence, chunk, accepted, refusing, done, roomRungs, receiveRungs, receiving}
 use Rattle.receiver.specs.Laws.{ReceiveExactly, ReceiveStaysLawful, Refused, ReceiveRefuses, ReceivePast}
 use Rattle.receiver.proofs.ShareFacts.{delta-held, iv-most}
 use Rattle.receiver.proofs.PassedLaws.{Passed, passed, value-facts}
 use Rattle.receiver.proofs.SaidLaws.{raw-bytes, number-small}
-use Rattle.receiver.proofs.RefusalLaws.{refusal-keeps}
+use Rattle.answers.proofs.RefusalLaws.{refusal-keeps}
 
 -- ---- numbers
 
@@ -181,11 +185,11 @@ count-ok F o s = le-leb (sequence F o s) u32 (omega arith)
 
 -- a full object's `prft` keeps its ranges
 full-ranged : (form : Form) (o s : List ℕ) → allLe 255 o ≡ true → prft (rows form) o s .ok ≡ true → isDelta (rows form) o ≡ false
-    → Ranged (prft (rows form) o s .prft)
+    → InRange (prft (rows form) o s .prft)
 unfolding prft
 full-ranged form o s b e d =
     let F : List Row = rows form in
-    let small : (id z : ℕ) (zs : List ℕ) → id % 2 ≡ 0 → saying F o id ≡ some (z ∷ zs) → z ≤ 2 ^ 62 - 1 =
+    let small : (id z : ℕ) (zs : List ℕ) → id % 2 ≡ 0 → saying F o id ≡ some (z ∷ zs) → z ≤ numberMost =
     λ id z zs even q. omega (arith, number-small F (form-lawful form) o b id z zs even q, limit-most form) in
     rw d (prft-lawful (saying F o) s small (rw d at e))
 

@@ -7,30 +7,34 @@ use mathlib.Core.List.{List}
 use lib.Dec.{eqb}
 use lib.ListN.{length, getD, replicate}
 use lib.Seq.{slice}
-use Rattle.laws.specs.Ladder.{Rung, ladder}
+use Rattle.laws.specs.Ladder.{Rung, ladder, Hold}
+use Rattle.constants.specs.Maxima.{blockMost}
 use Rattle.wire.specs.declared.form.Row.{Row}
 use Rattle.track.specs.declared.Track.{Track}
-use Rattle.fieldset.specs.Lawful.{lawful as lawfulSet}
-use Rattle.slots.specs.declared.share.Side.the-variants.{Receiver}
-use Rattle.slots.specs.Share.{shareLen, isOpen, lawful}
-use Rattle.block.specs.Entries.{Tells}
-use Rattle.chunk.specs.Front.{absentPrft}
-use Rattle.chunk.specs.Events.{eventsOf}
-use Rattle.chunk.specs.Writable.{Writable}
-use Rattle.fields.specs.Said.{saysIn, Telling}
-use Rattle.object.specs.declared.head.Place.{Place}
-use Rattle.object.specs.Head.{placeOf}
-use Rattle.object.specs.Values.{boxes}
-use Rattle.receiver.specs.declared.judge.Part.{Part}
+use Rattle.field_set.specs.Lawful.{lawful as lawfulSet}
+use Rattle.slots.specs.declared.lawful.Side.the-variants.{Receiver}
+use Rattle.share_words.specs.Share.{shareLen}
+use Rattle.slots.specs.Share.{isOpen, lawful}
+use Rattle.locmaf_read_index.specs.Held.{Tells}
+use Rattle.prft_value.specs.Prft.{absentPrft}
+use Rattle.event_value.specs.Events.{eventsLen, eventsOf}
+use Rattle.locmaf_read_index.specs.Places.{standsAt, numberAt}
+use Rattle.locmaf_read_set.specs.Read.{setRungs, newWords}
+use Rattle.cmaf_write_front.specs.Writable.{Writable}
+use Rattle.locmaf_read_said.specs.Said.{saysIn, Telling}
+use Rattle.locmaf_read_head.specs.declared.head.Place.{Place}
+use Rattle.locmaf_read_head.specs.Head.{placeOf}
+use Rattle.locmaf_read_events.specs.Values.{boxes}
+use Rattle.byte_parts.specs.declared.Part.{Part}
 use Rattle.receiver.specs.declared.judge.Judged.{Judged}
 use Rattle.receiver.specs.Object.{isDelta, blockAt, blockEnd, blockLength, saying, payload}
-use Rattle.receiver.specs.Receive.{track, bmdt, prft, events, brands, newSet, heldOk, splitRungs}
+use Rattle.receiver.specs.Receive.{track, reference, bmdt, prft, events, brands, newSet, heldOk, splitRungs, valueRungs, judgeRungs}
 
 -- the bytes of an odd id, by the index
 unfoldable pub partIn : List ℕ → ℕ → Part
 partIn index id =
-    cond (eqb (getD index (id * 3) 0) 0) (record { at = 0; len = 0 })
-    (record { at = getD index (id * 3) 0 - 1; len = getD index (id * 3 + 1) 0 })
+    cond (eqb (getD index (standsAt id) 0) 0) (record { at = 0; len = 0 })
+    (record { at = getD index (standsAt id) 0 - 1; len = getD index (numberAt id) 0 })
 
 -- nothing but a number
 abbrev pub noneJudged : ℕ → Judged
@@ -45,18 +49,26 @@ pub record Judgeable (F : List Row) (o s : List ℕ) (t : Track) (p : Place) : T
   pub track : t ≡ track F o s
   pub place : p ≡ placeOf (isDelta F o) (blockAt F o) (blockEnd F o)
   pub inside : blockEnd F o ≤ length o
-  pub block : blockLength F o ≤ 16384
+  pub block : blockLength F o ≤ blockMost
 
 -- a block was split: its index, and the words of its events
 pub record Split (F : List Row) (o : List ℕ) (index events : List ℕ) : Type 0 where
   pub telling : Telling F o index
   pub says : saysIn F o index ≡ saying F o
-  pub list : Tells F o (blockEnd F o) index (replicate 160 0) events 25 (saying F o 25)
-  pub long : length events ≡ 160
+  pub list : Tells F o (blockEnd F o) index (replicate eventsLen 0) events 25 (saying F o 25)
+  pub long : length events ≡ eventsLen
 
 pub record SplitAs (F : List Row) (o s : List ℕ) (number : ℕ) (index events : List ℕ) : Type 0 where
   pub answered : number ≡ ladder (splitRungs F o s) (λ k. k) 0
   pub split : number ≡ 0 → Split F o index events
+
+-- the set of moof fields was read: every rule of it holds
+abbrev pub SetHolds : List Row → List ℕ → List ℕ → Track → Type 0
+SetHolds F o s t = Hold (setRungs t (isDelta F o) (reference F o s) (saying F o))
+
+-- and x has its words, but for BMDT
+abbrev pub SetIs : List Row → List ℕ → List ℕ → Track → List ℕ → Type 0
+SetIs F o s t x = x ≡ newWords t (isDelta F o) (reference F o s) (saying F o) 0
 
 -- the scratch words have all that the front is made of
 pub record Ready (F : List Row) (o s : List ℕ) (j : Judged) (ws x : List ℕ) : Type 0 where
@@ -71,3 +83,10 @@ pub record Ready (F : List Row) (o s : List ℕ) (j : Judged) (ws x : List ℕ) 
 pub record JudgedAs (rungs : List Rung) (F : List Row) (o s : List ℕ) (j : Judged) (ws x : List ℕ) : Type 0 where
   pub answered : j .number ≡ ladder rungs (λ k. k) 0
   pub ready : j .number ≡ 0 → Ready F o s j ws x
+
+-- from the split of the block on, and from the values of what isn't a moof field on
+abbrev pub AllJudged : List Row → List ℕ → List ℕ → Judged → List ℕ → List ℕ → Type 0
+AllJudged F o s j ws x = JudgedAs (judgeRungs F o s) F o s j ws x
+
+abbrev pub ValuesJudged : List Row → List ℕ → List ℕ → Judged → List ℕ → List ℕ → Type 0
+ValuesJudged F o s j ws x = JudgedAs (valueRungs F o s) F o s j ws x

@@ -12,11 +12,12 @@ use Rattle.laws.specs.Ladder.{Given}
 use Rattle.wire.specs.declared.form.Row.{Row}
 use Rattle.wire.specs.declared.form.Form.{Form}
 use Rattle.wire.specs.Form.{rows}
-use Rattle.slots.specs.declared.share.Side.the-variants.{Receiver}
-use Rattle.slots.specs.Share.{shareLen, heldAt, lawful, dropped}
+use Rattle.slots.specs.declared.lawful.Side.the-variants.{Receiver}
+use Rattle.share_words.specs.Share.{shareLen, heldAt, dropped}
+use Rattle.slots.specs.Share.{lawful}
 use Rattle.slots.specs.Table.{Out, shareAt, tableRungs, onTable}
-use Rattle.block.specs.Entries.{Entry}
-use Rattle.exchange.specs.Took.{Took, refused, PastStays}
+use Rattle.locmaf_read_block.specs.Entries.{Entry}
+use Rattle.answers.specs.Took.{Took, refused, PastStays}
 use Rattle.receiver.specs.Object.{isDelta, headRungs, tuples, payload}
 use Rattle.receiver.specs.Receive.{receiveRungs, receiving}
 

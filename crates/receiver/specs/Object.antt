@@ -7,10 +7,13 @@ use mathlib.Core.Option.{Option}
 use lib.Dec.{eqb, leb}
 use lib.ListN.{length, drop}
 use Rattle.laws.specs.Ladder.{Rung, _else_}
+use Rattle.constants.specs.Ids.{fullId, deltaId}
+use Rattle.constants.specs.Maxima.{blockMost}
 use Rattle.wire.specs.declared.form.Row.{Row}
-use Rattle.block.specs.Records.{number}
-use Rattle.block.specs.Entries.{Entry, entriesAt, readable, onOption, says}
-use Rattle.fields.specs.Said.{Says}
+use Rattle.locmaf_read_block.specs.Records.{number}
+use Rattle.locmaf_read_block.specs.Entries.{Entry, entriesAt, readable, says}
+use Rattle.laws.specs.Options.{onOption}
+use Rattle.locmaf_read_said.specs.Said.{Says}
 
 module _ (F : List Row) (o : List ℕ) where
   -- the header id, a varint, and the place behind it
@@ -37,15 +40,15 @@ module _ (F : List Row) (o : List ℕ) where
   blockEnd = blockAt + blockLength
 
   unfoldable pub isDelta : Bool
-  isDelta = eqb headerId 25
+  isDelta = eqb headerId deltaId
 
   -- 01: "The receiver: 12 (header id), 10, 12 (block length cut or past the object), 15 (block over its maximum)" (D77, D78, D79)
   unfoldable pub headRungs : List Rung
   headRungs =
       (headerReads else 12)
-      ∷ ((eqb headerId 23 || eqb headerId 25) else 10)
+      ∷ ((eqb headerId fullId || eqb headerId deltaId) else 10)
       ∷ (blockReads else 12)
-      ∷ (leb blockLength 16384 else 15)
+      ∷ (leb blockLength blockMost else 15)
       ∷ []
 
   -- the tuples of the block, none where one is cut

@@ -7,7 +7,7 @@ use lib.ListN.{length}
 use Rattle.wire.specs.declared.form.Row.{Row}
 use Rattle.wire.specs.declared.varint.Got.the-variants.{Value}
 use Rattle.wire.specs.Varint.{readF}
-use Rattle.block.specs.Whole.{WholeTuple}
+use Rattle.locmaf_read_block.specs.Whole.{WholeTuple}
 use Rattle.laws.specs.Each.{AllOf}
 
 -- the header id and the length of the block, each one varint of any width; the block, which is whole tuples one behind the other; and the payload

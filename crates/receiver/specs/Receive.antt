@@ -1,36 +1,37 @@
 -- One object, by 01's order of answers.
 -- ==== The rules
 use Prim.Native.Nat.{ℕ, _+_, _-_, _%_, _^_}
-use mathlib.Core.Bool.{Bool, cond, not, _&&_, _||_}
+use mathlib.Core.Bool.{Bool, not, _&&_, _||_}
 use mathlib.Core.List.{List, [], _∷_, _++_}
 use lib.Dec.{eqb, leb}
 use lib.ListN.{length, getD, drop}
 use Rattle.laws.specs.Tests.{_and_}
 use Rattle.laws.specs.Ladder.{Rung, _else_, ladder}
+use Rattle.constants.specs.Maxima.{numberMost, payloadMost, brandBytesMost, eventsMost, eventBytesMost}
 use Rattle.wire.specs.declared.form.Row.{Row}
 use Rattle.track.specs.declared.Track.{Track}
-use Rattle.slots.specs.declared.share.Side.the-variants.{Receiver}
-use Rattle.slots.specs.Share.{acceptedAt, heldAt, prftAt, setAt, trackOf, dropped}
+use Rattle.slots.specs.declared.lawful.Side.the-variants.{Receiver}
+use Rattle.share_words.specs.Share.{acceptedAt, heldAt, prftAt, setAt}
+use Rattle.slots.specs.Share.{trackOf}
 use Rattle.slots.specs.Table.{Out, out}
 use Rattle.slots.specs.Calls.{openedRungs}
-use Rattle.block.specs.Entries.{lawful, isSome}
-use Rattle.block.specs.Events.{Event}
-use Rattle.chunk.specs.Front.{front}
-use Rattle.fields.specs.Said.{numbers}
-use Rattle.reading.specs.Read.{setRungs, newWords}
-use Rattle.object.specs.declared.prft.Told.{Told}
-use Rattle.object.specs.Ids.{idsOk}
-use Rattle.object.specs.Bmdt.{bmdtOf}
-use Rattle.object.specs.Prft.{prftOf}
-use Rattle.object.specs.Values.{listed, allFit, boxes}
-use Rattle.object.specs.Sums.{sizesOk, protectedOk}
-use Rattle.exchange.specs.Took.{Took, took, refused}
-use Rattle.exchange.specs.Kept.{keptWords}
+use Rattle.locmaf_read_block.specs.Entries.{lawful}
+use Rattle.laws.specs.Options.{isSome}
+use Rattle.block_items.specs.Events.{Event}
+use Rattle.cmaf_write_front.specs.Front.{front}
+use Rattle.field_rules.specs.Fields.{numbers}
+use Rattle.locmaf_read_set.specs.Read.{setRungs, newWords}
+use Rattle.locmaf_read_times.specs.declared.prft.Told.{Told}
+use Rattle.locmaf_read_head.specs.Ids.{idsOk}
+use Rattle.locmaf_read_times.specs.Bmdt.{bmdtOf}
+use Rattle.locmaf_read_times.specs.Prft.{prftOf}
+use Rattle.locmaf_read_events.specs.Values.{listed, allFit, boxes}
+use Rattle.effective.specs.Sums.{sizesOk, protectedOk}
+use Rattle.answers.specs.Took.{Took, took, refused}
+use Rattle.reference.specs.Kept.{keptWords}
 use Rattle.receiver.specs.Object.{isDelta, headRungs, reads, entries, saying, payload}
-
--- 01: "Numbers 12 to 16 drop the slot's reference; every other refusal changes nothing" (D120)
-unfoldable pub afterRefusal : ℕ → List ℕ → List ℕ
-afterRefusal k s = cond (leb 12 k && leb k 16) (dropped s) s
+use Rattle.answers.specs.Refusals.{afterRefusal}
+use Rattle.answers.specs.Room.{fits}
 
 -- an object o, received on the share s
 module _ (F : List Row) (o s : List ℕ) where
@@ -61,10 +62,10 @@ module _ (F : List Row) (o s : List ℕ) where
   -- BMDT, .. 2^62-1" (D98, D107, D114)
   unfoldable pub valuesOk : Bool
   valuesOk =
-      (leb bmdt (2 ^ 62 - 1)
+      (leb bmdt numberMost
       && (prft .ok
-      && (leb (length (payload F o)) 16777216
-      && (leb (length brands) 64 && (leb (length events) 16 && leb (length (numbers (saying F o 25))) 4096)))))
+      && (leb (length (payload F o)) payloadMost
+      && (leb (length brands) brandBytesMost && (leb (length events) eventsMost && leb (length (numbers (saying F o 25))) eventBytesMost)))))
       and allFit track bmdt events
 
   -- 16: "sizes or protected sums disagree"
@@ -112,7 +113,15 @@ done F o output s = out (took 0 (length (chunk F o s)) (payload F o) (chunk F o 
 
 -- 17: "output shorter than the front" (D119)
 abbrev pub roomRungs : List Row → List ℕ → List ℕ → List ℕ → List Rung
-roomRungs F o output s = (leb (length (chunk F o s)) (length output) else 17) ∷ []
+roomRungs F o output s = (fits (length (chunk F o s)) (length output) else 17) ∷ []
+
+-- an object whose number is 0 but for the room
+abbrev pub written : List Row → List ℕ → List ℕ → List ℕ → Out Took
+written F o output s = ladder (roomRungs F o output s) (refusing output s) (done F o output s)
+
+-- an object whose head was read, on a share that holds what it is read against
+abbrev pub taken : List Row → List ℕ → List ℕ → List ℕ → Out Took
+taken F o output s = ladder (judgeRungs F o s ++ roomRungs F o output s) (refusing output s) (done F o output s)
 
 -- 01's order line from the share on: 18, 2, then the receiver's
 unfoldable pub receiveRungs : List Row → List ℕ → List ℕ → List ℕ → List Rung

@@ -1,26 +1,28 @@
 // The number of an object: every rule in its order, with nothing lent changed. What it works out on the way is in the scratch words.
+// Letters: `t` the track, `o` an object's bytes, `p` where the block stands, `s` the words of a share, `x` the words of the new set.
 ghost use mathlib.Core.Path.{_≡_};
 ghost use Prim.Native.Nat.{_+_, _-_, _≤_, _<_};
 ghost use lib.ListN.{length, replicate};
-ghost use Rattle.laws.specs.Ladder.{Hold};
+ghost use Rattle.constants.specs.Ids.{idCount};
+ghost use Rattle.constants.specs.Maxima.{payloadMost};
 ghost use Rattle.wire.specs.Form.{rows};
-ghost use Rattle.fieldset.specs.Lines.{setLen};
-ghost use Rattle.reading.specs.Read.{setRungs, newWords};
-ghost use Rattle.sizes.specs.Sums.{Summable};
-ghost use Rattle.object.specs.Sums.{sizesOk, protectedOk};
+ghost use Rattle.field_table.specs.Lines.{setLen};
+ghost use Rattle.event_value.specs.Events.{eventsLen};
+ghost use Rattle.locmaf_read_index.specs.Places.{indexLen};
+ghost use Rattle.told_sizes.specs.Sums.{Summable};
+ghost use Rattle.effective.specs.Sums.{sizesOk, protectedOk};
 ghost use Rattle.laws.specs.Tests.{_and_};
-ghost use Rattle.receiver.specs.Object.{isDelta, saying};
-ghost use Rattle.receiver.specs.Receive.{reference, valueRungs, judgeRungs};
-ghost use Rattle.receiver.specs.Judge.{partIn, noneJudged, Judgeable, Split, SplitAs, JudgedAs};
-use block::index::Indexed;
-use chunk::outer::Prft;
-use fieldset::lines;
-use object::head::Place;
-use slots::share;
+ghost use Rattle.receiver.specs.Judge.{partIn, noneJudged, Judgeable, Split, SplitAs, SetHolds, SetIs, AllJudged, ValuesJudged};
+use byte_parts::Part;
+use constants::ids;
+use constants::maxima;
+use field_table::lines;
+use locmaf_read_head::head::Place;
+use locmaf_read_index::places;
+use prft_value::Prft;
+use share_words::share;
 use track::Track;
 use wire::form::Form;
-
-const PAYLOAD: usize = 16777216;
 
 // The number, and what the front is made of beside the scratch words: the prft, how many events, and the brands.
 pub struct Judged {
@@ -30,24 +32,18 @@ pub struct Judged {
     pub brands: Part,
 }
 
-// Bytes of the object: where they stand, and how many.
-pub struct Part {
-    pub at: usize,
-    pub len: usize,
-}
-
 // The bytes that stand for an odd id; none where it doesn't stand.
 fn part_of(index: &[u64], id: usize) -> Part
-    requires { ⌜ (length (now index) ≡ 84) × (id < 28) ⌝ }
+    requires { ⌜ (length (now index) ≡ indexLen) × (id < idCount) ⌝ }
     ensures { λ r. ⌜ r ≡ partIn (now (index .entry)) id ⌝ }
 {
-    let k = id * 3;
+    let k = id * places::EACH;
     if index[k] == 0 {
         return Part { at: 0, len: 0 };
     }
     Part {
         at: (index[k] - 1) as usize,
-        len: index[k + 1] as usize,
+        len: index[k + places::NUMBER] as usize,
     }
 }
 
@@ -73,20 +69,19 @@ fn split(
     events: &mut [u64],
 ) -> u64
     requires { ⌜ Judgeable (rows form) (now o) (now s) t p ⌝ }
-    requires { ⌜ (now index ≡ replicate 84 0) × (now events ≡ replicate 160 0) ⌝ }
-    ensures { λ k. ⌜ SplitAs (rows form) (now (o .entry)) (now (s .entry)) k (now (index .exit)) (now (events .exit)) ⌝ }
+    requires { ⌜ (now index ≡ replicate indexLen 0) × (now events ≡ replicate eventsLen 0) ⌝ }
+    ensures { λ k. ⌜ SplitAs (rows form) (now (o .entry)) (now (s .entry)) k (now (index .exit))
+        (now (events .exit)) ⌝ }
 {
-    let i = block::index::index(form, o, p.at, p.end, &mut *index, &mut *events);
-    match i {
-        Indexed::Cut => 12,
-        Indexed::Stray => 13,
-        Indexed::Clean => {
-            if object::ids::ids_ok(p.delta, s[share::PRFT] != 0, index) {
-                return 0;
-            }
-            13
-        }
+    let i = locmaf_read_index::index::index(form, o, p.at, p.end, &mut *index, &mut *events);
+    let k = locmaf_read_head::ids::index_number(i);
+    if k != 0 {
+        return k;
     }
+    if locmaf_read_head::ids::ids_ok(p.delta, s[share::PRFT] != 0, index) {
+        return 0;
+    }
+    13
 }
 
 // The number of an object whose head is read.
@@ -101,15 +96,16 @@ pub fn judge(
     x: &mut [u64],
 ) -> Judged
     requires { ⌜ Judgeable (rows form) (now o) (now s) t p ⌝ }
-    requires { ⌜ (now index ≡ replicate 84 0) × (now events ≡ replicate 160 0) × (now x ≡ replicate setLen 0) ⌝ }
-    ensures { λ j. ⌜ JudgedAs (judgeRungs (rows form) (now (o .entry)) (now (s .entry))) (rows form) (now (o .entry)) (now (s .entry)) j (now (events .exit)) (now (x .exit)) ⌝ }
+    requires { ⌜ (now index ≡ replicate indexLen 0) × (now events ≡ replicate eventsLen 0)
+        × (now x ≡ replicate setLen 0) ⌝ }
+    ensures { λ j. ⌜ AllJudged (rows form) (now (o .entry)) (now (s .entry)) j (now (events .exit)) (now (x .exit)) ⌝ }
 {
     let k = split(form, t, o, p, s, &mut *index, &mut *events);
     if k != 0 {
         return refused(k);
     }
     let r = &s[share::SET..];
-    let n = reading::read::read_set(form, t, p.delta, o, index, r, &mut *x);
+    let n = locmaf_read_set::read::read_set(form, t, p.delta, o, index, r, &mut *x);
     if n != 0 {
         return refused(n);
     }
@@ -129,20 +125,23 @@ fn judge_values(
 ) -> Judged
     requires { ⌜ Judgeable (rows form) (now o) (now s) t p ⌝ }
     requires { ⌜ Split (rows form) (now o) (now index) (now events) ⌝ }
-    requires { ⌜ Hold (setRungs t (isDelta (rows form) (now o)) (reference (rows form) (now o) (now s)) (saying (rows form) (now o))) ⌝ }
-    requires { ⌜ now x ≡ newWords t (isDelta (rows form) (now o)) (reference (rows form) (now o) (now s)) (saying (rows form) (now o)) 0 ⌝ }
-    ensures { λ j. ⌜ JudgedAs (valueRungs (rows form) (now (o .entry)) (now (s .entry))) (rows form) (now (o .entry)) (now (s .entry)) j (now (events .exit)) (now (x .exit)) ⌝ }
+    requires { ⌜ SetHolds (rows form) (now o) (now s) t ⌝ }
+    requires { ⌜ SetIs (rows form) (now o) (now s) t (now x) ⌝ }
+    ensures { λ j. ⌜ ValuesJudged (rows form) (now (o .entry)) (now (s .entry)) j (now (events .exit))
+        (now (x .exit)) ⌝ }
 {
-    let bmdt = object::bmdt::bmdt_of(t, index, &s[share::SET..]);
-    let told = object::prft::prft_of(p.delta, index, s);
-    let brands = part_of(index, 23);
-    let k = index[77] as usize;
+    let bmdt = locmaf_read_times::bmdt::bmdt_of(t, index, &s[share::SET..]);
+    let told = locmaf_read_times::prft::prft_of(p.delta, index, s);
+    let brands = part_of(index, ids::BRANDS as usize);
+    let k = index[places::EVENTS_COUNT] as usize;
     let payload = o.len() - p.end;
-    let most = (payload <= PAYLOAD) & ((brands.len <= 64) & ((k <= 16) & (index[76] <= 4096)));
-    if !((bmdt.0 <= 0x3fff_ffff_ffff_ffff) & (told.ok & most)) {
+    let most = (payload <= maxima::PAYLOAD as usize)
+        & ((brands.len <= maxima::BRAND_BYTES)
+            & ((k <= maxima::EVENTS) & (index[places::EVENTS_LENGTH] <= maxima::EVENT_BYTES)));
+    if !((bmdt.0 <= maxima::NUMBER) & (told.ok & most)) {
         return refused(15);
     }
-    if !object::events::events_ok(t, bmdt, o, &mut *events, k) {
+    if !locmaf_read_events::events::events_ok(t, bmdt, o, &mut *events, k) {
         return refused(15);
     }
     x[lines::BMDT] = bmdt.0;
@@ -160,11 +159,11 @@ fn judge_values(
 
 // The sizes and the protected sums.
 fn sums_ok(t: Track, x: &[u64], payload: u64) -> bool
-    requires { ⌜ (Summable (now x)) × (payload ≤ 16777216) ⌝ }
+    requires { ⌜ (Summable (now x)) × (payload ≤ payloadMost) ⌝ }
     ensures { λ r. ⌜ r ≡ (sizesOk t (now (x .entry)) payload and protectedOk t (now (x .entry)) payload) ⌝ }
 {
-    if !object::sums::sizes_ok(t, x, payload) {
+    if !effective::sums::sizes_ok(t, x, payload) {
         return false;
     }
-    object::sums::protected_ok(t, x, payload)
+    effective::sums::protected_ok(t, x, payload)
 }

@@ -1,25 +1,27 @@
 // The call: one object.
 ghost use mathlib.Core.Path.{_≡_};
-ghost use mathlib.Core.List.{_++_};
 ghost use lib.ListN.{length};
-ghost use Rattle.laws.specs.Ladder.{ladder};
 ghost use Rattle.wire.specs.Form.{rows};
 ghost use Rattle.wire.specs.declared.form.Form.the-variants.{Rfc9000};
-ghost use Rattle.slots.specs.Share.{shareLen};
+ghost use Rattle.share_words.specs.Share.{shareLen};
 ghost use Rattle.slots.specs.Table.{out, onTable};
-ghost use Rattle.exchange.specs.Took.{took, refused};
-ghost use Rattle.receiver.specs.Receive.{afterRefusal, judgeRungs, roomRungs, refusing, done, receiving};
+ghost use Rattle.answers.specs.Took.{took, refused};
+ghost use Rattle.receiver.specs.Receive.{refusing, written, taken, receiving};
 ghost use Rattle.receiver.specs.Judge.{Judgeable, Ready};
 use crate::judge;
 use crate::judge::Judged;
-use chunk::front::front_length;
-use chunk::front::put_front;
-use object::head::Head;
-use object::head::Place;
-use slots::calls::TABLE;
-use slots::share;
-use slots::share::SHARE;
-use slots::share::Side;
+use answers::room;
+use cmaf_write_front::front::front_length;
+use cmaf_write_front::front::put_front;
+use field_table::lines;
+use locmaf_read_head::head::Head;
+use locmaf_read_head::head::Place;
+use locmaf_read_index::places;
+use share_words::share;
+use share_words::share::SHARE;
+use share_words::share::TABLE;
+use slots::lawful;
+use slots::lawful::Side;
 use track::Track;
 use wire::form::Form;
 
@@ -33,13 +35,12 @@ fn refuse<'a>(
     front: &mut u64,
 ) -> &'a [u8]
     requires { ⌜ length (now s) ≡ shareLen ⌝ }
-    ensures { λ r. ⌜ out (took (now (number .exit)) (now (front .exit)) (now r) (now (output .exit))) (now (s .exit)) ≡ out (refused (now (output .entry)) k) (afterRefusal k (now (s .entry))) ⌝ }
+    ensures { λ r. ⌜ out (took (now (number .exit)) (now (front .exit)) (now r) (now (output .exit))) (now (s .exit))
+        ≡ refusing (now (output .entry)) (now (s .entry)) k ⌝ }
 {
     *number = k;
     *front = 0;
-    if (12 <= k) & (k <= 16) {
-        share::clear(s, share::HELD, SHARE);
-    }
+    answers::refusals::leave(k, s);
     &o[..0]
 }
 
@@ -59,7 +60,8 @@ fn accept<'a>(
 ) -> &'a [u8]
     requires { ⌜ Judgeable (rows form) (now o) (now s) t p ⌝ }
     requires { ⌜ Ready (rows form) (now o) (now s) j (now list) (now x) ⌝ }
-    ensures { λ r. ⌜ out (took (now (number .exit)) (now (front .exit)) (now r) (now (output .exit))) (now (s .exit)) ≡ ladder (roomRungs (rows form) (now (o .entry)) (now (output .entry)) (now (s .entry))) (refusing (now (output .entry)) (now (s .entry))) (done (rows form) (now (o .entry)) (now (output .entry)) (now (s .entry))) ⌝ }
+    ensures { λ r. ⌜ out (took (now (number .exit)) (now (front .exit)) (now r) (now (output .exit))) (now (s .exit))
+        ≡ written (rows form) (now (o .entry)) (now (output .entry)) (now (s .entry)) ⌝ }
 {
     let from = j.brands.at;
     let to = from + j.brands.len;
@@ -69,12 +71,12 @@ fn accept<'a>(
     let payload = (o.len() - end) as u64;
     let names = &o[from..to];
     let need = front_length(t, x, payload, prft, o, list, k, names);
-    if output.len() < need {
+    if !room::has_room(need, output.len()) {
         return refuse(o, s, 17, output, number, front);
     }
     let count = (s[share::ACCEPTED] + 1) % 4294967296;
     let n = put_front(t, count, x, payload, prft, o, list, k, names, &mut *output);
-    exchange::keep::keep(s, p.delta, prft, count, x);
+    reference::keep::keep(s, p.delta, prft, count, x);
     *number = 0;
     *front = n as u64;
     &o[end..]
@@ -92,11 +94,12 @@ fn take_block<'a>(
     front: &mut u64,
 ) -> &'a [u8]
     requires { ⌜ Judgeable (rows form) (now o) (now s) t p ⌝ }
-    ensures { λ r. ⌜ out (took (now (number .exit)) (now (front .exit)) (now r) (now (output .exit))) (now (s .exit)) ≡ ladder (judgeRungs (rows form) (now (o .entry)) (now (s .entry)) ++ roomRungs (rows form) (now (o .entry)) (now (output .entry)) (now (s .entry))) (refusing (now (output .entry)) (now (s .entry))) (done (rows form) (now (o .entry)) (now (output .entry)) (now (s .entry))) ⌝ }
+    ensures { λ r. ⌜ out (took (now (number .exit)) (now (front .exit)) (now r) (now (output .exit))) (now (s .exit))
+        ≡ taken (rows form) (now (o .entry)) (now (output .entry)) (now (s .entry)) ⌝ }
 {
-    let mut index = [0u64; 84];
-    let mut events = [0u64; 160];
-    let mut x = [0u64; 981];
+    let mut index = [0u64; places::INDEX];
+    let mut events = [0u64; event_value::ALL_WORDS];
+    let mut x = [0u64; lines::SET];
     let j = judge::judge(form, t, o, p, s, &mut index, &mut events, &mut x);
     let k = j.number;
     if k != 0 {
@@ -115,16 +118,17 @@ fn take_object<'a>(
     front: &mut u64,
 ) -> &'a [u8]
     requires { ⌜ length (now s) ≡ shareLen ⌝ }
-    ensures { λ r. ⌜ out (took (now (number .exit)) (now (front .exit)) (now r) (now (output .exit))) (now (s .exit)) ≡ receiving (rows form) (now (o .entry)) (now (output .entry)) (now (s .entry)) ⌝ }
+    ensures { λ r. ⌜ out (took (now (number .exit)) (now (front .exit)) (now r) (now (output .exit))) (now (s .exit))
+        ≡ receiving (rows form) (now (o .entry)) (now (output .entry)) (now (s .entry)) ⌝ }
 {
-    if !share::is_lawful(Side::Receiver, s) {
+    if !lawful::is_lawful(Side::Receiver, s) {
         return refuse(o, s, 18, output, number, front);
     }
     if s[share::TRACK] == 0 {
         return refuse(o, s, 2, output, number, front);
     }
-    let t = share::track_of(s);
-    let h = object::head::head_of(form, o);
+    let t = lawful::track_of(s);
+    let h = locmaf_read_head::head::head_of(form, o);
     match h {
         Head::Refused(k) => refuse(o, s, k, output, number, front),
         Head::Block(p) => {
@@ -145,7 +149,10 @@ pub fn receive<'a>(
     number: &mut u64,
     front: &mut u64,
 ) -> &'a [u8]
-    ensures { λ r. ⌜ out (took (now (number .exit)) (now (front .exit)) (now r) (now (output .exit))) (now (table .exit)) ≡ onTable (refused (now (output .entry))) (receiving (rows Rfc9000) (now (object .entry)) (now (output .entry))) (now (table .entry)) slot ⌝ }
+    ensures { λ r. ⌜ out (took (now (number .exit)) (now (front .exit)) (now r) (now (output .exit))) (now (table .exit))
+        ≡ onTable (refused (now (output .entry)))
+        (receiving (rows Rfc9000) (now (object .entry)) (now (output .entry)))
+        (now (table .entry)) slot ⌝ }
 {
     if table.len() != TABLE {
         *number = 18;
@@ -157,7 +164,7 @@ pub fn receive<'a>(
         *front = 0;
         return &object[..0];
     }
-    let at = slot as usize * SHARE;
+    let at = share::start_of(slot);
     take_object(
         Form::Rfc9000,
         object,

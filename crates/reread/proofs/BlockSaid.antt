@@ -9,25 +9,27 @@ use mathlib.Core.Option.{Option, none, some}
 use borrow.Author.Tests.{eqb-true, ne-eqb, not-false}
 use lib.Dec.{eqb}
 use lib.ListN.{length, getD, drop}
+use Rattle.constants.specs.Maxima.{samplesMost}
 use Rattle.laws.proofs.TestLaws.{and-right, neither}
 use Rattle.wire.specs.declared.zigzag.Reached.the-variants.{To}
 use Rattle.wire.specs.Zigzag.{wireOf}
 use Rattle.wire.proofs.ZigzagLaws.{back}
 use Rattle.track.specs.declared.Track.{Track}
-use Rattle.fieldset.specs.Lines.{lines, spare, bmdtAt, countAt}
-use Rattle.fieldset.proofs.LineLaws.{line-count, every-at}
-use Rattle.fieldset.proofs.LawfulLaws.{lawful-facts}
-use Rattle.slots.specs.Share.{setAt, trackOf}
-use Rattle.fields.specs.Cells.{codingFor}
-use Rattle.fields.specs.Said.{Says, numbers}
-use Rattle.fields.specs.Words.{wasOf}
-use Rattle.fields.proofs.SetLaws.{line-of-id}
-use Rattle.reading.proofs.DeletionLaws.{all-fields}
-use Rattle.reading.specs.Deletions.{moofField}
-use Rattle.reading.specs.Read.{countFrom, countReached, brandsFit}
-use Rattle.object.specs.Bmdt.{bmdtOf}
-use Rattle.accepted.specs.Accepted.{brands, fields}
-use Rattle.writing.specs.Fields.{bmdtStands, countStands, goneOf}
+use Rattle.field_table.specs.Lines.{lines, spare, bmdtAt, countAt, lineCount}
+use Rattle.field_table.proofs.LineLaws.{line-count, every-at}
+use Rattle.field_set.proofs.LawfulLaws.{lawful-facts}
+use Rattle.share_words.specs.Share.{setAt}
+use Rattle.slots.specs.Share.{trackOf}
+use Rattle.field_rules.specs.Fields.{codingFor, numbers}
+use Rattle.locmaf_read_said.specs.Said.{Says}
+use Rattle.field_rules.specs.Words.{wasOf}
+use Rattle.field_rules.proofs.SetLaws.{line-of-id}
+use Rattle.locmaf_read_said.proofs.DeletionLaws.{all-fields}
+use Rattle.locmaf_read_said.specs.Deletions.{moofField}
+use Rattle.locmaf_read_set.specs.Read.{countFrom, countReached, brandsFit}
+use Rattle.locmaf_read_times.specs.Bmdt.{bmdtOf}
+use Rattle.cmaf_read_chunk.specs.Accepted.{brands, fields}
+use Rattle.locmaf_write_block.specs.Fields.{bmdtStands, countStands, goneOf}
 use Rattle.reread.specs.Sayings.{lineSays, SetSaid}
 use Rattle.reread.specs.Block.{saidIf, blockSays}
 use Rattle.reread.proofs.Known.{Known}
@@ -43,7 +45,7 @@ said-some [] = refl
 said-some (z ∷ zs) = rw (ne-eqb (suc (length zs)) 0 (λ q. omega arith))
 
 -- every line of the table is one of the moof fields
-pub moof-line : (i : ℕ) → i < 14 → moofField (getD lines i spare .id) ≡ true
+pub moof-line : (i : ℕ) → i < lineCount → moofField (getD lines i spare .id) ≡ true
 moof-line i lt = every-at (λ l. moofField (l .id)) lines i spare all-fields (omega (arith, line-count))
 
 module _ {s c : List ℕ} {delta : Bool} (k : Known s c delta) where
@@ -63,7 +65,7 @@ module _ {s c : List ℕ} {delta : Bool} (k : Known s c delta) where
   n = getD x countAt 0
 
   -- what is said of a field
-  pub line-said : (i : ℕ) → i < 14 → f (getD lines i spare .id) ≡ lineSays t delta r x (getD lines i spare)
+  pub line-said : (i : ℕ) → i < lineCount → f (getD lines i spare .id) ≡ lineSays t delta r x (getD lines i spare)
   unfolding blockSays
   line-said i lt = rw (moof-line i lt, line-of-id i lt)
 
@@ -84,15 +86,15 @@ module _ {s c : List ℕ} {delta : Bool} (k : Known s c delta) where
       by false = said-some (brands c)
 
   -- the count that was, or that is sent
-  count-back : n ≤ 64 → countReached t delta r f ≡ To n
+  count-back : n ≤ samplesMost → countReached t delta r f ≡ To n
   unfolding blockSays moofField countStands countReached countFrom wireOf
   count-back few = by delta (eqb n (getD r countAt 0)) refl
     where
       by : (d e : Bool) → eqb n (getD r countAt 0) ≡ e
           → countFrom (codingFor d) (cond (not d || not e) (some (wireOf (codingFor d) (getD r countAt 0) n ∷ [])) none) (wasOf t d r .count) ≡ To n
-      by false e q = back (codingFor false) 0 n 64 few
+      by false e q = back (codingFor false) 0 n samplesMost few
       by true true q = ap To (sym (eqb-true _ _ q))
-      by true false q = back (codingFor true) (getD r countAt 0) n 64 few
+      by true false q = back (codingFor true) (getD r countAt 0) n samplesMost few
 
   -- all that the set is read from; brands that stand have four bytes each
   pub set-said : SetSaid t delta r x f

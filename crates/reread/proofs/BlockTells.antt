@@ -5,37 +5,39 @@ use mathlib.Core.Path.{_≡_, refl, sym, _∙_, ap}
 use mathlib.Core.Bool.{Bool, true, false, cond}
 use mathlib.Core.List.{List, [], _∷_}
 use mathlib.Core.Option.{none, some}
-use borrow.Author.Tests.{lt-ltb, le-leb, lt-leb, ltb-true, not-false}
+use borrow.Author.Tests.{le-leb, lt-leb, ltb-true, not-false}
 use lib.Dec.{eqb, ltb}
 use lib.ListN.{getD, drop}
+use Rattle.constants.specs.Ids.{idCount}
 use Rattle.laws.specs.Tests.{_and_}
 use Rattle.wire.specs.declared.form.Form.the-variants.{Rfc9000}
 use Rattle.wire.specs.declared.zigzag.Coding.the-variants.{Plain}
 use Rattle.wire.specs.Zigzag.{wireOf}
 use Rattle.wire.proofs.FormLaws.{lawful}
-use Rattle.block.specs.Index.{known}
-use Rattle.block.specs.Events.{Event, encEvents, AllSayable}
-use Rattle.block.specs.Written.{run}
-use Rattle.block.proofs.EventsWritten.{body-events}
-use Rattle.block.proofs.WiresLaws.{plain-wires}
+use Rattle.locmaf_read_block.specs.Entries.{known}
+use Rattle.block_items.specs.Events.{Event, encEvents, AllSayable}
+use Rattle.block_items.specs.Items.{run}
+use Rattle.locmaf_read_block.proofs.EventsWritten.{body-events}
+use Rattle.locmaf_read_block.proofs.WiresLaws.{plain-wires}
 use Rattle.track.specs.declared.Track.{Track}
-use Rattle.fieldset.specs.declared.lines.Line.{Line}
-use Rattle.fieldset.specs.Lines.{lines, spare, lineFor, every}
-use Rattle.fieldset.specs.Lawful.{has}
-use Rattle.fieldset.proofs.LineLaws.{line-count, every-at}
-use Rattle.slots.specs.Share.{setAt, trackOf}
-use Rattle.fields.specs.Said.{Says}
-use Rattle.fields.specs.Cells.{stood}
-use Rattle.reading.specs.Deletions.{moofField}
-use Rattle.emsgs.specs.Records.{timesFit}
-use Rattle.accepted.specs.Accepted.{brands, fields}
-use Rattle.writing.specs.declared.cells.Change.the-variants.{Omitted, Deleted}
-use Rattle.writing.specs.Items.{listOf}
-use Rattle.writing.specs.Changes.{changeOf, lineItems}
-use Rattle.writing.specs.Fields.{linesItems, bmdtItems, countItems, fieldItems, deletionItems}
-use Rattle.writing.specs.Prft.{timesItems, unlessItems, versionItems, flagsItems}
+use Rattle.field_table.specs.declared.lines.Line.{Line}
+use Rattle.field_table.specs.Lines.{lines, spare, lineFor, every, lineCount}
+use Rattle.field_set.specs.Lawful.{has}
+use Rattle.field_table.proofs.LineLaws.{line-count, every-at}
+use Rattle.share_words.specs.Share.{setAt}
+use Rattle.slots.specs.Share.{trackOf}
+use Rattle.locmaf_read_said.specs.Said.{Says}
+use Rattle.field_rules.specs.Fields.{stood}
+use Rattle.locmaf_read_said.specs.Deletions.{moofField}
+use Rattle.locmaf_write_events.specs.Records.{timesFit}
+use Rattle.cmaf_read_chunk.specs.Accepted.{brands, fields}
+use Rattle.locmaf_write_block.specs.declared.cells.Change.the-variants.{Omitted, Deleted}
+use Rattle.locmaf_write_tuples.specs.Items.{listOf}
+use Rattle.locmaf_write_block.specs.Changes.{changeOf, lineItems}
+use Rattle.locmaf_write_block.specs.Fields.{linesItems, bmdtItems, countItems, fieldItems, deletionItems}
+use Rattle.locmaf_write_prft.specs.Prft.{timesItems, unlessItems, versionItems, flagsItems}
 use Rattle.encoder.specs.Object.{brandItems, eventItems, blockItems}
-use Rattle.given.specs.Given.{F}
+use Rattle.cmaf_read_facts.specs.Given.{F}
 use Rattle.reread.specs.Telling.{Tell, Tells}
 use Rattle.reread.specs.Sayings.{numbersBy, sentNumbers, lineSays}
 use Rattle.reread.specs.Block.{eventSays, blockSays}
@@ -73,10 +75,10 @@ module _ {s c : List ℕ} {delta : Bool} (k : Known s c delta) where
   abbrev f : Says
   f = blockSays s c delta
 
-  line : (i : ℕ) → ltb i 14 ≡ true → let l = getD lines i spare in
+  line : (i : ℕ) → ltb i lineCount ≡ true → let l = getD lines i spare in
       Tells f (l .id) (suc (l .id)) (lineItems (trackOf s) delta (drop setAt s) (fields (trackOf s) c) l F)
   line i e =
-      let lt : i < 14 = ltb-true _ _ e in
+      let lt : i < lineCount = ltb-true _ _ e in
       line-tells _ _ _ _ (getD lines i spare) (every-at lineReads lines i spare all-read (omega (arith, line-count))) (line-said k i lt)
 
   -- nothing is said of id 16, which no chunk has
@@ -87,9 +89,9 @@ module _ {s c : List ℕ} {delta : Bool} (k : Known s c delta) where
       ∙ unsaid (trackOf s) delta (drop setAt s) (fields (trackOf s) c) (getD lines 13 spare) (not-false _ (k .given .set .no-iv-size))
 
   -- nothing is said of an id past the last
-  past : (id : ℕ) → 28 ≤ id → f id ≡ none
+  past : (id : ℕ) → idCount ≤ id → f id ≡ none
   unfolding blockSays moofField
-  past id le = rw (le-leb 1 id (omega arith), lt-leb id 16 (omega arith), lt-ltb 27 id le)
+  past id le = rw (le-leb 1 id (omega arith), lt-leb id 16 (omega arith), le-leb idCount id le)
 
   -- ---- the parts
 

@@ -9,18 +9,20 @@ use borrow.Table.Steps.{cases}
 use lib.ListN.{length, getD}
 use Rattle.laws.proofs.TestLaws.{left, right, both, and-left, and-right}
 use Rattle.track.specs.declared.Track.{Track}
-use Rattle.fieldset.specs.declared.lines.Line.{Line}
-use Rattle.fieldset.specs.Lines.{lines, spare}
-use Rattle.fieldset.specs.Lawful.{has}
-use Rattle.fieldset.proofs.LineLaws.{line-count, ascends, lines-ascend}
-use Rattle.fields.specs.Said.{Says, numbers, among}
-use Rattle.fields.proofs.SetLaws.{line-of-id}
-use Rattle.reading.specs.Deletions.{moofField, isNone, deletionsOk}
-use Rattle.writing.specs.declared.cells.Change.{Change}
-use Rattle.writing.specs.declared.cells.Change.the-variants.{Omitted, Deleted, Sent}
-use Rattle.writing.specs.Changes.{changeOf}
-use Rattle.writing.specs.Fields.{isDeleted, goneOf}
-use Rattle.writing.proofs.GoneLaws.{deleted-by}
+use Rattle.field_table.specs.declared.lines.Line.{Line}
+use Rattle.field_table.specs.Lines.{lines, spare, lineCount}
+use Rattle.field_set.specs.Lawful.{has}
+use Rattle.field_table.proofs.LineLaws.{line-count, ascends, lines-ascend}
+use Rattle.locmaf_read_said.specs.Said.{Says}
+use Rattle.field_rules.specs.Fields.{numbers}
+use Rattle.laws.specs.Tests.{among}
+use Rattle.field_rules.proofs.SetLaws.{line-of-id}
+use Rattle.locmaf_read_said.specs.Deletions.{moofField, isNone, deletionsOk}
+use Rattle.locmaf_write_block.specs.declared.cells.Change.{Change}
+use Rattle.locmaf_write_block.specs.declared.cells.Change.the-variants.{Omitted, Deleted, Sent}
+use Rattle.locmaf_write_block.specs.Changes.{changeOf}
+use Rattle.locmaf_write_block.specs.Fields.{isDeleted, goneOf}
+use Rattle.locmaf_write_block.proofs.GoneLaws.{deleted-by}
 use Rattle.reread.specs.Sayings.{numbersBy, sentNumbers, lineSays, SetSaid}
 use Rattle.reread.proofs.BlockSaid.{moof-line}
 
@@ -50,7 +52,7 @@ deleted-none Sent zs e = absurd (false≢true e)
 
 module _ {t : Track} {delta : Bool} {r x : List ℕ} {f : Says} (h : SetSaid t delta r x f) where
   -- a field that is deleted may be
-  struck : (i : ℕ) → i < 14 → isDeleted (changeOf t delta r x (getD lines i spare)) ≡ true
+  struck : (i : ℕ) → i < lineCount → isDeleted (changeOf t delta r x (getD lines i spare)) ≡ true
       → (moofField (getD lines i spare .id) ≡ true) × (has (getD lines i spare .id) r ≡ true) × (isNone (f (getD lines i spare .id)) ≡ true)
   unfolding has lineSays
   struck i lt e =

@@ -8,6 +8,7 @@ use borrow.Author.Tests.{eqb-true, ne-eqb, le-leb}
 use borrow.Table.Steps.{cases}
 use lib.Dec.{eqb}
 use lib.ListN.{length}
+use Rattle.constants.specs.Maxima.{eventBytesMost}
 use Rattle.laws.proofs.TestLaws.{both}
 use Rattle.wire.specs.declared.form.Form.the-variants.{Rfc9000}
 use Rattle.wire.specs.declared.zigzag.Coding.the-variants.{Delta}
@@ -16,18 +17,19 @@ use Rattle.wire.specs.Zigzag.{wireOf}
 use Rattle.wire.proofs.FormLaws.{lawful}
 use Rattle.wire.proofs.SizeLaws.{limit-62}
 use Rattle.wire.proofs.ZigzagLaws.{back}
-use Rattle.block.specs.Events.{Event, AllSayable}
-use Rattle.block.proofs.EventsWritten.{events-written}
+use Rattle.block_items.specs.Events.{Event, AllSayable}
+use Rattle.locmaf_read_block.proofs.EventsWritten.{events-written}
 use Rattle.media.specs.Clocks.{trackAt}
 use Rattle.track.specs.declared.Track.{Track}
 use Rattle.track.specs.Track.{u32}
-use Rattle.chunk.specs.Front.{Event as Box}
-use Rattle.fields.specs.Said.{numbers}
-use Rattle.object.specs.Values.{listed, onTime, fits, allFit, withTime, boxed, boxes}
-use Rattle.emsgs.specs.Records.{scaleFor, clockOf, wireTime, timeFor, sent, allSent, textBytes, recordBytes, listBytes, timesFit}
-use Rattle.emsgs.proofs.NumberLaws.{scale-most}
-use Rattle.emsgs.proofs.ListLaws.{all-bytes, fit-first, fit-rest}
-use Rattle.given.specs.Given.{F, BoxedEvent, AllBoxed}
+use Rattle.event_value.specs.Events.{Event as Box}
+use Rattle.field_rules.specs.Fields.{numbers}
+use Rattle.locmaf_read_events.specs.Values.{listed, onTime, fits, allFit, withTime, boxed, boxes}
+use Rattle.locmaf_write_event_times.specs.Times.{scaleFor, clockOf, wireTime, timeFor}
+use Rattle.locmaf_write_events.specs.Records.{sent, allSent, textBytes, recordBytes, listBytes, timesFit}
+use Rattle.locmaf_write_event_times.proofs.NumberLaws.{scale-most}
+use Rattle.locmaf_write_events.proofs.ListLaws.{all-bytes, fit-first, fit-rest}
+use Rattle.cmaf_read_facts.specs.Given.{F, BoxedEvent, AllBoxed}
 use Rattle.reread.specs.Block.{eventSays}
 
 -- ---- written
@@ -37,7 +39,7 @@ unfolding textBytes
 text-long n = omega arith
 
 -- events whose times fit can be written, since their list is short
-pub all-sayable : (t : Track) (bmdt : ℕ) (es : List Box) → AllBoxed es → timesFit F (allSent t bmdt es) ≡ true → listBytes F (allSent t bmdt es) ≤ 4096
+pub all-sayable : (t : Track) (bmdt : ℕ) (es : List Box) → AllBoxed es → timesFit F (allSent t bmdt es) ≡ true → listBytes F (allSent t bmdt es) ≤ eventBytesMost
     → AllSayable F (allSent t bmdt es)
 unfolding listBytes recordBytes sent
 all-sayable t bmdt [] b f n = tt

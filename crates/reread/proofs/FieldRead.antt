@@ -16,25 +16,26 @@ use Rattle.laws.proofs.TestLaws.{left, both-of}
 use Rattle.wire.specs.declared.zigzag.Coding.{Coding}
 use Rattle.wire.proofs.ZigzagLaws.{back}
 use Rattle.runs.specs.Run.{first}
-use Rattle.block.specs.Wires.{wires}
-use Rattle.block.proofs.WiresLaws.{wires-length, steps-back}
+use Rattle.locmaf_read_block.specs.Wires.{wires}
+use Rattle.locmaf_read_block.proofs.WiresLaws.{wires-length, steps-back}
 use Rattle.track.specs.declared.Track.{Track}
-use Rattle.fieldset.specs.declared.lines.Line.{Line}
-use Rattle.fieldset.specs.declared.lines.Want.{Want}
-use Rattle.fieldset.specs.Lines.{lines, spare, every, wanted, absentValue, u64}
-use Rattle.fieldset.specs.Lawful.{measureOf}
-use Rattle.fieldset.proofs.LineLaws.{line-count, every-at}
-use Rattle.fieldset.proofs.LawfulLaws.{lawful-region}
-use Rattle.fieldset.proofs.RegionLaws.{used}
-use Rattle.fields.proofs.SetWords.{fieldIn}
-use Rattle.fields.specs.Said.{Saying, omitted, sent}
-use Rattle.fields.specs.Cells.{Came, well, codingFor, codingOf, isIvs, packed, stood, oldValues, carried, sentOne, sentList, cellOf}
-use Rattle.fields.specs.Words.{wasOf}
-use Rattle.writing.specs.Items.{wideBytes}
-use Rattle.writing.specs.Changes.{same, basisOf, stands, news, olds, changeOf, Writable}
-use Rattle.writing.proofs.FieldLaws.{Field, field-of}
-use Rattle.writing.proofs.SameLoop.{same-is}
-use Rattle.writing.proofs.WideLaws.{wide-length, packed-back}
+use Rattle.field_table.specs.declared.lines.Line.{Line}
+use Rattle.field_table.specs.declared.lines.Want.{Want}
+use Rattle.field_table.specs.Lines.{lines, spare, every, wanted, absentValue, u64, lineCount}
+use Rattle.field_set.specs.Lawful.{measureOf}
+use Rattle.field_table.proofs.LineLaws.{line-count, every-at}
+use Rattle.field_set.proofs.LawfulLaws.{lawful-region}
+use Rattle.field_set.proofs.RegionLaws.{used}
+use Rattle.field_rules.proofs.SetWords.{fieldIn}
+use Rattle.locmaf_read_said.specs.Said.{Saying, omitted, sent}
+use Rattle.locmaf_read_field.specs.Cells.{Came, well, carried, sentOne, sentList, cellOf}
+use Rattle.field_rules.specs.Fields.{codingFor, codingOf, isIvs, packed, stood, oldValues}
+use Rattle.field_rules.specs.Words.{wasOf}
+use Rattle.locmaf_write_tuples.specs.Items.{wideBytes}
+use Rattle.locmaf_write_block.specs.Changes.{same, basisOf, stands, news, olds, changeOf, Writable}
+use Rattle.locmaf_write_block.proofs.FieldLaws.{Field, field-of}
+use Rattle.locmaf_write_block.proofs.SameLoop.{same-is}
+use Rattle.locmaf_write_block.proofs.WideLaws.{wide-length, packed-back}
 use Rattle.reread.specs.Sayings.{sentNumbers, lineSays, lineSaying}
 
 -- a list of one number
@@ -51,7 +52,7 @@ all-wide : every ivsWide lines ≡ true
 unfolding every lines ivsWide _and_
 all-wide = refl
 
-module _ {t : Track} {delta : Bool} {r x : List ℕ} (w : Writable t delta r x) (i : ℕ) (lt : i < 14) where
+module _ {t : Track} {delta : Bool} {r x : List ℕ} (w : Writable t delta r x) (i : ℕ) (lt : i < lineCount) where
   abbrev l : Line
   l = getD lines i spare
 

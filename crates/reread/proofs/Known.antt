@@ -5,25 +5,27 @@ use mathlib.Core.Bool.{Bool, true, false, not}
 use mathlib.Core.List.{List}
 use lib.Dec.{eqb}
 use lib.ListN.{length, getD, drop}
+use Rattle.constants.specs.Maxima.{blockMost}
 use Rattle.laws.specs.Tests.{allLe}
 use Rattle.wire.specs.declared.form.Form.the-variants.{Rfc9000}
-use Rattle.block.specs.Entries.{isSome}
-use Rattle.block.specs.Events.{AllSayable}
+use Rattle.laws.specs.Options.{isSome}
+use Rattle.block_items.specs.Events.{AllSayable}
 use Rattle.track.proofs.TrackLaws.{ranges}
-use Rattle.slots.specs.declared.share.Side.the-variants.{Encoder}
-use Rattle.slots.specs.Share.{heldAt, prftAt, setAt, shareLen, askedOf, trackOf}
-use Rattle.exchange.proofs.OpenLaws.{opened-facts, held-facts, reference-long}
-use Rattle.accepted.specs.Accepted.{bmdt, prft, brands, boxes, events, payload, fields}
-use Rattle.writing.specs.Items.{bytesOf}
-use Rattle.writing.specs.Changes.{Writable}
+use Rattle.slots.specs.declared.lawful.Side.the-variants.{Encoder}
+use Rattle.share_words.specs.Share.{heldAt, prftAt, setAt, shareLen}
+use Rattle.slots.specs.Share.{askedOf, trackOf}
+use Rattle.reference.proofs.OpenLaws.{opened-facts, held-facts, reference-long}
+use Rattle.cmaf_read_chunk.specs.Accepted.{bmdt, prft, brands, boxes, events, payload, fields}
+use Rattle.locmaf_write_tuples.specs.Items.{bytesOf}
+use Rattle.locmaf_write_block.specs.Changes.{Writable}
 use Rattle.encoder.specs.Object.{blockItems, givesDelta}
 use Rattle.encoder.specs.Encode.{encoding}
 use Rattle.encoder.proofs.Theorems.{done-passed, delta-held, bmdt-small, block-fits}
 use Rattle.encoder.proofs.FitLaws.{times-fit, gives-fits, delta-prft}
-use Rattle.accepted.proofs.ChunkFacts.{fields-bmdt}
+use Rattle.cmaf_read_chunk.proofs.ChunkFacts.{fields-bmdt}
 use Rattle.encoder.proofs.EncodeLaws.{iv-right}
-use Rattle.given.specs.Given.{F, Given}
-use Rattle.given.proofs.Gives.{chunk-gives}
+use Rattle.cmaf_read_facts.specs.Given.{F, Given}
+use Rattle.cmaf_read_facts.proofs.Gives.{chunk-gives}
 use Rattle.reread.proofs.EventsRead.{all-sayable}
 
 pub record Known (s c : List ℕ) (delta : Bool) : Type 0 where
@@ -37,7 +39,7 @@ pub record Known (s c : List ℕ) (delta : Bool) : Type 0 where
   -- every number fits, and the block is short
   pub fits : isSome (blockItems F s c delta) ≡ true
   pub sayable : AllSayable F (events (trackOf s) c)
-  pub few : length (bytesOf F (blockItems F s c delta)) ≤ 16384
+  pub few : length (bytesOf F (blockItems F s c delta)) ≤ blockMost
 
 -- of every chunk that the encoder takes
 pub known : (wish : Bool) (c s room : List ℕ) → allLe 255 c ≡ true → length s ≡ shareLen → encoding F wish c room s .answer .number ≡ 0

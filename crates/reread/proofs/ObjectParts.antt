@@ -18,16 +18,16 @@ use Rattle.wire.specs.Varint.{encode, sizeOf, readF}
 use Rattle.wire.proofs.FormLaws.{Lawful, lawful}
 use Rattle.wire.proofs.SizeLaws.{limit-62}
 use Rattle.wire.proofs.VarintLaws.{length-encode, read-encode, drop-encode}
-use Rattle.block.specs.Records.{number}
-use Rattle.block.specs.Entries.{Entry, says}
-use Rattle.block.specs.Written.{Item, encBlock, entryOf}
-use Rattle.block.proofs.WrittenLaws.{entries-written}
-use Rattle.receiver.specs.Object.{headerReads, headerId, lengthAt, blockReads, blockLength, blockAt, blockEnd, isDelta, headRungs, tuples, entries, saying}
-use Rattle.receiver.specs.Object.{payload as payloadOf}
-use Rattle.accepted.specs.Accepted.{payload}
-use Rattle.writing.specs.Items.{listOf}
+use Rattle.locmaf_read_block.specs.Records.{number}
+use Rattle.locmaf_read_block.specs.Entries.{Entry, says}
+use Rattle.block_items.specs.Items.{Item, encBlock}
+use Rattle.locmaf_read_block.specs.Written.{entryOf}
+use Rattle.locmaf_read_block.proofs.WrittenLaws.{entries-written}
+use Rattle.receiver.specs.Object.{headerReads, headerId, lengthAt, blockReads, blockLength, blockAt, blockEnd, isDelta, headRungs, tuples, entries, saying, payload as payloadOf}
+use Rattle.cmaf_read_chunk.specs.Accepted.{payload}
+use Rattle.locmaf_write_tuples.specs.Items.{listOf}
 use Rattle.encoder.specs.Object.{blockItems, headerOf, objectOf}
-use Rattle.given.specs.Given.{F}
+use Rattle.cmaf_read_facts.specs.Given.{F}
 use Rattle.reread.specs.Block.{blockSays}
 use Rattle.reread.proofs.BlockTells.{tell-block}
 use Rattle.reread.proofs.Known.{Known}

@@ -1,29 +1,31 @@
 -- The encoder's object, read by the receiver: no rule refuses it, and what is read is what the chunk said. Assumes nothing.
-use Prim.Native.Nat.{ℕ, _+_, _≤_}
+use Prim.Native.Nat.{ℕ, _+_, _-_, _≤_}
 use native.Mathlib.Omega.{arith}
 use mathlib.Core.Path.{_≡_, sym, _∙_, ap}
 use mathlib.Core.Bool.{Bool, true, false, false≢true, not, cond}
 use mathlib.Core.List.{List, [], _++_}
 use borrow.Author.Tests.{le-leb, not-false}
 use lib.ListN.{length, getD, drop, length-map}
-use Rattle.laws.specs.Ladder.{Hold, Hold}
+use Rattle.constants.specs.Maxima.{eventsMost, eventBytesMost, brandBytesMost}
+use Rattle.laws.specs.Ladder.{Hold}
 use Rattle.laws.proofs.LadderLaws.{hold-append}
 use Rattle.laws.proofs.TestLaws.{both, neither, unless}
 use Rattle.track.specs.declared.Track.{Track}
-use Rattle.slots.specs.Share.{setAt, trackOf}
+use Rattle.share_words.specs.Share.{heldAt, prftAt, setAt}
+use Rattle.slots.specs.Share.{trackOf}
 use Rattle.slots.proofs.ShareParts.{same-track, same-kept, same-set}
-use Rattle.fields.specs.Said.{numbers}
-use Rattle.reading.specs.Deletions.{moofField}
-use Rattle.reading.specs.Read.{setRungs}
-use Rattle.object.specs.declared.prft.Told.{Told}
+use Rattle.field_rules.specs.Fields.{numbers}
+use Rattle.locmaf_read_said.specs.Deletions.{moofField}
+use Rattle.locmaf_read_set.specs.Read.{setRungs}
+use Rattle.locmaf_read_times.specs.declared.prft.Told.{Told}
 use Rattle.receiver.specs.Object.{isDelta, reads, saying}
 use Rattle.receiver.specs.Receive.{heldOk, newSet, valuesOk, sumsOk, idsRight, splitRungs, valueRungs, judgeRungs}
 use Rattle.receiver.specs.Receive as Receive
-use Rattle.emsgs.specs.Records.{sent, listBytes}
-use Rattle.accepted.specs.Accepted.{bmdt, prft, brands, boxes, events, payload, fields}
+use Rattle.locmaf_write_events.specs.Records.{sent, listBytes}
+use Rattle.cmaf_read_chunk.specs.Accepted.{bmdt, prft, brands, boxes, events, payload, fields}
 use Rattle.encoder.specs.Object.{objectOf}
-use Rattle.accepted.proofs.ChunkFacts.{fields-bmdt}
-use Rattle.given.specs.Given.{F}
+use Rattle.cmaf_read_chunk.proofs.ChunkFacts.{fields-bmdt}
+use Rattle.cmaf_read_facts.specs.Given.{F}
 use Rattle.reread.specs.Block.{blockSays}
 use Rattle.reread.specs.Read.{Alike, ReadAs, ObjectReads}
 use Rattle.reread.proofs.BlockSaid.{bmdt-back, brands-back, set-said}
@@ -44,7 +46,7 @@ module _ {s c : List ℕ} {delta : Bool} (k : Known s c delta) where
   -- ---- on the receiver's share, which has the same words from the mark of the reference on
 
   module _ (s′ : List ℕ) (alike : Alike s s′) where
-    word : (i : ℕ) → getD s′ (9 + i) 0 ≡ getD s (9 + i) 0
+    word : (i : ℕ) → getD s′ (heldAt + i) 0 ≡ getD s (heldAt + i) 0
     word = same-kept s′ s (sym (alike .reference))
 
     track-is : trackOf s′ ≡ t
@@ -86,19 +88,19 @@ module _ {s c : List ℕ} {delta : Bool} (k : Known s c delta) where
     unfolding splitRungs idsRight reads
     split =
         let tell = tell-block k in
-        (rw (tuples-are k) (tell .all-readable), (both _ _ (rw (entries-are k) (tell .all-lawful)) (rw (kind-is k, said k, word 1) (ids-back k)), tt))
+        (rw (tuples-are k) (tell .all-readable), (both _ _ (rw (entries-are k) (tell .all-lawful)) (rw (kind-is k, said k, word (prftAt - heldAt)) (ids-back k)), tt))
 
-    list-bytes : length (numbers (saying F o 25)) ≤ 4096
+    list-bytes : length (numbers (saying F o 25)) ≤ eventBytesMost
     unfolding blockSays moofField events
     list-bytes =
         let n = listed-bytes (events t c) (k .sayable) in
-        let q : listBytes F (events t c) ≤ 4096 = rw (fields-bmdt t c) at (k .given .list-short) in
+        let q : listBytes F (events t c) ≤ eventBytesMost = rw (fields-bmdt t c) at (k .given .list-short) in
         rw (said k) (omega arith)
 
     values : valuesOk F o s′ ≡ true
     unfolding valuesOk events
     values =
-        let few : length (events t c) ≤ 16 = rw (length-map (boxes c) (sent t (bmdt c))) (k .given .few) in
+        let few : length (events t c) ≤ eventsMost = rw (length-map (boxes c) (sent t (bmdt c))) (k .given .few) in
         both _ _
         (rw (
           bmdt-is,
@@ -114,7 +116,7 @@ module _ {s c : List ℕ} {delta : Bool} (k : Known s c delta) where
         ))
         (rw (track-is, bmdt-is, events-is) (all-fit t (bmdt c) (boxes c) (k .given .boxed)))
       where
-        names-few : (d : Bool) → length (cond d [] (brands c)) ≤ 64
+        names-few : (d : Bool) → length (cond d [] (brands c)) ≤ brandBytesMost
         names-few true = omega arith
         names-few false = k .given .names-few
 

@@ -10,13 +10,13 @@ use borrow.Author.Tests.{eqb-true, eqb-false, ltb-true, not-true}
 use borrow.Table.Steps.{cases}
 use lib.Dec.{eqb, ltb}
 use lib.ListN.{length, length-append}
+use Rattle.constants.specs.Ids.{idCount}
 use Rattle.laws.specs.Tests.{_and_}
 use Rattle.laws.proofs.TestLaws.{left, right, alike}
 use Rattle.wire.specs.declared.form.Form.the-variants.{Rfc9000}
 use Rattle.wire.specs.declared.zigzag.Coding.{Coding}
 use Rattle.wire.specs.declared.zigzag.Coded.{Coded}
-use Rattle.wire.specs.declared.zigzag.Coded.the-variants.{Number}
-use Rattle.wire.specs.declared.zigzag.Coded.the-variants.{TooWide as Wide}
+use Rattle.wire.specs.declared.zigzag.Coded.the-variants.{Number, TooWide as Wide}
 use Rattle.wire.specs.Varint.{encode}
 use Rattle.wire.specs.Zigzag.{wireOf, codeOf}
 use Rattle.wire.proofs.FormLaws.{lawful}
@@ -25,21 +25,21 @@ use Rattle.wire.proofs.ZigzagLaws.{coded-inv}
 use Rattle.runs.specs.declared.Measured.{Measured}
 use Rattle.runs.specs.declared.Measured.the-variants.{Bytes, TooWide}
 use Rattle.runs.specs.Run.{onCoded, runOf, measured}
-use Rattle.block.specs.Index.{known}
-use Rattle.block.specs.Entries.{body}
-use Rattle.block.specs.Written.{num, run, encItem, entryOf}
-use Rattle.block.specs.Wires.{wires}
-use Rattle.block.proofs.WrittenLaws.{body-num, body-list, body-raw}
-use Rattle.block.proofs.WiresLaws.{run-is}
+use Rattle.locmaf_read_block.specs.Entries.{known, body}
+use Rattle.block_items.specs.Items.{num, run, encItem}
+use Rattle.locmaf_read_block.specs.Written.{entryOf}
+use Rattle.locmaf_read_block.specs.Wires.{wires}
+use Rattle.locmaf_read_block.proofs.WrittenLaws.{body-num, body-list, body-raw}
+use Rattle.locmaf_read_block.proofs.WiresLaws.{run-is}
 use Rattle.track.specs.declared.Track.{Track}
-use Rattle.fieldset.specs.declared.lines.Line.{Line}
-use Rattle.fields.specs.Said.{Says}
-use Rattle.fields.specs.Cells.{isIvs}
-use Rattle.writing.specs.declared.cells.Change.{Change}
-use Rattle.writing.specs.declared.cells.Change.the-variants.{Omitted, Deleted, Sent}
-use Rattle.writing.specs.Items.{Items, nothing, itemsIf, numberItem, runItem, onMeasured}
-use Rattle.writing.specs.Changes.{onChange, changeOf, sentItems, lineItems}
-use Rattle.given.specs.Given.{F}
+use Rattle.field_table.specs.declared.lines.Line.{Line}
+use Rattle.locmaf_read_said.specs.Said.{Says}
+use Rattle.field_rules.specs.Fields.{isIvs}
+use Rattle.locmaf_write_block.specs.declared.cells.Change.{Change}
+use Rattle.locmaf_write_block.specs.declared.cells.Change.the-variants.{Omitted, Deleted, Sent}
+use Rattle.locmaf_write_tuples.specs.Items.{Items, nothing, itemsIf, numberItem, runItem, onMeasured}
+use Rattle.locmaf_write_block.specs.Changes.{onChange, changeOf, sentItems, lineItems}
+use Rattle.cmaf_read_facts.specs.Given.{F}
 use Rattle.reread.specs.Sayings.{numbersBy, sentNumbers, lineSays}
 use Rattle.reread.specs.Telling.{Tells}
 use Rattle.reread.specs.Block.{saidIf}
@@ -49,10 +49,10 @@ use Rattle.reread.proofs.TellingLaws.{done, one, wide, gap}
 
 -- with a number, or with bytes
 unfoldable pub numeric : ℕ → Bool
-numeric id = known id and (ltb id 28 and eqb (id % 2) 0)
+numeric id = known id and (ltb id idCount and eqb (id % 2) 0)
 
 unfoldable pub odd : ℕ → Bool
-odd id = known id and (ltb id 28 and not (eqb (id % 2) 0))
+odd id = known id and (ltb id idCount and not (eqb (id % 2) 0))
 
 -- with bytes as they are, or with a list of numbers
 unfoldable pub bytesAs : Bool → ℕ → Bool
@@ -78,7 +78,7 @@ module _ {f : Says} where
       go : (c : Coded) → codeOf F coding old new ≡ c → Tells f id (suc id) (onCoded c (λ z. some (num id z ∷ [])) none)
       go (Number z) p =
           let i = coded-inv F coding old new p in
-          let low : id < 28 = ltb-true _ _ (left _ _ (right _ _ k)) in
+          let low : id < idCount = ltb-true _ _ (left _ _ (right _ _ k)) in
           let even : id % 2 ≡ 0 = eqb-true _ _ (right _ _ (right _ _ k)) in
           one (z ∷ []) refl (left _ _ k) (λ n. (even, omega (arith, limit-62 Rfc9000), i .1)) (body-num F (lawful Rfc9000) id z even (i .1))
           (e ∙ ap (λ (y : ℕ). some (y ∷ [])) (sym (i .0)))
@@ -88,7 +88,7 @@ module _ {f : Says} where
   pub bytes-tell : (id : ℕ) (bs zs : List ℕ) → odd id ≡ true → body F id bs ≡ some zs → f id ≡ some zs → Tells f id (suc id) (some (run id bs ∷ []))
   unfolding odd encItem entryOf
   bytes-tell id bs zs k b e =
-      let low : id < 28 = ltb-true _ _ (left _ _ (right _ _ k)) in
+      let low : id < idCount = ltb-true _ _ (left _ _ (right _ _ k)) in
       let n₁ = length-append (encode F id) (encode F (length bs) ++ bs) in
       let n₂ = length-append (encode F (length bs)) bs in
       one zs refl (left _ _ k) (λ n. (not-even id k, omega (arith, limit-62 Rfc9000), omega arith)) b e

@@ -12,19 +12,21 @@ use Rattle.wire.specs.declared.zigzag.Coding.{Coding}
 use Rattle.wire.specs.declared.zigzag.Reached.the-variants.{To}
 use Rattle.wire.specs.Zigzag.{wireOf}
 use Rattle.wire.proofs.ZigzagLaws.{back}
-use Rattle.block.specs.Entries.{isSome}
-use Rattle.fieldset.specs.Lines.{lines}
-use Rattle.slots.specs.Share.{prftAt, ntpAt, mediaTimeAt, versionAt, prftFlagsAt, setAt, trackOf}
-use Rattle.chunk.specs.declared.outer.Prft.{Prft}
-use Rattle.fields.specs.Said.{Says}
-use Rattle.fields.specs.Cells.{codingFor}
-use Rattle.reading.specs.Deletions.{moofField}
-use Rattle.object.specs.Ids.{idsOk}
-use Rattle.object.specs.Prft.{numberOf, mediaMost, keptFor, numberFor, timesOf, prftOf}
-use Rattle.accepted.specs.Accepted.{prft, fields}
-use Rattle.writing.specs.Fields.{goneOf, bmdtStands, countStands}
-use Rattle.writing.proofs.GoneLaws.{gone-full}
-use Rattle.given.specs.Given.{BoxedPrft}
+use Rattle.laws.specs.Options.{isSome}
+use Rattle.field_table.specs.Lines.{lines}
+use Rattle.share_words.specs.Share.{heldAt, prftAt, ntpAt, mediaTimeAt, versionAt, prftFlagsAt, setAt}
+use Rattle.slots.specs.Share.{trackOf}
+use Rattle.prft_value.specs.declared.Prft.{Prft}
+use Rattle.locmaf_read_said.specs.Said.{Says}
+use Rattle.field_rules.specs.Fields.{codingFor}
+use Rattle.locmaf_read_said.specs.Deletions.{moofField}
+use Rattle.locmaf_read_head.specs.Ids.{idsOk}
+use Rattle.locmaf_read_times.specs.Prft.{numberOf, numberFor, timesOf, prftOf}
+use Rattle.prft_value.specs.Prft.{mediaMost, keptFor}
+use Rattle.cmaf_read_chunk.specs.Accepted.{prft, fields}
+use Rattle.locmaf_write_block.specs.Fields.{goneOf, bmdtStands, countStands}
+use Rattle.locmaf_write_block.proofs.GoneLaws.{gone-full}
+use Rattle.cmaf_read_facts.specs.Given.{BoxedPrft}
 use Rattle.reread.specs.Block.{saidIf, blockSays}
 use Rattle.reread.proofs.Known.{Known}
 use Rattle.reread.proofs.BlockSaid.{said-by}
@@ -63,7 +65,7 @@ module _ {s c : List ℕ} {delta : Bool} (k : Known s c delta) where
   f = blockSays s c delta
 
   -- the `prft`, on a share u that keeps the same of the current full object
-  pub prft-back : (u : List ℕ) → ((i : ℕ) → getD u (9 + i) 0 ≡ getD s (9 + i) 0) → prftOf delta f u ≡ record { ok = true; prft = p }
+  pub prft-back : (u : List ℕ) → ((i : ℕ) → getD u (heldAt + i) 0 ≡ getD s (heldAt + i) 0) → prftOf delta f u ≡ record { ok = true; prft = p }
   unfolding prftOf timesOf numberFor blockSays moofField
   prft-back u same =
       let boxed : BoxedPrft p = k .given .prft in
@@ -71,15 +73,15 @@ module _ {s c : List ℕ} {delta : Bool} (k : Known s c delta) where
       (λ e.
       rw (
         e,
-        same 4,
+        same (versionAt - heldAt),
         e,
         unless-back (codingFor delta) (keptFor delta (getD s versionAt 0) 1) (p .version) 1 (boxed .version),
-        same 5,
+        same (prftFlagsAt - heldAt),
         unless-back (codingFor delta) (keptFor delta (getD s prftFlagsAt 0) 0) (p .flags) (2 ^ 24 - 1) (boxed .flags),
-        same 2,
+        same (ntpAt - heldAt),
         e,
         time-back delta (getD s ntpAt 0) (p .ntp .0) (2 ^ 64 - 1) (boxed .ntp),
-        same 3,
+        same (mediaTimeAt - heldAt),
         time-back delta (getD s mediaTimeAt 0) (p .media .0) (mediaMost (p .version)) (boxed .media),
       ))
       (λ e.

@@ -1,5 +1,5 @@
 -- The set that is read from the object is the set that was written, and no rule on fields refuses it. Assumes nothing.
-use Prim.Native.Nat.{ℕ, _<_}
+use Prim.Native.Nat.{ℕ, _<_, _+_}
 use native.Mathlib.Omega.{arith}
 use mathlib.Core.Path.{_≡_, refl, sym, _∙_, ap}
 use mathlib.Core.Bool.{Bool, true, false, not, cond}
@@ -9,24 +9,26 @@ use borrow.Author.Tests.{le-leb, eqb-true, eqb-false}
 use lib.Dec.{eqb, leb}
 use lib.ListN.{getD, set}
 use lib.Seq.{getD-set-other}
+use Rattle.constants.specs.Maxima.{subsamplesMost}
 use Rattle.laws.specs.Tests.{sum}
 use Rattle.laws.proofs.TestLaws.{both}
 use Rattle.laws.specs.Ladder.{Hold}
-use Rattle.block.specs.Entries.{isSome}
+use Rattle.laws.specs.Options.{isSome}
 use Rattle.track.specs.declared.Track.{Track}
-use Rattle.fieldset.specs.Lines.{lines, spare, lineFor, every, bmdtAt, countAt}
-use Rattle.fieldset.specs.Lawful.{has, valuesOf, marksOf, saizOk, setRules, sameIvSize, measureOf}
-use Rattle.fieldset.proofs.LawfulLaws.{Lawful, lawful-facts, lawful-region}
-use Rattle.fieldset.proofs.LineLaws.{line-count, every-holds}
-use Rattle.fields.specs.Said.{Says, numbers, sayingOf}
-use Rattle.fields.specs.Cells.{Held, Came, well}
-use Rattle.fields.specs.Words.{setWords}
-use Rattle.fields.proofs.SetLaws.{map-same, eleven-for, words-bmdt}
-use Rattle.fields.proofs.SetWords.{fieldIn, set-words, held-values, regions-same}
-use Rattle.reading.specs.Read.{countOf, cameOf, subsamples, came, stands, marks, newWords, fieldRungs, setRungs}
-use Rattle.reading.proofs.CameLaws.{came-early, came-stands}
-use Rattle.writing.specs.Changes.{news, Writable}
-use Rattle.writing.proofs.GoneIds.{gone-is}
+use Rattle.field_table.specs.Lines.{lines, spare, lineFor, every, bmdtAt, countAt, ivSizeAt, lineCount}
+use Rattle.field_set.specs.Lawful.{has, valuesOf, marksOf, saizOk, setRules, sameIvSize, measureOf}
+use Rattle.field_set.proofs.LawfulLaws.{Lawful, lawful-facts, lawful-region}
+use Rattle.field_table.proofs.LineLaws.{line-count, every-holds}
+use Rattle.locmaf_read_said.specs.Said.{Says, sayingOf}
+use Rattle.field_rules.specs.Fields.{numbers, Held}
+use Rattle.locmaf_read_field.specs.Cells.{Came, well}
+use Rattle.field_rules.specs.Words.{setWords}
+use Rattle.field_rules.proofs.SetLaws.{map-same, eleven-for, words-bmdt}
+use Rattle.field_rules.proofs.SetWords.{fieldIn, set-words, held-values, regions-same}
+use Rattle.locmaf_read_set.specs.Read.{countOf, cameOf, subsamples, came, stands, marks, newWords, fieldRungs, setRungs}
+use Rattle.locmaf_read_set.proofs.CameLaws.{came-early, came-stands}
+use Rattle.locmaf_write_block.specs.Changes.{news, Writable}
+use Rattle.locmaf_write_block.proofs.GoneIds.{gone-is}
 use Rattle.reread.specs.Sayings.{lineSaying, SetSaid}
 use Rattle.reread.proofs.FieldRead.{field-back}
 use Rattle.reread.proofs.DeletionsRead.{deletions-hold}
@@ -44,7 +46,7 @@ module _ {t : Track} {delta : Bool} {r x : List ℕ} {f : Says} (w : Writable t 
 
   -- ---- the fields
 
-  came-is : (i : ℕ) → i < 14 → cameOf t delta r f (measureOf t x) (getD lines i spare) ≡ well (fieldIn t x (getD lines i spare))
+  came-is : (i : ℕ) → i < lineCount → cameOf t delta r f (measureOf t x) (getD lines i spare) ≡ well (fieldIn t x (getD lines i spare))
   unfolding cameOf sayingOf lineSaying
   came-is i lt = rw (h .line i lt, h .gone, gone-is t delta r x i lt) (field-back w i lt)
 
@@ -57,12 +59,12 @@ module _ {t : Track} {delta : Bool} {r x : List ℕ} {f : Says} (w : Writable t 
       (came-early t delta r f n _ 0 (getD lines 9 spare) (λ e. let no : _≡_ {A = ℕ} 0 1 = cc in absurd (omega arith)) ∙ came-is 9 (omega arith))
       ∙ held-values t x)
 
-  field-is : (i : ℕ) → i < 14 → came t delta r f (getD lines i spare) ≡ well (fieldIn t x (getD lines i spare))
+  field-is : (i : ℕ) → i < lineCount → came t delta r f (getD lines i spare) ≡ well (fieldIn t x (getD lines i spare))
   unfolding came
   field-is i lt = rw (count-is, counts-are) (came-is i lt)
 
   -- a field stands where its mark is 1
-  mark-is : (i : ℕ) → i < 14 → cond (stands t delta r f (getD lines i spare)) 1 0 ≡ getD x (getD lines i spare .place) 0
+  mark-is : (i : ℕ) → i < lineCount → cond (stands t delta r f (getD lines i spare)) 1 0 ≡ getD x (getD lines i spare .place) 0
   mark-is i lt = rw ((rw (came-is i lt) at (came-stands t delta r f (measureOf t x) (getD lines i spare))) refl refl refl) (by (eqb mark 0) refl)
     where
       mark : ℕ
@@ -93,7 +95,7 @@ module _ {t : Track} {delta : Bool} {r x : List ℕ} {f : Says} (w : Writable t 
   iv-size =
       let zero : newWords t delta r f 0 ≡ set x 0 0 =
       words-are 0 ∙ sym (words-bmdt (getD x 0 0) 0 n (fieldIn t x)) ∙ ap (λ (z : List ℕ). set z 0 0) (set-words t x (w .new-words) (w .new)) in
-      rw (zero, getD-set-other x 0 979 0 0 (λ e. omega arith), getD-set-other x 0 980 0 0 (λ e. omega arith)) (facts .iv-size)
+      rw (zero, getD-set-other x 0 ivSizeAt 0 0 (λ e. omega arith), getD-set-other x 0 (ivSizeAt + 1) 0 0 (λ e. omega arith)) (facts .iv-size)
 
   -- ---- the rules
 
@@ -106,7 +108,7 @@ module _ {t : Track} {delta : Bool} {r x : List ℕ} {f : Says} (w : Writable t 
   fields-hold =
       let within : came t delta r f (lineFor 11 lines) .cell .within ≡ true = rw (eleven-for, field-is 9 (omega arith)) refl in
       let sizes : saizOk (t .«iv_size») (subsamples t delta r f) ≡ true = rw counts-are (facts .saiz) in
-      let few : leb (sum (subsamples t delta r f)) 256 ≡ true = rw counts-are (le-leb _ _ (facts .subsamples)) in
+      let few : leb (sum (subsamples t delta r f)) subsamplesMost ≡ true = rw counts-are (le-leb _ _ (facts .subsamples)) in
       let rules : setRules t (countOf t delta r f) (marks t delta r f) ≡ true = rw (count-is, marks-are) (facts .rules) in (
         both _ _ (cells-right (λ z. z .cell .first) (λ h. refl)) (h .brands),
         (

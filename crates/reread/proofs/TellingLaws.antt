@@ -10,14 +10,16 @@ use mathlib.Core.Logic.{_⊎_, inl, inr}
 use mathlib.Core.Option.{none, some}
 use borrow.Author.Tests.{eq-eqb, ne-eqb}
 use lib.ListN.{length, length-append}
+use Rattle.constants.specs.Ids.{idCount}
 use Rattle.laws.proofs.TestLaws.{both}
 use Rattle.wire.specs.Form.{limit}
-use Rattle.block.specs.Index.{known}
-use Rattle.block.specs.Entries.{isSome, body, readable, member, lawful, entry, says}
-use Rattle.block.specs.Written.{Item, Writable, encItem, encBlock, entryOf}
-use Rattle.fields.specs.Said.{Says}
-use Rattle.writing.specs.Items.{Items, nothing, listOf, _before_}
-use Rattle.given.specs.Given.{F}
+use Rattle.locmaf_read_block.specs.Entries.{known, body, readable, member, lawful, entry, says}
+use Rattle.laws.specs.Options.{isSome}
+use Rattle.block_items.specs.Items.{Item, encItem, encBlock}
+use Rattle.locmaf_read_block.specs.Written.{Writable, entryOf}
+use Rattle.locmaf_read_said.specs.Said.{Says}
+use Rattle.locmaf_write_tuples.specs.Items.{Items, nothing, listOf, _before_}
+use Rattle.cmaf_read_facts.specs.Given.{F}
 use Rattle.reread.specs.Telling.{Tell, Tells}
 
 -- what holds at lo and past it, holds from lo on
@@ -83,7 +85,7 @@ module _ {f : Says} where
   _then_ {a = some xs} {b = some ys} h k = record { on = λ e rest r. rw append-assoc (h .on refl (ys ++ rest) (k .on refl rest r)) }
 
   -- all of them, where nothing is said of an id past the last
-  pub tell-all : {lo : ℕ} {is : Items} → Tells f lo 28 is → isSome is ≡ true → ((id : ℕ) → 28 ≤ id → f id ≡ none) → Tell f lo (listOf is)
+  pub tell-all : {lo : ℕ} {is : Items} → Tells f lo idCount is → isSome is ≡ true → ((id : ℕ) → idCount ≤ id → f id ≡ none) → Tell f lo (listOf is)
   unfolding says entry member readable lawful
   tell-all h q e =
       rw append-nil at

@@ -4,20 +4,22 @@ use Prim.Native.Nat.{ℕ}
 use mathlib.Core.Bool.{Bool, cond, not, _&&_}
 use mathlib.Core.List.{List, [], _∷_}
 use mathlib.Core.Option.{Option, none, some}
-use lib.Dec.{eqb, ltb}
+use lib.Dec.{eqb, leb}
 use lib.ListN.{length, getD, drop}
+use Rattle.constants.specs.Ids.{idCount}
 use Rattle.wire.specs.Zigzag.{wireOf}
-use Rattle.block.specs.Events.{Event, encEvents}
+use Rattle.block_items.specs.Events.{Event, encEvents}
 use Rattle.track.specs.declared.Track.{Track}
-use Rattle.fieldset.specs.Lines.{lines, lineFor, bmdtAt, countAt}
-use Rattle.slots.specs.Share.{ntpAt, mediaTimeAt, versionAt, prftFlagsAt, setAt, trackOf}
-use Rattle.fields.specs.Said.{Says}
-use Rattle.fields.specs.Cells.{codingFor}
-use Rattle.reading.specs.Deletions.{moofField}
-use Rattle.object.specs.Prft.{keptFor}
-use Rattle.accepted.specs.Accepted.{prft, brands, events, fields}
-use Rattle.writing.specs.Fields.{goneOf, bmdtStands, countStands}
-use Rattle.given.specs.Given.{F}
+use Rattle.field_table.specs.Lines.{lines, lineFor, bmdtAt, countAt}
+use Rattle.share_words.specs.Share.{ntpAt, mediaTimeAt, versionAt, prftFlagsAt, setAt}
+use Rattle.slots.specs.Share.{trackOf}
+use Rattle.locmaf_read_said.specs.Said.{Says}
+use Rattle.field_rules.specs.Fields.{codingFor}
+use Rattle.locmaf_read_said.specs.Deletions.{moofField}
+use Rattle.prft_value.specs.Prft.{keptFor}
+use Rattle.cmaf_read_chunk.specs.Accepted.{prft, brands, events, fields}
+use Rattle.locmaf_write_block.specs.Fields.{goneOf, bmdtStands, countStands}
+use Rattle.cmaf_read_facts.specs.Given.{F}
 use Rattle.reread.specs.Sayings.{lineSays}
 
 -- numbers that stand under a condition
@@ -50,7 +52,7 @@ module _ (s c : List ℕ) (delta : Bool) where
   unfoldable pub blockSays : Says
   blockSays id =
       cond (moofField id) (lineSays t delta r x (lineFor id lines))
-      (cond (ltb 27 id) none
+      (cond (leb idCount id) none
       (cond (eqb id 10) (saidIf (bmdtStands t delta r x) (getD x bmdtAt 0 ∷ []))
       (cond (eqb id 14) (saidIf (countStands t delta r x) (against (getD r countAt 0) (getD x countAt 0)))
       (cond (eqb id 18) (saidIf (prft c .stands) (against (getD s ntpAt 0) (prft c .ntp .0)))

@@ -7,18 +7,16 @@ use mathlib.Core.List.{List, [], _++_}
 use lib.ListN.{length, take, drop}
 use Rattle.laws.specs.Tests.{allLe}
 use Rattle.laws.specs.Ladder.{Hold}
-use Rattle.slots.specs.declared.share.Side.the-variants.{Encoder, Receiver}
-use Rattle.slots.specs.Share.{acceptedAt, heldAt, trackOf, shareLen}
-use Rattle.slots.specs.Share.{lawful as lawfulShare}
-use Rattle.object.specs.Values.{boxes as boxesOf}
-use Rattle.receiver.specs.Object.{isDelta, headRungs}
-use Rattle.receiver.specs.Object.{payload as payloadOf}
-use Rattle.receiver.specs.Receive.{heldOk, judgeRungs, newSet}
-use Rattle.receiver.specs.Receive.{prft as prftRead, events as eventsRead, brands as brandsRead, bmdt as bmdtRead}
-use Rattle.accepted.specs.Accepted.{prft, brands, boxes, payload, fields}
+use Rattle.slots.specs.declared.lawful.Side.the-variants.{Encoder, Receiver}
+use Rattle.share_words.specs.Share.{acceptedAt, heldAt, shareLen}
+use Rattle.slots.specs.Share.{trackOf, lawful as lawfulShare}
+use Rattle.locmaf_read_events.specs.Values.{boxes as boxesOf}
+use Rattle.receiver.specs.Object.{isDelta, headRungs, payload as payloadOf}
+use Rattle.receiver.specs.Receive.{heldOk, judgeRungs, newSet, prft as prftRead, events as eventsRead, brands as brandsRead, bmdt as bmdtRead}
+use Rattle.cmaf_read_chunk.specs.Accepted.{prft, brands, boxes, payload, fields}
 use Rattle.encoder.specs.Object.{givesDelta, objectOf}
 use Rattle.encoder.specs.Encode.{encoding}
-use Rattle.given.specs.Given.{F}
+use Rattle.cmaf_read_facts.specs.Given.{F}
 
 -- the shares of the two sides have the same parameters, and the same from the mark of the reference on
 pub record Alike (s s′ : List ℕ) : Type 0 where

@@ -10,18 +10,18 @@ use lib.ListN.{getD}
 use Rattle.wire.specs.declared.zigzag.Reached.the-variants.{To}
 use Rattle.wire.specs.Zigzag.{wireOf}
 use Rattle.runs.specs.Run.{first}
-use Rattle.block.specs.Wires.{wires}
+use Rattle.locmaf_read_block.specs.Wires.{wires}
 use Rattle.track.specs.declared.Track.{Track}
-use Rattle.fieldset.specs.declared.lines.Line.{Line}
-use Rattle.fieldset.specs.Lines.{lines, spare, countAt, absentValue}
-use Rattle.fields.specs.Said.{Says, Saying, numbers, saying}
-use Rattle.fields.specs.Cells.{codingFor, codingOf, isIvs}
-use Rattle.reading.specs.Read.{countReached, brandsFit}
-use Rattle.writing.specs.declared.cells.Change.{Change}
-use Rattle.writing.specs.declared.cells.Change.the-variants.{Omitted, Deleted, Sent}
-use Rattle.writing.specs.Items.{wideBytes}
-use Rattle.writing.specs.Changes.{news, olds, changeOf}
-use Rattle.writing.specs.Fields.{isDeleted, goneOf}
+use Rattle.field_table.specs.declared.lines.Line.{Line}
+use Rattle.field_table.specs.Lines.{lines, spare, countAt, absentValue, lineCount}
+use Rattle.locmaf_read_said.specs.Said.{Says, Saying, saying}
+use Rattle.field_rules.specs.Fields.{numbers, codingFor, codingOf, isIvs}
+use Rattle.locmaf_read_set.specs.Read.{countReached, brandsFit}
+use Rattle.locmaf_write_block.specs.declared.cells.Change.{Change}
+use Rattle.locmaf_write_block.specs.declared.cells.Change.the-variants.{Omitted, Deleted, Sent}
+use Rattle.locmaf_write_tuples.specs.Items.{wideBytes}
+use Rattle.locmaf_write_block.specs.Changes.{news, olds, changeOf}
+use Rattle.locmaf_write_block.specs.Fields.{isDeleted, goneOf}
 
 -- what stands of a change: the numbers of one that is sent
 abbrev pub numbersBy : Change → List ℕ → Option (List ℕ)
@@ -49,7 +49,7 @@ module _ (t : Track) (delta : Bool) (r x : List ℕ) (l : Line) where
 
 -- all that a set x is read from: its fields, the ids that are deleted, how many samples there are, and brands that fit
 pub record SetSaid (t : Track) (delta : Bool) (r x : List ℕ) (f : Says) : Type 0 where
-  pub line : (i : ℕ) → i < 14 → f (getD lines i spare .id) ≡ lineSays t delta r x (getD lines i spare)
+  pub line : (i : ℕ) → i < lineCount → f (getD lines i spare .id) ≡ lineSays t delta r x (getD lines i spare)
   pub gone : numbers (f 27) ≡ goneOf t delta r x lines
   pub count : countReached t delta r f ≡ To (getD x countAt 0)
   pub brands : brandsFit (f 23) ≡ true

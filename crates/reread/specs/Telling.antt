@@ -7,11 +7,13 @@ use mathlib.Core.List.{List, _++_, map}
 use mathlib.Core.Option.{none}
 use lib.ListN.{length}
 use Rattle.wire.specs.Form.{limit}
-use Rattle.block.specs.Entries.{isSome, readable, member, lawful, entry, says}
-use Rattle.block.specs.Written.{Item, AllWritable, encBlock, entryOf}
-use Rattle.fields.specs.Said.{Says}
-use Rattle.writing.specs.Items.{Items, listOf}
-use Rattle.given.specs.Given.{F}
+use Rattle.laws.specs.Options.{isSome}
+use Rattle.locmaf_read_block.specs.Entries.{readable, member, lawful, entry, says}
+use Rattle.block_items.specs.Items.{Item, encBlock}
+use Rattle.locmaf_read_block.specs.Written.{AllWritable, entryOf}
+use Rattle.locmaf_read_said.specs.Said.{Says}
+use Rattle.locmaf_write_tuples.specs.Items.{Items, listOf}
+use Rattle.cmaf_read_facts.specs.Given.{F}
 
 -- the items tell of every id from lo on what is said of it, and nothing of those below; they can be read, each id once; and written, where they are short
 pub record Tell (f : Says) (lo : ℕ) (is : List Item) : Type 0 where

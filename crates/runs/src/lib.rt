@@ -1,5 +1,6 @@
 // Runs of varints: the values of a list field. One reader, one writer and one measuring pass serve every list field, full and delta. They
 // take as parameters how the values stand on the wire, the old list, what an absent old element counts as, and the largest value.
+// Letters: `s` bytes that are read, `n` how many.
 ghost use mathlib.Core.Path.{_≡_};
 ghost use Prim.Native.Nat.{_+_, _≤_};
 ghost use lib.ListN.{length, getD};
@@ -47,7 +48,9 @@ pub fn fill(
     n: usize,
 ) -> Outcome
     requires { ⌜ to + n ≤ length (now out) ⌝ }
-    ensures { λ r. ⌜ FilledAs (filledAt (rows form) coding base bound n (now (old .entry)) (now (s .entry)) at end) (now (out .entry)) to r (now (out .exit)) ⌝ }
+    ensures { λ r. ⌜ FilledAs
+        (filledAt (rows form) coding base bound n (now (old .entry)) (now (s .entry)) at end)
+        (now (out .entry)) to r (now (out .exit)) ⌝ }
 {
     if s.len() < end {
         return Outcome::Misfit;
@@ -101,7 +104,9 @@ pub fn put(
     at: usize,
 ) -> usize
     requires { ⌜ at + length (runOf (rows form) coding base (now old) (now new)) ≤ length (now out) ⌝ }
-    ensures { λ r. ⌜ Wrote (now (out .entry)) at (runOf (rows form) coding base (now (old .entry)) (now (new .entry))) (now (out .exit)) r ⌝ }
+    ensures { λ r. ⌜ Wrote (now (out .entry)) at
+        (runOf (rows form) coding base (now (old .entry)) (now (new .entry)))
+        (now (out .exit)) r ⌝ }
 {
     let mut p = at;
     let mut i = 0;

@@ -7,13 +7,14 @@ use mathlib.Core.Bool.{true}
 use mathlib.Core.List.{List, _++_, append-assoc}
 use lib.ListN.{length, take, drop, length-append, length-drop, take-append-drop}
 use lib.Seq.{take-at, drop-at, length-take-le}
-use Rattle.slots.specs.declared.share.Side.{Side}
-use Rattle.slots.specs.Share.{shareLen, lawful}
-use Rattle.slots.specs.Table.{Out, out, tableLen, shareAt, putShare, onTable}
+use Rattle.slots.specs.declared.lawful.Side.{Side}
+use Rattle.share_words.specs.Share.{shareLen, slotCount, tableLen}
+use Rattle.slots.specs.Share.{lawful}
+use Rattle.slots.specs.Table.{Out, out, shareAt, putShare, onTable}
 use Rattle.slots.specs.Laws.{after, Keeps, Apart, CallsCommute, OthersStay}
 use Rattle.slots.proofs.TableLaws.{wrong-length, wrong-slot, right-slot, by-cases, share-long, share-put}
 
--- the part of n words behind p, and what stands in its place: over any n, so that no list of 996 is unfolded
+-- the part of n words behind p, and what stands in its place: over any n, so that no list as long as a share is unfolded
 part-is : (n a : ℕ) (p x r : List ℕ) → length p ≡ a → length x ≡ n → take n (drop a (p ++ (x ++ r))) ≡ x
 part-is n a p x r lp lx = rw (drop-at p (x ++ r) a lp, take-at x r n lx)
 
@@ -21,7 +22,7 @@ put-is : (n a : ℕ) (p x r x′ : List ℕ) → length p ≡ a → length x ≡
 put-is n a p x r x′ lp lx = rw (take-at p (x ++ r) a lp, drop-at p (x ++ r) a lp, drop-at x r n lx)
 
 -- a call on the share x that stands behind p
-step-at : {X : Type 0} (refuse : ℕ → X) (f : List ℕ → Out X) (i : ℕ) (p x r : List ℕ) → i < 8 → length (p ++ (x ++ r)) ≡ tableLen → length p ≡ i * shareLen
+step-at : {X : Type 0} (refuse : ℕ → X) (f : List ℕ → Out X) (i : ℕ) (p x r : List ℕ) → i < slotCount → length (p ++ (x ++ r)) ≡ tableLen → length p ≡ i * shareLen
     → length x ≡ shareLen → onTable refuse f (p ++ (x ++ r)) i ≡ out (f x .answer) (p ++ (f x .words ++ r))
 step-at {X} refuse f i p x r h l lp lx =
     let t : List ℕ = p ++ (x ++ r) in
@@ -31,8 +32,8 @@ step-at {X} refuse f i p x r h l lp lx =
     ∙ ap (out (f x .answer)) (put-is shareLen (i * shareLen) p x r (f x .words) lp lx)
 
 -- the tables and answers of two calls, the first on the share x behind p, the second on y, which stands behind p, x and m
-module _ {X Y : Type 0} (refuse : ℕ → X) (f : List ℕ → Out X) (refuse′ : ℕ → Y) (g : List ℕ → Out Y) (kf : Keeps f) (kg : Keeps g) (i j : ℕ) (hi : i < 8)
-    (hj : j < 8) (p x m y q : List ℕ) (lp : length p ≡ i * shareLen) (lx : length x ≡ shareLen) (ly : length y ≡ shareLen)
+module _ {X Y : Type 0} (refuse : ℕ → X) (f : List ℕ → Out X) (refuse′ : ℕ → Y) (g : List ℕ → Out Y) (kf : Keeps f) (kg : Keeps g) (i j : ℕ) (hi : i < slotCount)
+    (hj : j < slotCount) (p x m y q : List ℕ) (lp : length p ≡ i * shareLen) (lx : length x ≡ shareLen) (ly : length y ≡ shareLen)
     (lm : i * shareLen + shareLen + length m ≡ j * shareLen) (lt : length (p ++ (x ++ (m ++ (y ++ q)))) ≡ tableLen) where
   whole : List ℕ → List ℕ → List ℕ
   whole u v = p ++ (u ++ (m ++ (v ++ q)))
@@ -118,7 +119,7 @@ five n a k t h =
     }
 
 module _ {X Y : Type 0} (refuse : ℕ → X) (f : List ℕ → Out X) (refuse′ : ℕ → Y) (g : List ℕ → Out Y) (kf : Keeps f) (kg : Keeps g) (i j : ℕ) (h : i < j)
-    (hj : j < 8) (t : List ℕ) (l : length t ≡ tableLen) where
+    (hj : j < slotCount) (t : List ℕ) (l : length t ≡ tableLen) where
   parted : Five shareLen (i * shareLen) (j * shareLen - i * shareLen - shareLen) t
   parted = five shareLen (i * shareLen) (j * shareLen - i * shareLen - shareLen) t (omega arith)
 
@@ -182,10 +183,10 @@ apart X Y refuse f refuse′ g kf kg i j d t =
     elim (ℕ-discrete (length t) tableLen) [
       | no n ↦ idle refuse f refuse′ g i j 18 t (λ t′ e. no-length refuse f i t′ (λ z. n (sym e ∙ z))) (table-long refuse′ g kg j t)
       | yes l ↦
-          elim (decLt i 8) [
+          elim (decLt i slotCount) [
             | no n ↦ idle refuse f refuse′ g i j 1 t (λ t′ e. no-slot refuse f i t′ (e ∙ l) (omega arith)) (table-long refuse′ g kg j t)
             | yes hi ↦
-                elim (decLt j 8) [
+                elim (decLt j slotCount) [
                   | no n ↦ other (idle refuse′ g refuse f j i 1 t (λ t′ e. no-slot refuse′ g j t′ (e ∙ l) (omega arith)) (table-long refuse f kf i t))
                   | yes hj ↦
                       elim (decLt i j) [
@@ -210,7 +211,7 @@ others-stay X refuse f kf i j d hj t =
 -- and a call that leaves a lawful share lawful leaves every share of a table lawful that was
 pub shares-lawful : {X : Type 0} (refuse : ℕ → X) (f : List ℕ → Out X) → Keeps f → (side : Side)
     → ((s : List ℕ) → length s ≡ shareLen → lawful side s ≡ true → lawful side (f s .words) ≡ true)
-    → (i j : ℕ) → j < 8 → (t : List ℕ) → lawful side (shareAt t j) ≡ true → lawful side (shareAt (after refuse f i t) j) ≡ true
+    → (i j : ℕ) → j < slotCount → (t : List ℕ) → lawful side (shareAt t j) ≡ true → lawful side (shareAt (after refuse f i t) j) ≡ true
 shares-lawful {X} refuse f kf side m i j hj t w =
     elim (ℕ-discrete i j) [
       | no d ↦ ap (lawful side) (others-stay X refuse f kf i j d hj t) ∙ w

@@ -2,5 +2,5 @@ pub mod ShareLaws
 pub mod CallLaws
 pub mod TableLaws
 pub mod Apart
-pub mod Lawful
+pub mod StaysLawful
 pub mod ShareParts

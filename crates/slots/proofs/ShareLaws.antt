@@ -15,26 +15,27 @@ use Rattle.laws.proofs.SliceLaws.{slice-to-end}
 use Rattle.track.specs.declared.Asked.{Asked}
 use Rattle.track.specs.declared.Track.{Track}
 use Rattle.track.specs.Track.{lawful as lawfulTrack, u32}
-use Rattle.fieldset.specs.Lawful.{lawful as lawfulSet}
-use Rattle.sizes.specs.Told.{sizesAgree}
-use Rattle.slots.specs.declared.share.Side.{Side}
-use Rattle.slots.specs.Share.{heldAt, prftAt, ntpAt, mediaTimeAt, versionAt, prftFlagsAt, setAt, u24, u62, trackAt, acceptedAt, shareLen, askedOf, trackOf, paramWords, acceptedOk, prftOk, setOk, referenceOk, openOk, lawful}
+use Rattle.field_set.specs.Lawful.{lawful as lawfulSet}
+use Rattle.told_sizes.specs.Told.{sizesAgree}
+use Rattle.slots.specs.declared.lawful.Side.{Side}
+use Rattle.share_words.specs.Share.{heldAt, prftAt, ntpAt, mediaTimeAt, versionAt, prftFlagsAt, prftEnd, setAt, trackAt, timescaleAt, acceptedAt, shareLen}
+use Rattle.slots.specs.Share.{u24, u62, askedOf, trackOf, paramWords, acceptedOk, prftOk, setOk, referenceOk, openOk, lawful}
 
 -- the words from a place to the end, folded
 folded : (from : ℕ) (s : List ℕ) (b : ℕ) → length s ≡ shareLen → b ≡ allBits (slice from shareLen s) → eqb b 0 ≡ allZero (drop from s)
 folded from s b l e = ap (λ (n : ℕ). eqb n 0) e ∙ bits-zero (slice from shareLen s) ∙ ap allZero (slice-to-end from shareLen s l)
 
 -- a list whose first word is 0
-past-first : (s : List ℕ) → length s ≡ shareLen → getD s trackAt 0 ≡ 0 → allZero s ≡ allZero (drop 1 s)
+past-first : (s : List ℕ) → length s ≡ shareLen → getD s trackAt 0 ≡ 0 → allZero s ≡ allZero (drop timescaleAt s)
 unfolding allZero _and_
 past-first [] l e = absurd (omega arith)
 past-first (x ∷ []) l e = rw (eq-eqb x 0 e)
 past-first (x ∷ (y ∷ s)) l e = rw (eq-eqb x 0 e)
 
 -- the kept prft: none, or one
-pub no-prft : (s : List ℕ) (b : ℕ) → getD s prftAt 0 ≡ 0 → b ≡ allBits (slice ntpAt setAt s) → eqb b 0 ≡ prftOk s
+pub no-prft : (s : List ℕ) (b : ℕ) → getD s prftAt 0 ≡ 0 → b ≡ allBits (slice ntpAt prftEnd s) → eqb b 0 ≡ prftOk s
 unfolding prftOk
-no-prft s b e q = rw (eq-eqb _ _ e, q) (bits-zero (slice ntpAt setAt s))
+no-prft s b e q = rw (eq-eqb _ _ e, q) (bits-zero (slice ntpAt prftEnd s))
 
 pub some-prft : (s : List ℕ) → (getD s prftAt 0 ≡ 0 → ⊥)
     → (eqb (getD s prftAt 0) 1
@@ -69,9 +70,9 @@ module _ (t : Track) (s : List ℕ) (l : length s ≡ shareLen) where
 
 module _ (side : Side) (s : List ℕ) (l : length s ≡ shareLen) where
   -- a closed share
-  pub closed : (b : ℕ) → getD s trackAt 0 ≡ 0 → b ≡ allBits (slice 1 shareLen s) → eqb b 0 ≡ lawful side s
+  pub closed : (b : ℕ) → getD s trackAt 0 ≡ 0 → b ≡ allBits (slice timescaleAt shareLen s) → eqb b 0 ≡ lawful side s
   unfolding lawful
-  closed b e q = rw (eq-eqb _ _ e) (folded 1 s b l q ∙ sym (past-first s l e))
+  closed b e q = rw (eq-eqb _ _ e) (folded timescaleAt s b l q ∙ sym (past-first s l e))
 
   module _ (e : getD s trackAt 0 ≡ 0 → ⊥) where
     -- an open share of bad parameters

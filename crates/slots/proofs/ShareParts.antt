@@ -14,10 +14,11 @@ use Rattle.laws.proofs.ListLaws.{drop-replicate}
 use Rattle.laws.proofs.SliceLaws.{slice-drop}
 use Rattle.laws.proofs.TestLaws.{left, right, both}
 use Rattle.track.specs.declared.Track.{Track}
-use Rattle.track.specs.Track.{narrow}
-use Rattle.track.specs.Track.{lawful as lawfulTrack}
-use Rattle.slots.specs.declared.share.Side.{Side}
-use Rattle.slots.specs.Share.{trackAt, acceptedAt, heldAt, ntpAt, setAt, shareLen, askedOf, trackOf, acceptedOk, prftOk, referenceOk, openOk, isOpen, lawful, dropped}
+use Rattle.track.specs.Track.{narrow, lawful as lawfulTrack}
+use Rattle.slots.specs.declared.lawful.Side.{Side}
+use Rattle.share_words.specs.Share.{trackAt, timescaleAt, trackDescriptionAt, trackDurationAt, trackSizeAt, trackFlagsAt, protectionAt, trackIvSizeAt}
+use Rattle.share_words.specs.Share.{acceptedAt, heldAt, prftAt, ntpAt, mediaTimeAt, versionAt, prftFlagsAt, prftEnd, setAt, shareLen, referenceLen, dropped}
+use Rattle.slots.specs.Share.{askedOf, trackOf, acceptedOk, prftOk, referenceOk, openOk, isOpen, lawful}
 use Rattle.slots.specs.Table.{out, onShare}
 use Rattle.slots.specs.Calls.{grouping}
 use Rattle.slots.proofs.CallLaws.{closed-zeros}
@@ -25,20 +26,20 @@ use Rattle.slots.proofs.CallLaws.{closed-zeros}
 -- ---- shares that have the same parameters
 
 module _ (s s′ : List ℕ) (e : take acceptedAt s ≡ take acceptedAt s′) where
-  pub same-word : (i : ℕ) → i < 8 → getD s i 0 ≡ getD s′ i 0
-  same-word i lt = sym (getD-take 8 s i 0 lt) ∙ ap (λ (l : List ℕ). getD l i 0) e ∙ getD-take 8 s′ i 0 lt
+  pub same-word : (i : ℕ) → i < acceptedAt → getD s i 0 ≡ getD s′ i 0
+  same-word i lt = sym (getD-take acceptedAt s i 0 lt) ∙ ap (λ (l : List ℕ). getD l i 0) e ∙ getD-take acceptedAt s′ i 0 lt
 
   same-asked : askedOf s ≡ askedOf s′
   same-asked =
       rw (
-        same-word 0 (omega arith),
-        same-word 1 (omega arith),
-        same-word 2 (omega arith),
-        same-word 3 (omega arith),
-        same-word 4 (omega arith),
-        same-word 5 (omega arith),
-        same-word 6 (omega arith),
-        same-word 7 (omega arith),
+        same-word trackAt (omega arith),
+        same-word timescaleAt (omega arith),
+        same-word trackDescriptionAt (omega arith),
+        same-word trackDurationAt (omega arith),
+        same-word trackSizeAt (omega arith),
+        same-word trackFlagsAt (omega arith),
+        same-word protectionAt (omega arith),
+        same-word trackIvSizeAt (omega arith),
       )
 
   pub same-track : trackOf s ≡ trackOf s′
@@ -46,7 +47,7 @@ module _ (s s′ : List ℕ) (e : take acceptedAt s ≡ take acceptedAt s′) wh
 
   pub same-open : isOpen s ≡ isOpen s′
   unfolding isOpen
-  same-open = ap (λ (k : ℕ). not (eqb k 0)) (same-word 0 (omega arith))
+  same-open = ap (λ (k : ℕ). not (eqb k 0)) (same-word trackAt (omega arith))
 
 -- an open share is lawful where its words are
 open-is : (side : Side) (s : List ℕ) → isOpen s ≡ true → lawful side s ≡ openOk side s
@@ -56,43 +57,43 @@ open-is side s o = let z : eqb (getD s trackAt 0) 0 ≡ false = not-true _ o in 
 -- ---- shares that have the same reference
 
 module _ (s s′ : List ℕ) (e : drop heldAt s ≡ drop heldAt s′) where
-  pub same-kept : (i : ℕ) → getD s (9 + i) 0 ≡ getD s′ (9 + i) 0
-  same-kept i = sym (getD-drop 9 s i 0) ∙ ap (λ (l : List ℕ). getD l i 0) e ∙ getD-drop 9 s′ i 0
+  pub same-kept : (i : ℕ) → getD s (heldAt + i) 0 ≡ getD s′ (heldAt + i) 0
+  same-kept i = sym (getD-drop heldAt s i 0) ∙ ap (λ (l : List ℕ). getD l i 0) e ∙ getD-drop heldAt s′ i 0
 
-  same-rest : (i : ℕ) → drop (9 + i) s ≡ drop (9 + i) s′
-  same-rest i = sym (drop-drop i 9 s) ∙ ap (drop i) e ∙ drop-drop i 9 s′
+  same-rest : (i : ℕ) → drop (heldAt + i) s ≡ drop (heldAt + i) s′
+  same-rest i = sym (drop-drop i heldAt s) ∙ ap (drop i) e ∙ drop-drop i heldAt s′
 
   pub same-set : drop setAt s ≡ drop setAt s′
-  same-set = same-rest 6
+  same-set = same-rest (setAt - heldAt)
 
   module _ (l : length s ≡ shareLen) (l′ : length s′ ≡ shareLen) where
     same-prft : prftOk s ≡ prftOk s′
     unfolding prftOk
     same-prft =
-        let w : slice ntpAt setAt s ≡ slice ntpAt setAt s′ =
-        sym (slice-drop 9 2 6 s (omega arith)) ∙ ap (slice 2 6) e ∙ slice-drop 9 2 6 s′ (omega arith) in
-        rw (same-kept 1, same-kept 2, same-kept 3, same-kept 4, same-kept 5, w)
+        let w : slice ntpAt prftEnd s ≡ slice ntpAt prftEnd s′ =
+        sym (slice-drop heldAt (ntpAt - heldAt) (prftEnd - heldAt) s (omega arith)) ∙ ap (slice (ntpAt - heldAt) (prftEnd - heldAt)) e ∙ slice-drop heldAt (ntpAt - heldAt) (prftEnd - heldAt) s′ (omega arith) in
+        rw (same-kept (prftAt - heldAt), same-kept (ntpAt - heldAt), same-kept (mediaTimeAt - heldAt), same-kept (versionAt - heldAt), same-kept (prftFlagsAt - heldAt), w)
 
     same-reference : (t : Track) → referenceOk t s ≡ referenceOk t s′
     unfolding referenceOk
-    same-reference t = rw (same-kept 0, same-rest 1, same-set, same-prft)
+    same-reference t = rw (same-kept 0, same-rest (prftAt - heldAt), same-set, same-prft)
 
 -- a share with the reference of another that has the same parameters
 abbrev pub joined : List ℕ → List ℕ → List ℕ
 joined s′ s = take heldAt s′ ++ drop heldAt s
 
 module _ (s s′ : List ℕ) (l : length s ≡ shareLen) (l′ : length s′ ≡ shareLen) where
-  first-nine : length (take heldAt s′) ≡ heldAt
-  first-nine = length-take-le heldAt s′ (omega arith)
+  first-long : length (take heldAt s′) ≡ heldAt
+  first-long = length-take-le heldAt s′ (omega arith)
 
   pub joined-long : length (joined s′ s) ≡ shareLen
-  joined-long = omega (arith, length-append (take heldAt s′) (drop heldAt s), first-nine, length-drop heldAt s)
+  joined-long = omega (arith, length-append (take heldAt s′) (drop heldAt s), first-long, length-drop heldAt s)
 
   pub joined-front : take heldAt (joined s′ s) ≡ take heldAt s′
-  joined-front = take-at (take heldAt s′) (drop heldAt s) heldAt first-nine
+  joined-front = take-at (take heldAt s′) (drop heldAt s) heldAt first-long
 
   pub joined-reference : drop heldAt (joined s′ s) ≡ drop heldAt s
-  joined-reference = drop-at (take heldAt s′) (drop heldAt s) heldAt first-nine
+  joined-reference = drop-at (take heldAt s′) (drop heldAt s) heldAt first-long
 
   pub joined-parameters : take acceptedAt (joined s′ s) ≡ take acceptedAt s′
   joined-parameters =
@@ -123,25 +124,25 @@ module _ (s s′ : List ℕ) (l : length s ≡ shareLen) (l′ : length s′ ≡
 -- ---- a group starts
 
 module _ (s : List ℕ) (l : length s ≡ shareLen) where
-  nine : length (take 9 s) ≡ 9
-  nine = length-take-le 9 s (omega arith)
+  kept-long : length (take heldAt s) ≡ heldAt
+  kept-long = length-take-le heldAt s (omega arith)
 
   -- a share without its reference
   pub dropped-parameters : take acceptedAt (dropped s) ≡ take acceptedAt s
   unfolding dropped
-  dropped-parameters = let n = nine in take-append-le 8 (take 9 s) (replicate 987 0) (omega arith) ∙ take-take 8 9 s (omega arith)
+  dropped-parameters = let n = kept-long in take-append-le acceptedAt (take heldAt s) (replicate referenceLen 0) (omega arith) ∙ take-take acceptedAt heldAt s (omega arith)
 
-  pub dropped-reference : drop heldAt (dropped s) ≡ replicate 987 0
+  pub dropped-reference : drop heldAt (dropped s) ≡ replicate referenceLen 0
   unfolding dropped
-  dropped-reference = drop-at (take 9 s) (replicate 987 0) 9 nine
+  dropped-reference = drop-at (take heldAt s) (replicate referenceLen 0) heldAt kept-long
 
   -- a closed share has none
   closed-drops : (side : Side) → lawful side s ≡ true → getD s trackAt 0 ≡ 0 → s ≡ dropped s
   unfolding dropped
   closed-drops side h z =
-      sym (take-append-drop 9 s)
-      ∙ ap (λ (r : List ℕ). take 9 s ++ r)
-      (ap (drop 9) (closed-zeros side s h z) ∙ drop-replicate 9 (length s) 0 ∙ ap (λ (n : ℕ). replicate (n - 9) 0) l)
+      sym (take-append-drop heldAt s)
+      ∙ ap (λ (r : List ℕ). take heldAt s ++ r)
+      (ap (drop heldAt) (closed-zeros side s h z) ∙ drop-replicate heldAt (length s) 0 ∙ ap (λ (n : ℕ). replicate (n - heldAt) 0) l)
 
   -- open or closed, what a start of a group leaves is the share without its reference
   pub group-leaves : (side : Side) → lawful side s ≡ true → grouping side s .words ≡ dropped s

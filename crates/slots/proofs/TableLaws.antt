@@ -9,8 +9,8 @@ use lib.ListN.{length, take, drop, replicate, length-drop, take-append-drop}
 use lib.Seq.{length-take-le, take-at, drop-at}
 use Rattle.laws.proofs.LadderLaws.{broken, passed, top, ladder-seen, climbs}
 use Rattle.laws.proofs.ListLaws.{drop-replicate, take-replicate}
-use Rattle.slots.specs.Share.{shareLen, fresh}
-use Rattle.slots.specs.Table.{Out, out, tableLen, shareAt, putShare, tableRungs, onTable}
+use Rattle.share_words.specs.Share.{shareLen, fresh, slotCount, tableLen}
+use Rattle.slots.specs.Table.{Out, out, shareAt, putShare, tableRungs, onTable}
 use Rattle.slots.specs.Laws.{after, Keeps}
 
 module _ {X : Type 0} (refuse : ℕ → X) (f : List ℕ → Out X) (t : List ℕ) (slot : ℕ) where
@@ -27,17 +27,17 @@ module _ {X : Type 0} (refuse : ℕ → X) (f : List ℕ → Out X) (t : List �
   unfolding onTable
   right-slot e h = passed _ 18 _ _ _ (eq-eqb _ _ e) (passed _ 1 _ _ _ (le-leb slot 7 h) (top _ _))
 
-  -- the share was lent as the part from slot * 996 to slot * 996 + 996; the callee answered x and left the words s there
-  pub on-share : (x : X) (s : List ℕ) → length t ≡ tableLen → slot ≤ 7
-      → out x s ≡ f (take (slot * shareLen + shareLen - slot * shareLen) (drop (slot * shareLen) t))
-      → out x (take (slot * shareLen) t ++ (s ++ drop (slot * shareLen + shareLen - slot * shareLen) (drop (slot * shareLen) t))) ≡ onTable refuse f t slot
-  on-share x s e h q =
-      let k : slot * shareLen + shareLen - slot * shareLen ≡ shareLen = add-sub-cancel-left (slot * shareLen) shareLen in
-      rw k (ap (λ (o : Out X). out (o .answer) (putShare t slot (o .words))) (rw k at q) ∙ right-slot e h)
+  -- the share was lent as the part from the slot's start on; the callee answered x and left the words s there
+  pub on-share : (at : ℕ) → at ≡ slot * shareLen → (x : X) (s : List ℕ) → length t ≡ tableLen → slot ≤ 7
+      → out x s ≡ f (take (at + shareLen - at) (drop at t))
+      → out x (take at t ++ (s ++ drop (at + shareLen - at) (drop at t))) ≡ onTable refuse f t slot
+  on-share at start x s e h q =
+      let k : at + shareLen - at ≡ shareLen = add-sub-cancel-left at shareLen in
+      rw (k, start) (ap (λ (o : Out X). out (o .answer) (putShare t slot (o .words))) (rw (k, start) at q) ∙ right-slot e h)
 
   -- what holds of a table of another length, of another slot, and of the call on the share, holds of the call on the table
   pub by-cases : (P : Out X → Type 0) → P (out (refuse 18) t) → P (out (refuse 1) t)
-      → (length t ≡ tableLen → slot < 8 → P (out (f (shareAt t slot) .answer) (putShare t slot (f (shareAt t slot) .words))))
+      → (length t ≡ tableLen → slot < slotCount → P (out (f (shareAt t slot) .answer) (putShare t slot (f (shareAt t slot) .words))))
       → P (onTable refuse f t slot)
   unfolding onTable
   by-cases P a b c =
@@ -52,7 +52,7 @@ share-back t i = go shareLen (i * shareLen)
     go : (n at : ℕ) → take at t ++ (take n (drop at t) ++ drop n (drop at t)) ≡ t
     go n at = simp take-append-drop
 
-module _ (t : List ℕ) (i : ℕ) (l : length t ≡ tableLen) (h : i < 8) where
+module _ (t : List ℕ) (i : ℕ) (l : length t ≡ tableLen) (h : i < slotCount) where
   pub share-long : length (shareAt t i) ≡ shareLen
   share-long = length-take-le shareLen (drop (i * shareLen) t) (simp length-drop (omega arith))
 
@@ -64,7 +64,7 @@ module _ (t : List ℕ) (i : ℕ) (l : length t ≡ tableLen) (h : i < 8) where
       ap (take shareLen) (drop-at (take at t) (s ++ drop shareLen (drop at t)) at before) ∙ take-at s (drop shareLen (drop at t)) shareLen e
 
 -- what a call leaves in the share that it names
-pub left-there : {X : Type 0} (refuse : ℕ → X) (f : List ℕ → Out X) → Keeps f → (t : List ℕ) (i : ℕ) → length t ≡ tableLen → i < 8
+pub left-there : {X : Type 0} (refuse : ℕ → X) (f : List ℕ → Out X) → Keeps f → (t : List ℕ) (i : ℕ) → length t ≡ tableLen → i < slotCount
     → shareAt (after refuse f i t) i ≡ f (shareAt t i) .words
 left-there {X} refuse f k t i l h =
     ap (λ (o : Out X). shareAt (o .words) i) (sym (right-slot refuse f t i l (omega arith)))
@@ -81,5 +81,5 @@ table-seen {X} h refuse f t slot =
     (out (f (shareAt t slot) .answer) (putShare t slot (f (shareAt t slot) .words))))
 
 -- a share of the table of zeros
-pub zero-share : (i : ℕ) → i < 8 → shareAt (replicate tableLen 0) i ≡ fresh
+pub zero-share : (i : ℕ) → i < slotCount → shareAt (replicate tableLen 0) i ≡ fresh
 zero-share i h = ap (take shareLen) (drop-replicate (i * shareLen) tableLen 0) ∙ take-replicate shareLen (tableLen - i * shareLen) 0 (omega arith)

@@ -6,8 +6,9 @@ use mathlib.Core.List.{List, [], _∷_}
 use Rattle.laws.specs.Ladder.{Rung, _else_}
 use Rattle.track.specs.declared.Asked.{Asked}
 use Rattle.track.specs.Track.{lawful as lawfulTrack}
-use Rattle.slots.specs.declared.share.Side.{Side}
-use Rattle.slots.specs.Share.{lawful, isOpen, fresh, opened, dropped}
+use Rattle.slots.specs.declared.lawful.Side.{Side}
+use Rattle.slots.specs.Share.{lawful, isOpen, opened}
+use Rattle.share_words.specs.Share.{fresh, dropped}
 use Rattle.slots.specs.Table.{Out, itself, onShare}
 
 -- 3: "opening an open slot"; 4: "bad parameters" (D3)

@@ -7,9 +7,10 @@ use mathlib.Core.List.{List, _++_}
 use lib.ListN.{length, replicate}
 use Rattle.laws.specs.Ladder.{Given}
 use Rattle.track.specs.declared.Asked.{Asked}
-use Rattle.slots.specs.declared.share.Side.{Side}
-use Rattle.slots.specs.Share.{shareLen, lawful, fresh, opened, dropped}
-use Rattle.slots.specs.Table.{Out, itself, tableLen, shareAt, tableRungs, onTable}
+use Rattle.slots.specs.declared.lawful.Side.{Side}
+use Rattle.share_words.specs.Share.{shareLen, fresh, dropped, slotCount, tableLen}
+use Rattle.slots.specs.Share.{lawful, opened}
+use Rattle.slots.specs.Table.{Out, itself, shareAt, tableRungs, onTable}
 use Rattle.slots.specs.Calls.{openRungs, openedRungs, opening, closing, grouping}
 
 -- the table after a call
@@ -34,7 +35,7 @@ CallsCommute = (X Y : Type 0) (refuse : ℕ → X) (f : List ℕ → Out X) (ref
 -- 01: "no call changes a share that it doesn't name": for any call on a share, any other slot, and any table
 abbrev pub OthersStay : Type 1
 OthersStay = (X : Type 0) (refuse : ℕ → X) (f : List ℕ → Out X) → Keeps f
-    → (i j : ℕ) → (i ≡ j → ⊥) → j < 8 → (t : List ℕ) → shareAt (after refuse f i t) j ≡ shareAt t j
+    → (i j : ℕ) → (i ≡ j → ⊥) → j < slotCount → (t : List ℕ) → shareAt (after refuse f i t) j ≡ shareAt t j
 
 -- 01: "Every call on a lawful share leaves it lawful"
 pub record StaysLawful (side : Side) (f : List ℕ → Out ℕ) : Type 0 where
@@ -42,7 +43,7 @@ pub record StaysLawful (side : Side) (f : List ℕ → Out ℕ) : Type 0 where
 
 -- 01: "All zeros is fresh"
 abbrev pub FreshLawful : Type 0
-FreshLawful = (side : Side) (slot : ℕ) → slot < 8 → lawful side (shareAt (replicate tableLen 0) slot) ≡ true
+FreshLawful = (side : Side) (slot : ℕ) → slot < slotCount → lawful side (shareAt (replicate tableLen 0) slot) ≡ true
 
 -- each number is given exactly when its rule is broken and none before it, in the order of 01
 abbrev pub OpenExactly : Type 0

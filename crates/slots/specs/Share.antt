@@ -1,59 +1,29 @@
--- The words of a slot's share, and when they are lawful. From word 0 on: the eight parameters, the count of accepted objects, the mark of
--- the reference, the mark of the current full object's `prft` with its four fields, and the set of moof fields.
+-- When the words of a slot's share are lawful.
 -- ==== The rules
-use Prim.Native.Nat.{ℕ, _-_, _^_}
+use Prim.Native.Nat.{ℕ, _-_}
 use mathlib.Core.Bool.{Bool, cond, not, _&&_, _||_}
 use mathlib.Core.List.{List, [], _∷_, _++_}
 use lib.Dec.{eqb, leb}
-use lib.ListN.{getD, take, drop, replicate}
+use lib.ListN.{getD, drop, replicate}
 use lib.Seq.{slice}
 use Rattle.laws.specs.Tests.{_and_, allZero}
+use Rattle.constants.specs.Maxima.{numberMost}
 use Rattle.track.specs.declared.Asked.{Asked}
 use Rattle.track.specs.declared.Track.{Track}
-use Rattle.track.specs.Track.{narrow, u32}
-use Rattle.track.specs.Track.{lawful as lawfulTrack}
-use Rattle.fieldset.specs.Lawful.{lawful as lawfulSet}
-use Rattle.sizes.specs.Told.{sizesAgree}
-use Rattle.slots.specs.declared.share.Side.{Side}
-use Rattle.slots.specs.declared.share.Side.the-variants.{Encoder, Receiver}
-
--- the places of the words
-abbrev pub trackAt : ℕ
-trackAt = 0
-
-abbrev pub acceptedAt : ℕ
-acceptedAt = 8
-
-abbrev pub heldAt : ℕ
-heldAt = 9
-
-abbrev pub prftAt : ℕ
-prftAt = 10
-
-abbrev pub ntpAt : ℕ
-ntpAt = 11
-
-abbrev pub mediaTimeAt : ℕ
-mediaTimeAt = 12
-
-abbrev pub versionAt : ℕ
-versionAt = 13
-
-abbrev pub prftFlagsAt : ℕ
-prftFlagsAt = 14
-
-abbrev pub setAt : ℕ
-setAt = 15
-
-abbrev pub shareLen : ℕ
-shareLen = 996
+use Rattle.track.specs.Track.{narrow, u32, lawful as lawfulTrack}
+use Rattle.field_set.specs.Lawful.{lawful as lawfulSet}
+use Rattle.told_sizes.specs.Told.{sizesAgree}
+use Rattle.slots.specs.declared.lawful.Side.{Side}
+use Rattle.slots.specs.declared.lawful.Side.the-variants.{Encoder, Receiver}
+use Rattle.share_words.specs.Share.{trackAt, timescaleAt, trackDescriptionAt, trackDurationAt, trackSizeAt, trackFlagsAt, protectionAt, trackIvSizeAt}
+use Rattle.share_words.specs.Share.{acceptedAt, heldAt, prftAt, ntpAt, mediaTimeAt, versionAt, prftFlagsAt, prftEnd, setAt, shareLen}
 
 abbrev pub u24 : ℕ
 u24 = 0xff_ffff
 
--- 01: "any number on the wire, 2^62-1"
+-- 01: "any number on the wire"
 abbrev pub u62 : ℕ
-u62 = 2 ^ 62 - 1
+u62 = numberMost
 
 abbrev pub asked : ℕ → ℕ → ℕ → ℕ → ℕ → ℕ → ℕ → ℕ → Asked
 asked track timescale description duration size flags protection ivSize =
@@ -70,7 +40,9 @@ asked track timescale description duration size flags protection ivSize =
 
 -- the parameters that a share's words have
 abbrev pub askedOf : List ℕ → Asked
-askedOf s = asked (getD s trackAt 0) (getD s 1 0) (getD s 2 0) (getD s 3 0) (getD s 4 0) (getD s 5 0) (getD s 6 0) (getD s 7 0)
+askedOf s =
+    asked (getD s trackAt 0) (getD s timescaleAt 0) (getD s trackDescriptionAt 0) (getD s trackDurationAt 0) (getD s trackSizeAt 0)
+    (getD s trackFlagsAt 0) (getD s protectionAt 0) (getD s trackIvSizeAt 0)
 
 abbrev pub trackOf : List ℕ → Track
 trackOf s = narrow (askedOf s)
@@ -88,7 +60,7 @@ acceptedOk Receiver n = leb n u32
 -- bits in version 0. It is a full object's, and so its times came off the wire, or went on it, as they are (D12).
 unfoldable pub prftOk : List ℕ → Bool
 prftOk s =
-    cond (eqb (getD s prftAt 0) 0) (allZero (slice ntpAt setAt s))
+    cond (eqb (getD s prftAt 0) 0) (allZero (slice ntpAt prftEnd s))
     (eqb (getD s prftAt 0) 1
     && (leb (getD s versionAt 0) 1
     && ((eqb (getD s versionAt 0) 1 || leb (getD s mediaTimeAt 0) u32)
@@ -118,13 +90,6 @@ isOpen s = not (eqb (getD s trackAt 0) 0)
 unfoldable pub lawful : Side → List ℕ → Bool
 lawful side s = cond (eqb (getD s trackAt 0) 0) (allZero s) (openOk side s)
 
-abbrev pub fresh : List ℕ
-fresh = replicate shareLen 0
-
 -- a share that was just opened
 unfoldable pub opened : Asked → List ℕ
-opened a = paramWords a ++ replicate 988 0
-
--- a share without its reference and all that belongs to it
-unfoldable pub dropped : List ℕ → List ℕ
-dropped s = take heldAt s ++ replicate 987 0
+opened a = paramWords a ++ replicate (shareLen - acceptedAt) 0

@@ -5,7 +5,7 @@ use mathlib.Core.List.{List, [], _∷_, _++_}
 use lib.Dec.{eqb, leb}
 use lib.ListN.{length, take, drop}
 use Rattle.laws.specs.Ladder.{Rung, _else_, ladder}
-use Rattle.slots.specs.Share.{shareLen}
+use Rattle.share_words.specs.Share.{shareLen, tableLen}
 
 -- what a call answers, and the words as they then are
 pub record Out (X : Type 0) : Type 0 where
@@ -18,9 +18,6 @@ out x s = record { answer = x; words = s }
 -- an answer that is a number alone
 abbrev pub itself : ℕ → ℕ
 itself k = k
-
-abbrev pub tableLen : ℕ
-tableLen = 7968
 
 -- 01: "each slot's share of it starts at slot number times the share's length"
 abbrev pub shareAt : List ℕ → ℕ → List ℕ

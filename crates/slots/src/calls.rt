@@ -1,22 +1,22 @@
 // The calls that open a slot, close it and start a group in it, for an encoder's table and for a receiver's.
 ghost use mathlib.Core.Path.{_≡_};
 ghost use lib.ListN.{length};
-ghost use Rattle.slots.specs.Share.{shareLen, asked};
+ghost use Rattle.share_words.specs.Share.{shareLen};
+ghost use Rattle.slots.specs.Share.{asked};
 ghost use Rattle.slots.specs.Table.{out, onTable, itself};
 ghost use Rattle.slots.specs.Calls.{opening, closing, grouping};
-use crate::share;
-use crate::share::SHARE;
-use crate::share::Side;
+use crate::lawful;
+use crate::lawful::Side;
+use share_words::share;
+use share_words::share::SHARE;
+use share_words::share::TABLE;
 use track::Asked;
-
-// The words of a table of eight shares.
-pub const TABLE: usize = 7968;
 
 fn open_share(side: Side, s: &mut [u64], a: Asked) -> u64
     requires { ⌜ length (now s) ≡ shareLen ⌝ }
     ensures { λ r. ⌜ out r (now (s .exit)) ≡ opening side a (now (s .entry)) ⌝ }
 {
-    if !share::is_lawful(side, s) {
+    if !lawful::is_lawful(side, s) {
         return 18;
     }
     if s[share::TRACK] != 0 {
@@ -25,7 +25,7 @@ fn open_share(side: Side, s: &mut [u64], a: Asked) -> u64
     if !track::is_lawful(a) {
         return 4;
     }
-    share::write_asked(s, a);
+    lawful::write_asked(s, a);
     0
 }
 
@@ -33,13 +33,13 @@ fn close_share(side: Side, s: &mut [u64]) -> u64
     requires { ⌜ length (now s) ≡ shareLen ⌝ }
     ensures { λ r. ⌜ out r (now (s .exit)) ≡ closing side (now (s .entry)) ⌝ }
 {
-    if !share::is_lawful(side, s) {
+    if !lawful::is_lawful(side, s) {
         return 18;
     }
     if s[share::TRACK] == 0 {
         return 2;
     }
-    share::clear(s, share::TRACK, SHARE);
+    share::wipe(s);
     0
 }
 
@@ -47,13 +47,13 @@ fn group_share(side: Side, s: &mut [u64]) -> u64
     requires { ⌜ length (now s) ≡ shareLen ⌝ }
     ensures { λ r. ⌜ out r (now (s .exit)) ≡ grouping side (now (s .entry)) ⌝ }
 {
-    if !share::is_lawful(side, s) {
+    if !lawful::is_lawful(side, s) {
         return 18;
     }
     if s[share::TRACK] == 0 {
         return 2;
     }
-    share::clear(s, share::HELD, SHARE);
+    share::drop_reference(s);
     0
 }
 
@@ -71,7 +71,10 @@ pub fn open(
     protection: u64,
     iv_size: u64,
 ) -> u64
-    ensures { λ r. ⌜ out r (now (table .exit)) ≡ onTable itself (opening side (asked track timescale description duration size flags protection «iv_size»)) (now (table .entry)) slot ⌝ }
+    ensures { λ r. ⌜ out r (now (table .exit))
+        ≡ onTable itself
+        (opening side (asked track timescale description duration size flags protection «iv_size»))
+        (now (table .entry)) slot ⌝ }
 {
     if table.len() != TABLE {
         return 18;
@@ -89,7 +92,7 @@ pub fn open(
         protection,
         iv_size,
     };
-    let at = slot as usize * SHARE;
+    let at = share::start_of(slot);
     open_share(side, &mut table[at..at + SHARE], a)
 }
 
@@ -103,8 +106,8 @@ pub fn close(side: Side, table: &mut [u64], slot: u64) -> u64
     if 7 < slot {
         return 1;
     }
-    let from = slot as usize * SHARE;
-    close_share(side, &mut table[from..from + SHARE])
+    let at = share::start_of(slot);
+    close_share(side, &mut table[at..at + SHARE])
 }
 
 // Starts a group in a slot: the reference is dropped.
@@ -117,6 +120,6 @@ pub fn start_group(side: Side, table: &mut [u64], slot: u64) -> u64
     if 7 < slot {
         return 1;
     }
-    let start = slot as usize * SHARE;
-    group_share(side, &mut table[start..start + SHARE])
+    let at = share::start_of(slot);
+    group_share(side, &mut table[at..at + SHARE])
 }

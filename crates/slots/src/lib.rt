@@ -1,3 +1,3 @@
 // Eight slots in a table of words that the host lends.
-pub mod share; // share.rt: the words of a slot's share, and whether they are lawful
+pub mod lawful; // lawful.rt: whether the words of a share are lawful; its parameters
 pub mod calls; // calls.rt: open, close, start a group

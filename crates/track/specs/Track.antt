@@ -10,6 +10,10 @@ use Rattle.track.specs.declared.Track.{Track}
 abbrev pub u32 : ℕ
 u32 = 0xffff_ffff
 
+-- flags in their five-bit form
+abbrev pub u5 : ℕ
+u5 = 31
+
 -- 01: "protection none, cenc or cbcs" are 0, 1 and 2
 abbrev pub none : ℕ
 none = 0
@@ -33,7 +37,7 @@ lawful a =
     and (leb 1 (a .description) and leb (a .description) u32)
     and leb (a .duration) u32
     and leb (a .size) u32
-    and leb (a .flags) 31
+    and leb (a .flags) u5
     and ivOk (a .protection) (a .«iv_size»)
 
 -- the same numbers, cast down

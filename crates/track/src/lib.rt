@@ -1,4 +1,5 @@
 // What a track is opened with.
+// Letters: `a` the parameters as asked.
 ghost use mathlib.Core.Path.{_≡_};
 ghost use mathlib.Core.Bool.{true};
 ghost use Rattle.track.specs.Track.{ivOk, lawful, narrow};
@@ -27,6 +28,8 @@ pub struct Track {
     pub iv_size: u8,
 }
 
+const U5: u64 = 31;
+
 const U32: u64 = 0xffff_ffff;
 
 // What `protection` may be.
@@ -51,7 +54,7 @@ pub fn is_lawful(a: Asked) -> bool
         & (((1 <= a.timescale) & (a.timescale <= U32))
             & (((1 <= a.description) & (a.description <= U32))
                 & ((a.duration <= U32)
-                    & ((a.size <= U32) & ((a.flags <= 31) & iv_ok(a.protection, a.iv_size))))))
+                    & ((a.size <= U32) & ((a.flags <= U5) & iv_ok(a.protection, a.iv_size))))))
 }
 
 // The parameters cast down, once they are known to be in range.

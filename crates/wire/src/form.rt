@@ -1,4 +1,5 @@
 // The forms that a varint can have, each a table of rows.
+// Letters: `b` a number, `v` a number.
 ghost use mathlib.Core.Path.{_≡_};
 ghost use Prim.Native.Nat.{suc};
 ghost use Rattle.wire.specs.Form.{rows, byFirst, byValue, limit, row, longest};

@@ -1,7 +1,7 @@
 // One varint: read at a place, measured, written at a place.
+// Letters: `s` bytes that are read, `v` a number.
 ghost use mathlib.Core.Path.{_≡_};
-ghost use mathlib.Core.List.{List, [], _∷_, _++_};
-ghost use Prim.Native.Nat.{ℕ, _+_, _-_, _*_, _/_, _^_, _≤_, _<_};
+ghost use Prim.Native.Nat.{_+_, _-_, _*_, _/_, _^_, _≤_, _<_};
 ghost use lib.ListN.{length};
 ghost use lib.Seq.{slice, sets};
 ghost use Rattle.laws.specs.Bytes.{be, de};

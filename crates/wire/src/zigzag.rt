@@ -1,4 +1,5 @@
 // The number on the wire for a value, plain or as the zigzag of its distance from an old value, and back.
+// Letters: `z` a number on the wire.
 ghost use mathlib.Core.Path.{_≡_};
 ghost use Rattle.wire.specs.Form.{rows};
 ghost use Rattle.wire.specs.Zigzag.{fitted, codeOf, reached};

@@ -4,7 +4,7 @@ use denote.Ref.{now}
 use Rattle.wire.specs.declared.form.Form.the-variants.{Rfc9000}
 use Rattle.wire.specs.Form.{rows}
 use Rattle.slots.proofs.TableLaws.{wrong-length, wrong-slot, on-share}
-use Rattle.exchange.specs.Took.{refused}
+use Rattle.answers.specs.Took.{refused}
 use Rattle.encoder.specs.Encode.{wished, encoding}
 use Rattle.encoder.proofs.WriteLaws.{refused-is}
 use borrow.Author.Needs.{needs}
@@ -35,8 +35,8 @@ returns-2 c =
     ∙ wrong-slot (refused (now (a .output))) (encoding (rows Rfc9000) (wished (a .wish)) (now (a .chunk)) (now (a .output))) (now (a .table)) (a .slot)
     (i .before .if1 .left) (i .if2 .taken)
 
-mul-at : tie.Need-mul-at
-mul-at c = search needs
+start-of-requires : tie.Need-start-of-requires
+start-of-requires c κs = search needs
 
 add-take-share : tie.Need-add-take-share
 add-take-share c = search needs
@@ -65,10 +65,11 @@ same-length-2 c = search needs
 returns-3 : tie.Need-returns-3
 returns-3 c =
     let f = c .before .before .before .before in
-    let i = f .before .before .before .before .before in
+    let st = f .before .before .before .before .before in
+    let i = st .before in
     let b = i .before .before .before .before .before in
     let a = b .args in
-    on-share (refused (now (a .output))) (encoding (rows Rfc9000) (wished (a .wish)) (now (a .chunk)) (now (a .output))) (now (a .table)) (a .slot) _ _
+    on-share (refused (now (a .output))) (encoding (rows Rfc9000) (wished (a .wish)) (now (a .chunk)) (now (a .output))) (now (a .table)) (a .slot) (st .start-of .result) (st .start-of .ensures) _ _
     (i .before .if1 .left) (i .if2 .left) (f .take-share .ensures)
 
 pub encode-spec : {M : Type 1} → statement M
@@ -79,7 +80,7 @@ encode-spec =
     returns
     refuse-requires-2
     returns-2
-    mul-at
+    start-of-requires
     add-take-share
     mul-take-share
     sub-take-share

@@ -2,9 +2,9 @@
 use mathlib.Core.Path.{_∙_}
 use borrow.Author.Tests.{not-false}
 use denote.Ref.{now}
-use Rattle.fieldset.proofs.TidyLaws.{lawful-tidy}
-use Rattle.slots.specs.declared.share.Side.the-variants.{Encoder}
-use Rattle.exchange.proofs.OpenLaws.{share-tidy}
+use Rattle.field_set.proofs.TidyLaws.{lawful-tidy}
+use Rattle.slots.specs.declared.lawful.Side.the-variants.{Encoder}
+use Rattle.reference.proofs.OpenLaws.{share-tidy}
 use Rattle.encoder.proofs.WriteLaws.{refused-is, part-in, unfit, room, short, done-is}
 use borrow.Author.Needs.{needs}
 use Rattle.encoder.proofs.encode.write.Statement.{statement}

@@ -3,7 +3,7 @@ use native.Mathlib.Omega.{arith}
 use Rattle.encoder.proofs.BrandLaws.{brands-none, brands-long, brands-weighed}
 use borrow.Author.Needs.{needs}
 use mathlib.Core.Path.{sym}
-use Rattle.writing.proofs.ItemLaws.{weighed-as, weighed-nothing}
+use Rattle.locmaf_write_tuples.proofs.ItemLaws.{weighed-as, weighed-nothing}
 use Rattle.encoder.proofs.properties.brands_size.Statement.{statement}
 use Rattle.encoder.proofs.properties.brands_size.Tie as tie
 

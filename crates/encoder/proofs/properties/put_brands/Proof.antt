@@ -3,13 +3,13 @@ use Prim.Native.Nat.{_+_, _≤_}
 use lib.ListN.{length}
 use Rattle.laws.proofs.PartLaws.{Parts, parts-all, parts-room, parts-then, parts-none}
 use Rattle.wire.specs.Form.{rows}
-use Rattle.accepted.specs.Accepted.{brands}
-use Rattle.writing.specs.Items.{bytesOf}
+use Rattle.cmaf_read_chunk.specs.Accepted.{brands}
+use Rattle.locmaf_write_tuples.specs.Items.{bytesOf}
 use Rattle.encoder.specs.Object.{brandItems}
 use Rattle.encoder.proofs.GivenLaws.{brands-inside}
 use Rattle.encoder.proofs.BrandLaws.{brands-none, brands-long, brandParts, brand-parts}
 use borrow.Author.Needs.{needs}
-use Rattle.writing.proofs.PutLaws.{put-none}
+use Rattle.locmaf_write_tuples.proofs.PutLaws.{put-none}
 use Rattle.encoder.proofs.properties.put_brands.Statement.{statement}
 use Rattle.encoder.proofs.properties.put_brands.Tie as tie
 

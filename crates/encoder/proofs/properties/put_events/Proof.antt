@@ -2,12 +2,12 @@
 use lib.ListN.{getD}
 use Rattle.laws.proofs.PartLaws.{Parts, parts-all, parts-room, parts-then, parts-none}
 use Rattle.wire.specs.Form.{rows}
-use Rattle.accepted.specs.Accepted.{events}
-use Rattle.writing.specs.Items.{bytesOf}
+use Rattle.cmaf_read_chunk.specs.Accepted.{events}
+use Rattle.locmaf_write_tuples.specs.Items.{bytesOf}
 use Rattle.encoder.specs.Object.{eventItems}
 use Rattle.encoder.proofs.EventLaws.{all-words, all-in, times-fit, events-none, eventParts, event-parts}
 use borrow.Author.Needs.{needs}
-use Rattle.writing.proofs.PutLaws.{put-none}
+use Rattle.locmaf_write_tuples.proofs.PutLaws.{put-none}
 use Rattle.encoder.proofs.properties.put_events.Statement.{statement}
 use Rattle.encoder.proofs.properties.put_events.Tie as tie
 

@@ -1,7 +1,7 @@
 -- `receiver::judge::refused` meets its contract: a number, and what `Prft::none` gives. Assumes nothing.
 use borrow.Author.Needs.{needs}
 use mathlib.Core.Path.{ap}
-use Rattle.chunk.specs.declared.outer.Prft.{Prft}
+use Rattle.prft_value.specs.declared.Prft.{Prft}
 use Rattle.receiver.proofs.judge.refused.Statement.{statement}
 use Rattle.receiver.proofs.judge.refused.Tie as tie
 

@@ -1,9 +1,10 @@
 -- `receiver::receive::accept` meets its contract, by the laws of `proofs/AcceptLaws.antt`. Assumes nothing.
 use mathlib.Core.Path.{_∙_}
 use denote.Ref.{now}
-use Rattle.fieldset.proofs.TidyLaws.{lawful-tidy}
-use Rattle.slots.specs.declared.share.Side.the-variants.{Receiver}
-use Rattle.exchange.proofs.OpenLaws.{share-tidy}
+use Rattle.laws.proofs.GateLaws.{failed, held}
+use Rattle.field_set.proofs.TidyLaws.{lawful-tidy}
+use Rattle.slots.specs.declared.lawful.Side.the-variants.{Receiver}
+use Rattle.reference.proofs.OpenLaws.{share-tidy}
 use Rattle.receiver.proofs.JudgeLaws.{end-inside}
 use Rattle.receiver.proofs.AcceptLaws.{count-small, sequence-is, writable, room, short, done-is}
 use borrow.Author.Needs.{needs}
@@ -30,6 +31,9 @@ front-length-requires c κs =
     let b = c .before .before .before .before .before .before .before .before in
     writable _ _ _ _ _ (b .pre .0) _ _ _ (b .pre .1)
 
+has-room-requires : tie.Need-has-room-requires
+has-room-requires c κs = search needs
+
 refuse-requires : tie.Need-refuse-requires
 refuse-requires c κs = search needs
 
@@ -41,44 +45,46 @@ same-length-2 c = search needs
 
 returns : tie.Need-returns
 returns c =
-    let f = c .before .before .before .before .before .before .before .before .before .before in
+    let h = c .before .before .before .before .before .before .before .before .before .before in
+    let f = h .before in
     let b = f .before .before .before .before .before .before .before .before .before in
     c .before .before .before .before .refuse .ensures
     ∙ short _ _ _ _ _ (b .pre .0) _ _ _ (b .pre .1) (now (b .args .output)) _ (f .front-length .ensures)
-    (c .before .before .before .before .before .before .before .before .before .if1 .taken)
+    (failed (h .has-room .ensures) (c .before .before .before .before .before .before .before .before .before .if1 .taken))
 
 slice-read-count : tie.Need-slice-read-count
 slice-read-count c = search needs
 
 add-count : tie.Need-add-count
 add-count c =
-    let b = c .before .before .before .before .before .before .before .before .before .before .before in
+    let b = c .before .before .before .before .before .before .before .before .before .before .before .before in
     let z = count-small _ _ _ _ _ (b .pre .0) in
     search needs
 
 put-front-requires : tie.Need-put-front-requires
 put-front-requires c κs =
-    let f = c .before .before .before in
+    let h = c .before .before .before in
+    let f = h .before in
     let b = f .before .before .before .before .before .before .before .before .before in (
       writable _ _ _ _ _ (b .pre .0) _ _ _ (b .pre .1),
-      room _ _ _ _ _ (b .pre .0) _ _ _ (b .pre .1) _ _ (f .front-length .ensures) (c .before .before .if1 .left) _,
+      room _ _ _ _ _ (b .pre .0) _ _ _ (b .pre .1) _ _ (f .front-length .ensures) (held (h .has-room .ensures) (c .before .before .if1 .left)) _,
     )
 
 keep-requires : tie.Need-keep-requires
 keep-requires c κs =
-    let b = c .before .before .before .before .before .before .before .before .before .before .before .before .before .before .before .before in
+    let b = c .before .before .before .before .before .before .before .before .before .before .before .before .before .before .before .before .before in
     let a = b .pre .0 in
     let r = b .pre .1 in
     ((a .share, r .writable .set .long), (share-tidy Receiver _ (a .share) (a .lawful) (a .opened), lawful-tidy _ _ (r .writable .set .long) (r .good)))
 
 sub-result : tie.Need-sub-result
 sub-result c =
-    let f = c .before .before .before .before .before .before .before .before .before .before in
+    let f = c .before .before .before .before .before .before .before .before .before .before .before in
     end-inside (f .before .before .before .before .before .before .before .before .before .pre .0)
 
 part-result-start : tie.Need-part-result-start
 part-result-start c =
-    let f = c .before .before .before .before .before .before .before .before .before .before in
+    let f = c .before .before .before .before .before .before .before .before .before .before .before in
     end-inside (f .before .before .before .before .before .before .before .before .before .pre .0)
 
 part-result-end : tie.Need-part-result-end
@@ -93,10 +99,11 @@ same-length-4 c = search needs
 returns-2 : tie.Need-returns-2
 returns-2 c =
     let w = c .before .before .before .before .before .before .before in
-    let f = w .before .before .before .before in
+    let h = w .before .before .before .before in
+    let f = h .before in
     let b = f .before .before .before .before .before .before .before .before .before in
     done-is _ _ _ _ _ (b .pre .0) _ _ _ (b .pre .1) (now (b .args .output)) _ _ _ _ (sequence-is _ _ _ _ _ (b .pre .0)) (w .put-front .ensures .0)
-    (room _ _ _ _ _ (b .pre .0) _ _ _ (b .pre .1) _ _ (f .front-length .ensures) (w .before .before .before .if1 .left) _) (w .put-front .ensures .1)
+    (room _ _ _ _ _ (b .pre .0) _ _ _ (b .pre .1) _ _ (f .front-length .ensures) (held (h .has-room .ensures) (w .before .before .before .if1 .left)) _) (w .put-front .ensures .1)
     (c .before .before .before .keep .ensures)
 
 pub accept-spec : {M : Type 1} → statement M
@@ -109,6 +116,7 @@ accept-spec =
     part-names-start
     part-names-end
     front-length-requires
+    has-room-requires
     refuse-requires
     same-length
     same-length-2

@@ -3,7 +3,7 @@ use denote.Ref.{now}
 use Rattle.wire.specs.declared.form.Form.the-variants.{Rfc9000}
 use Rattle.wire.specs.Form.{rows}
 use Rattle.slots.proofs.TableLaws.{wrong-length, wrong-slot, on-share}
-use Rattle.exchange.specs.Took.{refused}
+use Rattle.answers.specs.Took.{refused}
 use Rattle.receiver.specs.Receive.{receiving}
 use borrow.Author.Needs.{needs}
 use Rattle.receiver.proofs.receive.receive.Statement.{statement}
@@ -27,8 +27,8 @@ returns-2 c =
     (c .before .before .if1 .left)
     (c .before .if2 .taken)
 
-mul-at : tie.Need-mul-at
-mul-at c = search needs
+start-of-requires : tie.Need-start-of-requires
+start-of-requires c κs = search needs
 
 add-take-object : tie.Need-add-take-object
 add-take-object c = search needs
@@ -56,11 +56,13 @@ same-length-2 c = search needs
 
 returns-3 : tie.Need-returns-3
 returns-3 c =
-    let a = c .before .before .before .before .before .before .before .before .before .before .before .before .before .before .args in
-    on-share (refused (now (a .output))) (receiving (rows Rfc9000) (now (a .object)) (now (a .output))) (now (a .table)) (a .slot) _ _
-    (c .before .before .before .before .before .before .before .before .before .before .if1 .left)
-    (c .before .before .before .before .before .before .before .before .before .if2 .left)
-    (c .before .before .before .before .take-object .ensures)
+    let f = c .before .before .before .before in
+    let st = f .before .before .before .before .before in
+    let i = st .before in
+    let a = i .before .before .before .before .before .args in
+    on-share (refused (now (a .output))) (receiving (rows Rfc9000) (now (a .object)) (now (a .output))) (now (a .table)) (a .slot)
+    (st .start-of .result) (st .start-of .ensures) _ _
+    (i .before .if1 .left) (i .if2 .left) (f .take-object .ensures)
 
 pub receive-spec : {M : Type 1} → statement M
 receive-spec =
@@ -70,7 +72,7 @@ receive-spec =
     returns
     slice-aggregate-result-2
     returns-2
-    mul-at
+    start-of-requires
     add-take-object
     mul-take-object
     sub-take-object

@@ -13,8 +13,8 @@ returns c = let a = c .before .before .args in wrong-length itself (closing (a .
 returns-2 : tie.Need-returns-2
 returns-2 c = let a = c .before .before .before .args in wrong-slot itself (closing (a .side)) (now (a .table)) (a .slot) (c .before .if1 .left) (c .if2 .taken)
 
-mul-from : tie.Need-mul-from
-mul-from c = search needs
+start-of-requires : tie.Need-start-of-requires
+start-of-requires c κs = search needs
 
 add-close-share : tie.Need-add-close-share
 add-close-share c = search needs
@@ -38,7 +38,11 @@ same-length : tie.Need-same-length
 same-length c = search needs
 
 returns-3 : tie.Need-returns-3
-returns-3 c = let a = c .before .before .before .before .before .before .before .args in on-share itself (closing (a .side)) (now (a .table)) (a .slot) _ _ (c .before .before .before .before .before .if1 .left) (c .before .before .before .before .if2 .left) (c .before .before .close-share .ensures)
+returns-3 c =
+    let b = c .before .before .before .before in
+    let a = b .before .before .before .before .args in
+    on-share itself (closing (a .side)) (now (a .table)) (a .slot) (b .start-of .result) (b .start-of .ensures) _ _
+    (b .before .before .if1 .left) (b .before .if2 .left) (c .before .before .close-share .ensures)
 
 pub close-spec : {M : Type 1} → statement M
 close-spec =
@@ -46,7 +50,7 @@ close-spec =
     (tie.spec
     returns
     returns-2
-    mul-from
+    start-of-requires
     add-close-share
     mul-close-share
     sub-close-share

@@ -14,8 +14,8 @@ returns c = let a = c .before .before .args in wrong-length itself (opening (a .
 returns-2 : tie.Need-returns-2
 returns-2 c = let a = c .before .before .before .args in wrong-slot itself (opening (a .side) (asked (a .track) (a .timescale) (a .description) (a .duration) (a .size) (a .flags) (a .protection) (a .iv-size))) (now (a .table)) (a .slot) (c .before .if1 .left) (c .if2 .taken)
 
-mul-at : tie.Need-mul-at
-mul-at c = search needs
+start-of-requires : tie.Need-start-of-requires
+start-of-requires c κs = search needs
 
 add-open-share : tie.Need-add-open-share
 add-open-share c = search needs
@@ -39,7 +39,11 @@ same-length : tie.Need-same-length
 same-length c = search needs
 
 returns-3 : tie.Need-returns-3
-returns-3 c = let a = c .before .before .before .before .before .before .before .args in on-share itself (opening (a .side) (asked (a .track) (a .timescale) (a .description) (a .duration) (a .size) (a .flags) (a .protection) (a .iv-size))) (now (a .table)) (a .slot) _ _ (c .before .before .before .before .before .if1 .left) (c .before .before .before .before .if2 .left) (c .before .before .open-share .ensures)
+returns-3 c =
+    let b = c .before .before .before .before in
+    let a = b .before .before .before .before .args in
+    on-share itself (opening (a .side) (asked (a .track) (a .timescale) (a .description) (a .duration) (a .size) (a .flags) (a .protection) (a .iv-size))) (now (a .table)) (a .slot) (b .start-of .result) (b .start-of .ensures) _ _
+    (b .before .before .if1 .left) (b .before .if2 .left) (c .before .before .open-share .ensures)
 
 pub open-spec : {M : Type 1} → statement M
 open-spec =
@@ -47,7 +51,7 @@ open-spec =
     (tie.spec
     returns
     returns-2
-    mul-at
+    start-of-requires
     add-open-share
     mul-open-share
     sub-open-share

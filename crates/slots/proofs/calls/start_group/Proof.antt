@@ -13,8 +13,8 @@ returns c = let a = c .before .before .args in wrong-length itself (grouping (a 
 returns-2 : tie.Need-returns-2
 returns-2 c = let a = c .before .before .before .args in wrong-slot itself (grouping (a .side)) (now (a .table)) (a .slot) (c .before .if1 .left) (c .if2 .taken)
 
-mul-start : tie.Need-mul-start
-mul-start c = search needs
+start-of-requires : tie.Need-start-of-requires
+start-of-requires c κs = search needs
 
 add-group-share : tie.Need-add-group-share
 add-group-share c = search needs
@@ -38,7 +38,11 @@ same-length : tie.Need-same-length
 same-length c = search needs
 
 returns-3 : tie.Need-returns-3
-returns-3 c = let a = c .before .before .before .before .before .before .before .args in on-share itself (grouping (a .side)) (now (a .table)) (a .slot) _ _ (c .before .before .before .before .before .if1 .left) (c .before .before .before .before .if2 .left) (c .before .before .group-share .ensures)
+returns-3 c =
+    let b = c .before .before .before .before in
+    let a = b .before .before .before .before .args in
+    on-share itself (grouping (a .side)) (now (a .table)) (a .slot) (b .start-of .result) (b .start-of .ensures) _ _
+    (b .before .before .if1 .left) (b .before .if2 .left) (c .before .before .group-share .ensures)
 
 pub start-group-spec : {M : Type 1} → statement M
 start-group-spec =
@@ -46,7 +50,7 @@ start-group-spec =
     (tie.spec
     returns
     returns-2
-    mul-start
+    start-of-requires
     add-group-share
     mul-group-share
     sub-group-share

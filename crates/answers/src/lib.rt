@@ -1,0 +1,3 @@
+// What a call hands back, and what a refusal leaves behind.
+pub mod refusals; // refusals.rt: which numbers drop the reference
+pub mod room; // room.rt: whether the output has room

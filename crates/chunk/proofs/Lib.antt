@@ -1,4 +1,0 @@
-pub mod SizeLaws
-pub mod OuterLaws
-pub mod MoofLaws
-pub mod FrontLaws

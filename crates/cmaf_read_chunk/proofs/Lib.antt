@@ -1,0 +1,12 @@
+pub mod TakenLaws
+pub mod MaximaLaws
+pub mod EventLaws
+pub mod KeptLaws
+pub mod RungLaws
+pub mod SetValues
+pub mod SetKeeps
+pub mod SetRules
+pub mod LawfulSet
+pub mod BrandLaws
+pub mod ChunkFacts
+pub mod NoIvSize

@@ -1,0 +1,117 @@
+// A chunk read: every rule in the order of the numbers, each step over the whole chunk before the next; then its set.
+// Letters: `t` the track, `c` a chunk's bytes, `x` the words of the new set.
+ghost use mathlib.Core.Path.{_≡_};
+ghost use mathlib.Core.Bool.{true};
+ghost use Prim.Native.Nat.{_≤_};
+ghost use lib.ListN.{length, replicate};
+ghost use Rattle.wire.specs.Form.{rows};
+ghost use Rattle.event_value.specs.Events.{eventsLen};
+ghost use Rattle.field_table.specs.Lines.{setLen};
+ghost use Rattle.cmaf_read_shape.specs.Top.{topOf};
+ghost use Rattle.cmaf_read_shape.specs.Inner.{innerOf};
+ghost use Rattle.cmaf_read_boxes.specs.Right.{boxesOk};
+ghost use Rattle.cmaf_read_chunk.specs.Chunks.{refusedWith, takenAs, JudgedAs, ReadAs};
+use crate::maxima;
+use byte_parts::Part;
+use cmaf_read_boxes::right;
+use cmaf_read_shape::inner::Inner;
+use cmaf_read_shape::top::Top;
+use cmaf_read_tree::whole;
+use constants::maxima::EVENT_BYTES;
+use prft_value::Prft;
+use track::Track;
+use wire::form::Form;
+
+// The number 0, 5, 6, 8 or 7, and with 0 what the chunk has beside its set and its events: the `prft`, how many events, the bytes of their records, what
+// stands in the `styp` (no bytes: no box), and the payload.
+pub struct Chunk {
+    pub number: u64,
+    pub prft: Prft,
+    pub events: usize,
+    pub list: usize,
+    pub brands: Part,
+    pub payload: Part,
+}
+
+// The bytes of the events' records, or the number of what is wrong.
+struct Judged {
+    number: u64,
+    list: usize,
+}
+
+fn refused(number: u64) -> Chunk
+    ensures { λ r. ⌜ r ≡ refusedWith number ⌝ }
+{
+    Chunk {
+        number,
+        prft: Prft::none(),
+        events: 0,
+        list: 0,
+        brands: Part { at: 0, len: 0 },
+        payload: Part { at: 0, len: 0 },
+    }
+}
+
+fn taken(t: Track, c: &[u8], top: Top, list: usize) -> Chunk
+    requires { ⌜ (top ≡ topOf (now c)) × (boxesOk t (now c) ≡ true) ⌝ }
+    ensures { λ r. ⌜ r ≡ takenAs (now (c .entry)) list ⌝ }
+{
+    let styp = top.styp;
+    let prft = top.prft;
+    let mdat = top.mdat;
+    Chunk {
+        number: 0,
+        prft: cmaf_read_prelude::prft::prft_of(c, prft),
+        events: top.events,
+        list,
+        brands: cmaf_read_shape::parts::body(styp),
+        payload: cmaf_read_shape::parts::body(mdat),
+    }
+}
+
+// The maxima and then the rules, of a chunk whose boxes are right: 8, 7 or 0. The words of the events are kept on the way.
+fn judge(form: Form, t: Track, c: &[u8], top: Top, f: Inner, events: &mut [u64]) -> Judged
+    requires { ⌜ (top ≡ topOf (now c)) × (f ≡ innerOf (now c) (top .moof)) ⌝ }
+    requires { ⌜ (boxesOk t (now c) ≡ true) × (length (now events) ≡ eventsLen) ⌝ }
+    ensures { λ r. ⌜ JudgedAs (rows form) t (now (c .entry)) r (now (events .exit)) ⌝ }
+{
+    if !maxima::counts_ok(t, c, top, f) {
+        return Judged { number: 8, list: 0 };
+    }
+    let emsgs = top.emsgs;
+    let tfdt = f.tfdt;
+    cmaf_read_prelude::emsg::keep_events(c, emsgs.at, top.events, &mut *events);
+    let bmdt = cmaf_read_moof::headers::bmdt_of(c, tfdt);
+    let list = locmaf_write_events::records::list_bytes(form, t, bmdt, events, top.events);
+    if (EVENT_BYTES as usize) < list {
+        return Judged { number: 8, list: 0 };
+    }
+    if !cmaf_read_rules::all::rules_ok(t, c, top, f, events) {
+        return Judged { number: 7, list: 0 };
+    }
+    Judged { number: 0, list }
+}
+
+// A chunk for a track. The words of the set are zeros before; both runs of words count only with the number 0.
+pub fn read_chunk(form: Form, t: Track, c: &[u8], events: &mut [u64], x: &mut [u64]) -> Chunk
+    requires { ⌜ t .«iv_size» ≤ 16 ⌝ }
+    requires { ⌜ (length (now events) ≡ eventsLen) × (now x ≡ replicate setLen 0) ⌝ }
+    ensures { λ r. ⌜ ReadAs (rows form) t (now (c .entry)) r (now (events .exit)) (now (x .exit)) ⌝ }
+{
+    if !whole::whole(c) {
+        return refused(5);
+    }
+    let top = cmaf_read_shape::top::top_of(c);
+    let moof = top.moof;
+    let f = cmaf_read_shape::inner::inner_of(c, moof);
+    let n = right::number(t, c, top, f);
+    if n != 0 {
+        return refused(n);
+    }
+    let j = judge(form, t, c, top, f, &mut *events);
+    if j.number != 0 {
+        return refused(j.number);
+    }
+    cmaf_read_set::set::put_set(t, c, f, &mut *x);
+    taken(t, c, top, j.list)
+}

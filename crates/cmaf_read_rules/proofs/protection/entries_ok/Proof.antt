@@ -1,0 +1,98 @@
+-- `cmaf_read_rules::protection::entries_ok` meets its contract: at each place, the test so far and the entries that are left. Assumes nothing.
+use Prim.Native.Nat.{_-_}
+use borrow.Author.Needs.{needs}
+use Rattle.cmaf_read_rules.proofs.CountLaws.{samples-few, senc-walk, rows-here, infos-here}
+use Rattle.cmaf_read_rules.proofs.EntryRules.{Checking, checking-start, checking-head, checking-pairs, checking-here, checking-len, checking-next, checking-end}
+use Rattle.cmaf_read_rules.proofs.protection.entries_ok.Statement.{statement}
+use Rattle.cmaf_read_rules.proofs.protection.entries_ok.Tie as tie
+
+abbrev Inv-loop : tie.InvT-loop
+Inv-loop c e r default saiz n ok₀ p₀ i₀ ok p i = Checking c e saiz r default n ok p i
+
+abbrev μ-loop : tie.MeasureT-loop
+μ-loop c e r default saiz n ok₀ p₀ i₀ ok p i = n - i
+
+loop-holds : tie.Need-loop-holds Inv-loop μ-loop
+loop-holds c =
+    let p = c .before .before .pre in
+    checking-start _ _ _ _ _ _ (senc-walk (p .0 .0) (p .0 .1) (p .1 .0 .0) (p .1 .0 .1) (p .1 .1)) (p .0 .0 .subsamples)
+
+pairs-at-requires : tie.Need-pairs-at-requires Inv-loop μ-loop
+pairs-at-requires c κs = checking-head _ _ _ _ _ (c .before .loop .inv) (c .loop-test .taken)
+
+map-length-requires : tie.Need-map-length-requires Inv-loop μ-loop
+map-length-requires c κs = search needs
+
+add-len : tie.Need-add-len Inv-loop μ-loop
+add-len c =
+    let m = c .before .map-length .ensures in
+    let k = c .before .before .pairs-at .ensures .0 in
+    let z = checking-len _ _ _ _ _ (c .before .before .before .before .loop .inv) (c .before .before .before .loop-test .taken) _ _ k m in
+    search needs
+
+size-at-requires : tie.Need-size-at-requires Inv-loop μ-loop
+size-at-requires c κs =
+    let p = c .before .before .before .before .before .before .before .pre in
+    (rows-here (p .0 .0) (p .1 .0 .1), (p .1 .0 .2, c .before .before .before .loop-test .taken))
+
+entry-ok-requires : tie.Need-entry-ok-requires Inv-loop μ-loop
+entry-ok-requires c κs =
+    let k = c .before .before .before .pairs-at .ensures .0 in
+    let g = c .before .before .before .before .before .loop .inv in
+    let h = c .before .before .before .before .loop-test .taken in
+    let z = checking-pairs _ _ _ _ _ g h in
+    ((k, search needs), checking-here _ _ _ _ _ g h)
+
+info-size-requires : tie.Need-info-size-requires Inv-loop μ-loop
+info-size-requires c κs =
+    let p = c .before .before .before .before .before .before .before .before .before .pre in
+    let h = c .before .before .before .before .before .loop-test .taken in
+    (p .0 .0 .saiz-in, (p .0 .0 .saiz-ok, infos-here (p .0 .0) (p .1 .0 .1) (p .1 .1) h))
+
+add-p : tie.Need-add-p Inv-loop μ-loop
+add-p c =
+    let m = c .before .before .before .before .map-length .ensures in
+    let k = c .before .before .before .before .before .pairs-at .ensures .0 in
+    let g = c .before .before .before .before .before .before .before .loop .inv in
+    let z = checking-len _ _ _ _ _ g (c .before .before .before .before .before .before .loop-test .taken) _ _ k m in
+    search needs
+
+add-i : tie.Need-add-i Inv-loop μ-loop
+add-i c =
+    let p = c .before .before .before .before .before .before .before .before .before .before .pre in
+    let z = samples-few (p .0 .0) (p .1 .0 .1) in
+    let h = c .before .before .before .before .before .before .loop-test .taken in
+    search needs
+
+loop-less : tie.Need-loop-less Inv-loop μ-loop
+loop-less c = search needs
+
+loop-again : tie.Need-loop-again Inv-loop μ-loop
+loop-again c =
+    let m = c .before .before .before .before .map-length .ensures in
+    let k = c .before .before .before .before .before .pairs-at .ensures .0 in
+    let g = c .before .before .before .before .before .before .before .loop .inv in
+    checking-next _ _ _ _ _ g (c .before .before .before .before .before .before .loop-test .taken) _ _ k m _ _ _ (c .before .entry-ok .ensures)
+    (c .before .before .size-at .ensures .0) (c .info-size .ensures .0)
+
+returns : tie.Need-returns Inv-loop μ-loop
+returns c = checking-end _ _ _ _ _ (c .before .loop .inv) (c .loop-test .left)
+
+pub entries-ok-spec : {M : Type 1} → statement M
+entries-ok-spec =
+    tie.close
+    (tie.spec
+    Inv-loop
+    μ-loop
+    loop-holds
+    pairs-at-requires
+    map-length-requires
+    add-len
+    size-at-requires
+    entry-ok-requires
+    info-size-requires
+    add-p
+    add-i
+    loop-less
+    loop-again
+    returns)

@@ -1,0 +1,11 @@
+pub mod EntryLengths
+pub mod EntryLoops
+pub mod EntryStores
+pub mod EntryWalk
+pub mod FitLaws
+pub mod MarkLaws
+pub mod ProtectionLaws
+pub mod ReadyLaws
+pub mod SetSays
+pub mod StoreTwice
+pub mod StoredLaws

@@ -1,0 +1,4 @@
+pub mod Entries
+pub mod Set
+pub mod Stored
+pub mod Gatherable

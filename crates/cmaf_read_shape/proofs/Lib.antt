@@ -1,0 +1,7 @@
+pub mod PartLaws
+pub mod RunLaws
+pub mod TopLaws
+pub mod InnerLaws
+pub mod LeftLaws
+pub mod OneBoxLaws
+pub mod WordLaws

@@ -1,0 +1,5 @@
+pub mod Parts
+pub mod Words
+pub mod Top
+pub mod Inner
+pub mod Left

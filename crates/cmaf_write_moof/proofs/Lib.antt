@@ -1,0 +1,2 @@
+pub mod ProtectionLaws
+pub mod MoofLaws

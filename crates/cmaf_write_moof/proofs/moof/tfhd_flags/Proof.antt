@@ -1,0 +1,54 @@
+-- `cmaf_write_moof::moof::tfhd_flags` meets its contract. Assumes nothing.
+use borrow.Author.Needs.{needs}
+use native.Mathlib.Omega.{arith}
+use Rattle.field_table.specs.Lines.{lines, lineFor}
+use Rattle.field_set.specs.Lawful.{has}
+use Rattle.cmaf_write_moof.specs.Moof.{tfhdFlags}
+use Rattle.cmaf_write_moof.proofs.moof.tfhd_flags.Statement.{statement}
+use Rattle.cmaf_write_moof.proofs.moof.tfhd_flags.Tie as tie
+
+shared-slice-read-flag-when : tie.Need-shared-slice-read-flag-when
+shared-slice-read-flag-when c = search needs
+
+flag-when-requires : tie.Need-flag-when-requires
+flag-when-requires c κs = search needs
+
+shared-slice-read-flag-when-2 : tie.Need-shared-slice-read-flag-when-2
+shared-slice-read-flag-when-2 c = search needs
+
+flag-when-requires-2 : tie.Need-flag-when-requires-2
+flag-when-requires-2 c κs = search needs
+
+shared-slice-read-flag-when-3 : tie.Need-shared-slice-read-flag-when-3
+shared-slice-read-flag-when-3 c = search needs
+
+flag-when-requires-3 : tie.Need-flag-when-requires-3
+flag-when-requires-3 c κs = search needs
+
+add-result : tie.Need-add-result
+add-result c = search needs
+
+add-result-2 : tie.Need-add-result-2
+add-result-2 c = search needs
+
+add-result-3 : tie.Need-add-result-3
+add-result-3 c = search needs
+
+returns : tie.Need-returns
+unfolding tfhdFlags has lines lineFor
+returns c = omega arith
+
+pub tfhd-flags-spec : {M : Type 1} → statement M
+tfhd-flags-spec =
+    tie.close
+    (tie.spec
+    shared-slice-read-flag-when
+    flag-when-requires
+    shared-slice-read-flag-when-2
+    flag-when-requires-2
+    shared-slice-read-flag-when-3
+    flag-when-requires-3
+    add-result
+    add-result-2
+    add-result-3
+    returns)

@@ -1,0 +1,2 @@
+pub mod Moof
+pub mod Lengths

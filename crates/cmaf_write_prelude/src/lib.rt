@@ -1,0 +1,2 @@
+// The first boxes of a chunk, written.
+pub mod outer; // outer.rt: styp and prft

@@ -1,0 +1,5 @@
+pub mod SizeLaws
+pub mod DurationLaws
+pub mod SumLaws
+pub mod SizesAdd
+pub mod AgreeLaws

@@ -1,0 +1,4 @@
+pub mod Sizes
+pub mod Durations
+pub mod Follows
+pub mod Sums

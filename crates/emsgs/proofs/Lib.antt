@@ -1,6 +1,0 @@
-pub mod NumberLaws
-pub mod RecordLaws
-pub mod ListLaws
-pub mod SumLoop
-pub mod FitLoop
-pub mod WriteLoop

@@ -1,5 +1,0 @@
-pub mod OpenLaws
-pub mod KeepLaws
-pub mod AcceptedLaws
-pub mod KeptLaws
-pub mod TookLaws

@@ -1,0 +1,7 @@
+pub mod RegionLaws
+pub mod TallyLaws
+pub mod LawfulLaws
+pub mod TidyLaws
+pub mod RuleLaws
+pub mod MarkLaws
+pub mod ValueLaws

@@ -1,3 +1,0 @@
-// One field of the set that an object gives: sent, deleted, or carried on from the reference.
-pub mod said; // said.rt: what the object says of an id
-pub mod cells; // cells.rt: one field

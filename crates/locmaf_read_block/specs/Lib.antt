@@ -1,0 +1,9 @@
+pub mod Front
+pub mod Tuples
+pub mod Numbers
+pub mod Records
+pub mod Entries
+pub mod Whole
+pub mod Written
+pub mod Events
+pub mod Wires

@@ -1,0 +1,2 @@
+// The events that an object gives.
+pub mod events; // events.rt: their values, on their own clocks

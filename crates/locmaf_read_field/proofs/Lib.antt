@@ -1,0 +1,5 @@
+pub mod PackLoop
+pub mod CellLaws
+pub mod TakeLaws
+pub mod MarkedLaws
+pub mod RoomLaws

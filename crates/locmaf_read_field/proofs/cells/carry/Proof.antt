@@ -1,0 +1,62 @@
+-- `locmaf_read_field::cells::carry` meets its contract, by the laws of `proofs/CellLaws.antt`. Assumes nothing.
+use denote.Ref.{now}
+use mathlib.Core.Path.{sym, _∙_, ap}
+use lib.ListN.{length, length-set}
+use lib.Seq.{length-sets}
+use Rattle.locmaf_read_field.proofs.CellLaws.{carry-ivs, carry-long, carry-same}
+use borrow.Author.Needs.{needs}
+use Rattle.locmaf_read_field.proofs.cells.carry.Statement.{statement}
+use Rattle.locmaf_read_field.proofs.cells.carry.Tie as tie
+
+is-ivs-requires : tie.Need-is-ivs-requires
+is-ivs-requires c κs = search needs
+
+lacking-requires : tie.Need-lacking-requires
+lacking-requires c κs = search needs
+
+returns : tie.Need-returns
+returns c = carry-ivs _ _ _ _ (now (c .before .before .before .before .before .args .r)) _ (sym (c .before .before .is-ivs .ensures) ∙ c .before .if1 .taken) (c .lacking .ensures) _
+
+misfit-requires : tie.Need-misfit-requires
+misfit-requires c κs = search needs
+
+returns-2 : tie.Need-returns-2
+returns-2 c = carry-long _ _ _ _ (now (c .before .before .before .before .before .before .args .r)) _ (sym (c .before .before .before .is-ivs .ensures) ∙ c .before .before .if1 .left) (c .before .if2 .taken) (c .misfit .ensures) _
+
+mul-x : tie.Need-mul-x
+mul-x c = search needs
+
+slice-write-x : tie.Need-slice-write-x
+slice-write-x c = search needs
+
+add-from : tie.Need-add-from
+add-from c = search needs
+
+copy-requires : tie.Need-copy-requires
+copy-requires c κs = search needs
+
+well-requires : tie.Need-well-requires
+well-requires c κs = search needs
+
+same-length : tie.Need-same-length
+same-length c = ap length (c .before .before .before .copy .ensures) ∙ simp (length-sets, length-set)
+
+returns-3 : tie.Need-returns-3
+returns-3 c = carry-same _ _ _ _ _ _ (sym (c .before .before .before .before .before .before .before .is-ivs .ensures) ∙ c .before .before .before .before .before .before .if1 .left) (c .before .before .before .before .before .if2 .left) (c .well .ensures) _ (c .before .before .before .copy .ensures)
+
+pub carry-spec : {M : Type 1} → statement M
+carry-spec =
+    tie.close
+    (tie.spec
+    is-ivs-requires
+    lacking-requires
+    returns
+    misfit-requires
+    returns-2
+    mul-x
+    slice-write-x
+    add-from
+    copy-requires
+    well-requires
+    same-length
+    returns-3)

@@ -1,0 +1,2 @@
+pub mod HeadLaws
+pub mod IdLaws

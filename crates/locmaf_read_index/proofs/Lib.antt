@@ -1,0 +1,9 @@
+pub mod WeighLaws
+pub mod NoteLaws
+pub mod IndexLoop
+pub mod LongLaws
+pub mod BodyLaws
+pub mod AnswerLaws
+pub mod CellLaws
+pub mod SaysLaws
+pub mod AnyOrder

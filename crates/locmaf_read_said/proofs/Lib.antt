@@ -1,0 +1,4 @@
+pub mod SaidLaws
+pub mod TellingLaws
+pub mod DeletionLaws
+pub mod AgainstLaws

@@ -1,0 +1,3 @@
+pub mod Said
+pub mod Deletions
+pub mod Against

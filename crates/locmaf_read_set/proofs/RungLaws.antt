@@ -1,0 +1,403 @@
+-- The rules of the fields in their order: what is found by taking id 11, the lines before it and those after it is what the rules ask. Assumes
+-- nothing.
+use Prim.Native.Nat.{ℕ, _-_, _/_, _≤_, _<_}
+use native.Mathlib.Omega.{arith}
+use mathlib.Core.Path.{_≡_, refl, sym, _∙_, ap}
+use mathlib.Core.Bool.{Bool, true, false, false≢true, not, _&&_}
+use mathlib.Core.List.{List, [], _∷_, _++_}
+use mathlib.Core.Option.{none, some}
+use borrow.Author.Tests.{leb-true}
+use lib.Dec.{leb}
+use lib.ListN.{length, getD}
+use lib.Seq.{slice, sets}
+use Rattle.constants.specs.Maxima.{samplesMost, subsamplesMost}
+use Rattle.laws.specs.Tests.{_and_, sum}
+use Rattle.laws.specs.Ladder.{Rung, ladder}
+use Rattle.laws.proofs.GateLaws.{failed, held}
+use Rattle.laws.proofs.LadderLaws.{broken, passed, top}
+use Rattle.laws.proofs.TestLaws.{left, right, both, and-left, and-right, and-end, and-assoc}
+use Rattle.wire.specs.declared.form.Row.{Row}
+use Rattle.wire.specs.declared.zigzag.Reached.the-variants.{To}
+use Rattle.track.specs.declared.Track.{Track}
+use Rattle.field_set.specs.declared.lawful.Tally.{Tally}
+use Rattle.field_table.specs.declared.lines.Want.{Want}
+use Rattle.field_table.specs.declared.lines.Want.the-variants.{One, LessOne, Count, Ivs, Sum}
+use Rattle.field_table.specs.declared.lines.Line.{Line}
+use Rattle.field_table.specs.declared.lines.Measure.{Measure}
+use Rattle.field_table.specs.Lines.{every, lines, spare, lineFor, setLen, wanted, lineCount}
+use Rattle.field_set.specs.Lawful.{saizOk, setRules, sameIvSize, valuesOf, lawful, TallyOf}
+use Rattle.field_set.proofs.TallyLaws.{saiz-is}
+use Rattle.locmaf_read_field.specs.declared.cells.Cell.{Cell}
+use Rattle.locmaf_read_said.specs.Said.{Says, saysIn}
+use Rattle.field_rules.specs.Fields.{numbers, Held, wordsOf}
+use Rattle.locmaf_read_field.specs.Cells.{Came}
+use Rattle.field_rules.proofs.RoomLaws.{wanted-room}
+use Rattle.locmaf_read_said.specs.declared.against.Against.{Against}
+use Rattle.field_rules.specs.Words.{measure, storeAll, setWords, noFields}
+use Rattle.locmaf_read_set.specs.Read.{brandsFit, marksIn, marks, newWords, countReached, countOf, cameOf, subsamples, came, fieldOf, fieldRungs, Readable, Measured, TakenAll, ReadAs}
+use Rattle.field_rules.proofs.SetLaws.{eleven-for, Fits, AllFit, words-length, stored-words, eleven-values, parted}
+use Rattle.locmaf_read_set.proofs.CameLaws.{came-early, late-first, second-eleven, came-length}
+use Rattle.locmaf_read_set.proofs.StandingLaws.{marks-said}
+
+-- ---- a table in three runs
+
+every-append : (p : Line → Bool) (xs ys : List Line) → every p (xs ++ ys) ≡ (every p xs and every p ys)
+unfolding every _and_
+every-append p [] ys = refl
+every-append p (l ∷ xs) ys = ap (λ (b : Bool). p l and b) (every-append p xs ys) ∙ sym (and-assoc (p l) (every p xs) (every p ys))
+
+-- the lines before id 11, its own, and those after it
+every-parted : (p : Line → Bool) → every p lines ≡ (every p (slice 0 9 lines) and (every p (slice 9 10 lines) and every p (slice 10 lineCount lines)))
+every-parted p =
+    ap (every p) parted
+    ∙ every-append p (slice 0 9 lines) (slice 9 10 lines ++ slice 10 lineCount lines)
+    ∙ ap (λ (b : Bool). every p (slice 0 9 lines) and b) (every-append p (slice 9 10 lines) (slice 10 lineCount lines))
+
+-- the one line of id 11
+every-eleven : (p : Line → Bool) → every p (slice 9 10 lines) ≡ p (getD lines 9 spare)
+unfolding every lines
+every-eleven p = and-end (p (getD lines 9 spare))
+
+-- tests that say the same of the lines that pass another
+every-same : (p q s : Line → Bool) → ((l : Line) → s l ≡ true → p l ≡ q l) → (ls : List Line) → every s ls ≡ true → every p ls ≡ every q ls
+unfolding every
+every-same p q s h [] e = refl
+every-same p q s h (l ∷ ls) e = λ j. h l (left _ _ e) j and every-same p q s h ls (right _ _ e) j
+
+-- and stores
+store-same : (f g : Line → Held) (s : Line → Bool) → ((l : Line) → s l ≡ true → f l ≡ g l) → (ls : List Line) → every s ls ≡ true → (x : List ℕ)
+    → storeAll f ls x ≡ storeAll g ls x
+unfolding every storeAll
+store-same f g s h [] e x = refl
+store-same f g s h (l ∷ ls) e x =
+    ap (λ (w : Held). storeAll f ls (sets x (l .place) (wordsOf w))) (h l (left _ _ e))
+    ∙ store-same f g s h ls (right _ _ e) (sets x (l .place) (wordsOf (g l)))
+
+-- a field whose length doesn't go by the sum
+unfoldable bySum : Want → Bool
+bySum One = false
+bySum LessOne = false
+bySum Count = false
+bySum Ivs = false
+bySum Sum = true
+
+not-sum : (w : Want) → not (bySum w) ≡ true → w ≡ Sum → ⊥
+unfolding bySum
+not-sum w h e = let z : false ≡ true = rw e at h in false≢true z
+
+unfoldable early : Line → Bool
+early l = not (bySum (l .want))
+
+early-front : every early (slice 0 9 lines) ≡ true
+unfolding every early bySum lines _and_
+early-front = refl
+
+early-eleven : every early (slice 9 10 lines) ≡ true
+unfolding every early bySum lines _and_
+early-eleven = refl
+
+-- ---- tests as code groups them
+
+first-tests : (x y z : Bool) → ((x and (y and true)) and z) ≡ (x && (y && z))
+unfolding _and_
+first-tests true true z = refl
+first-tests true false z = refl
+first-tests false y z = refl
+
+second-tests : (x y u z : Bool) → ((x and (y and u)) and z) ≡ (x && (y && (u && z)))
+unfolding _and_
+second-tests true true true z = refl
+second-tests true true false z = refl
+second-tests true false u z = refl
+second-tests false y u z = refl
+
+last-tests : (x u s z : Bool) → (x ≡ true → u ≡ true → s ≡ z) → ((x and (true and u)) and z) ≡ (x && (u && s))
+unfolding _and_
+last-tests true true s z h = sym (h refl refl)
+last-tests true false s z h = refl
+last-tests false u s z h = refl
+
+-- a field that has room
+pub fits-of : (l : Line) (h : Held) → ((vs : List ℕ) → h ≡ some vs → length vs ≤ l .room) → Fits l h
+fits-of l none k = tt
+fits-of l (some vs) k = k vs refl
+
+-- lengths within the maxima
+pub measured : (t : Track) (n k : ℕ) → t .«iv_size» ≤ 16 → n ≤ samplesMost → k ≤ subsamplesMost → Measured (measure t n k)
+measured t n k iv few h = record { small = record { count = few; ivs = omega arith; sum = omega arith }; few = h }
+
+-- the words that the fields are stored into
+pub start-long : (n : ℕ) (x : List ℕ) → x ≡ setWords 0 n noFields → length x ≡ setLen
+start-long n x e = ap length e ∙ words-length 0 n noFields (λ i lt. tt)
+
+-- the rules of the set, by the marks that code makes
+pub rules-said : (F : List Row) (o index gone : List ℕ) (t : Track) (a : Against) (r : List ℕ) → Readable F o index gone t a r → (n : ℕ) (m : List ℕ)
+    → m ≡ marksIn index gone (a .held) r → (b : Bool) → b ≡ setRules t n m → b ≡ setRules t n (marks t (a .held) r (saysIn F o index))
+rules-said F o index gone t a r h n m em b eb = eb ∙ ap (setRules t n) (em ∙ marks-said F o index gone t a r h)
+
+-- a refusal
+pub refused : (rungs : List Rung) (words : List ℕ) (k : ℕ) (x : List ℕ) → (k ≡ 0 → ⊥) → k ≡ ladder rungs (λ j. j) 0 → length x ≡ setLen → ReadAs rungs words k x
+refused rungs words k x n e l = record { answered = e; stored = λ z. absurd (n z); long = l }
+
+-- ---- what the fields are by the count
+module _ (t : Track) (delta : Bool) (r : List ℕ) (says : Says) (n : ℕ) (en : countReached t delta r says ≡ To n) where
+  count-is : countOf t delta r says ≡ n
+  unfolding countOf
+  count-is = rw en
+
+  -- by the sum of the subsample counts
+  came-is : (l : Line) → came t delta r says l ≡ cameOf t delta r says (measure t n (sum (subsamples t delta r says))) l
+  unfolding came
+  came-is l = rw count-is
+
+  -- or by any
+  came-any : (k : ℕ) (l : Line) → early l ≡ true → came t delta r says l ≡ cameOf t delta r says (measure t n k) l
+  unfolding early
+  came-any k l e = came-is l ∙ came-early t delta r says n k (sum (subsamples t delta r says)) l (not-sum (l .want) e)
+
+  subsamples-are : subsamples t delta r says ≡ numbers (cameOf t delta r says (measure t n 0) (getD lines 9 spare) .field)
+  unfolding subsamples
+  subsamples-are = rw (count-is, eleven-for)
+
+  late-all : (m : Measure) → every (λ l. cameOf t delta r says m l .cell .first) (slice 10 lineCount lines) ≡ true
+  unfolding every lines
+  late-all m =
+      let at : (i : ℕ) → 10 ≤ i → i < lineCount → cameOf t delta r says m (getD lines i spare) .cell .first ≡ true = late-first t delta r says m in
+      both _ _ (at 10 (omega arith) (omega arith))
+      (both _ _ (at 11 (omega arith) (omega arith)) (both _ _ (at 12 (omega arith) (omega arith)) (both _ _ (at 13 (omega arith) (omega arith)) refl)))
+
+  -- a test of the lines before id 11, of its own and of those after it
+  same-front : (p : Came → Bool) (ls : List Line) → every early ls ≡ true
+      → every (λ l. p (came t delta r says l)) ls ≡ every (λ l. p (cameOf t delta r says (measure t n 0) l)) ls
+  same-front p ls e = every-same _ _ early (λ l h. ap p (came-any 0 l h)) ls e
+
+  same-rest : (p : Came → Bool) (ls : List Line)
+      → every (λ l. p (came t delta r says l)) ls ≡ every (λ l. p (cameOf t delta r says (measure t n (sum (subsamples t delta r says))) l)) ls
+  same-rest p ls = ap (λ (f : Line → Came). every (λ l. p (f l)) ls) (λ j l. came-is l j)
+
+  parts-are : (p : Came → Bool) (x y z : Bool)
+      → x ≡ every (λ l. p (cameOf t delta r says (measure t n 0) l)) (slice 0 9 lines)
+      → y ≡ every (λ l. p (cameOf t delta r says (measure t n 0) l)) (slice 9 10 lines)
+      → z ≡ every (λ l. p (cameOf t delta r says (measure t n (sum (subsamples t delta r says))) l)) (slice 10 lineCount lines)
+      → every (λ l. p (came t delta r says l)) lines ≡ (x and (y and z))
+  parts-are p x y z ex ey ez =
+      every-parted (λ l. p (came t delta r says l))
+      ∙ rw (ex, ey, ez, same-front p (slice 0 9 lines) early-front, same-front p (slice 9 10 lines) early-eleven, same-rest p (slice 10 lineCount lines))
+
+  module _ (words : length r ≡ setLen) (law : delta ≡ true → lawful t r ≡ true) (iv : t .«iv_size» ≤ 16) (few : n ≤ samplesMost) where
+    fits-at : (k : ℕ) → k ≤ subsamplesMost → AllFit (λ l. cameOf t delta r says (measure t n k) l .field)
+    fits-at k h i lt =
+        let m = measured t n k iv few h in
+        let room = wanted-room i lt (measure t n k) (m .small) (m .few) in
+        fits-of (getD lines i spare) (cameOf t delta r says (measure t n k) (getD lines i spare) .field)
+        (λ vs e. omega (arith, came-length t delta r words law i lt says (measure t n k) vs e, room))
+
+    -- ---- id 11, and the lines before it
+    module _ (x₀ : List ℕ) (ex : x₀ ≡ setWords 0 n noFields) (b : Cell) (x₁ : List ℕ)
+        (hb : TakenAll (cameOf t delta r says (measure t n 0)) (slice 9 10 lines) x₀ b x₁)
+        (c : Tally) (hc : TallyOf c ((253 - t .«iv_size») / 6) (valuesOf 11 n x₁)) where
+      eleven-long : length x₁ ≡ setLen
+      eleven-long = hb .long ∙ start-long n x₀ ex
+
+      eleven-second : b .second ≡ true
+      eleven-second = hb .second ∙ every-eleven (λ l. cameOf t delta r says (measure t n 0) l .cell .second) ∙ second-eleven t delta r says (measure t n 0)
+
+      eleven-came : came t delta r says (getD lines 9 spare) ≡ cameOf t delta r says (measure t n 0) (getD lines 9 spare)
+      unfolding early bySum lines
+      eleven-came = came-any 0 (getD lines 9 spare) refl
+
+      eleven-within : came t delta r says (lineFor 11 lines) .cell .within ≡ b .within
+      eleven-within =
+          ap (λ (l : Line). came t delta r says l .cell .within) eleven-for
+          ∙ ap (λ (z : Came). z .cell .within) eleven-came
+          ∙ sym (hb .within ∙ every-eleven (λ l. cameOf t delta r says (measure t n 0) l .cell .within))
+
+      module _ (bf : b .first ≡ true) where
+        -- the tallied words are the subsample counts
+        tallied-are : b .within ≡ true → valuesOf 11 n x₁ ≡ subsamples t delta r says
+        unfolding wanted lines
+        tallied-are bw =
+            let f : Line → Held = λ l. cameOf t delta r says (measure t n 0) l .field in
+            let e : x₁ ≡ storeAll f (slice 9 10 lines) (setWords 0 n noFields) = hb .stored bf eleven-second bw ∙ ap (storeAll f (slice 9 10 lines)) ex in
+            ap (valuesOf 11 n) e
+            ∙ eleven-values f (fits-at 0 (omega arith) 9 (omega arith)) n
+            (λ vs q. came-length t delta r words law 9 (omega arith) says (measure t n 0) vs q)
+            ∙ sym subsamples-are
+
+        saiz-found : b .within ≡ true → saizOk (t .«iv_size») (subsamples t delta r says) ≡ c .ok
+        saiz-found bw =
+            ap (saizOk (t .«iv_size»)) (sym (tallied-are bw))
+            ∙ saiz-is (t .«iv_size») (valuesOf 11 n x₁) (omega arith)
+            ∙ sym (hc .within)
+
+        sum-found : b .within ≡ true → c .ok ≡ true → c .sum ≡ sum (subsamples t delta r says)
+        sum-found bw ok = hc .total ok ∙ ap sum (tallied-are bw)
+
+        -- the second rule
+        sum-test : (came t delta r says (lineFor 11 lines) .cell .within
+            and (saizOk (t .«iv_size») (subsamples t delta r says) and leb (sum (subsamples t delta r says)) subsamplesMost))
+            ≡ (b .within && (c .ok && leb (c .sum) subsamplesMost))
+        unfolding _and_
+        sum-test =
+            ap (λ (z : Bool). z and (saizOk (t .«iv_size») (subsamples t delta r says) and leb (sum (subsamples t delta r says)) subsamplesMost)) eleven-within
+            ∙ go (b .within) refl
+          where
+            inner : b .within ≡ true → (k : Bool) → c .ok ≡ k → (k and leb (sum (subsamples t delta r says)) subsamplesMost) ≡ (k && leb (c .sum) subsamplesMost)
+            inner q true p = ap (λ (m : ℕ). leb m subsamplesMost) (sym (sum-found q p))
+            inner q false p = refl
+
+            go : (z : Bool) → b .within ≡ z
+                → (z and (saizOk (t .«iv_size») (subsamples t delta r says) and leb (sum (subsamples t delta r says)) subsamplesMost))
+                ≡ (z && (c .ok && leb (c .sum) subsamplesMost))
+            go true q = ap (λ (k : Bool). k and leb (sum (subsamples t delta r says)) subsamplesMost) (saiz-found q) ∙ inner q (c .ok) refl
+            go false q = refl
+
+      module _ (e : Cell) (x₂ : List ℕ) (he : TakenAll (cameOf t delta r says (measure t n 0)) (slice 0 9 lines) x₁ e x₂)
+          (w : Bool) (ew : w ≡ brandsFit (says 23)) where
+        front-long : length x₂ ≡ setLen
+        front-long = he .long ∙ eleven-long
+
+        -- the first rule
+        first-test : (every (λ l. came t delta r says l .cell .first) lines and brandsFit (says 23)) ≡ (e .first && (b .first && w))
+        first-test =
+            ap (λ (z : Bool). z and brandsFit (says 23))
+            (parts-are (λ z. z .cell .first) (e .first) (b .first) true (he .first) (hb .first) (sym (late-all _)))
+            ∙ ap (λ (z : Bool). (e .first and (b .first and true)) and z) (sym ew)
+            ∙ first-tests (e .first) (b .first) w
+
+        pub refuse-lengths : not (e .first && (b .first && w)) ≡ true → ReadAs (fieldRungs t delta r says) (newWords t delta r says 0) 14 x₂
+        unfolding fieldRungs
+        refuse-lengths q = refused _ _ 14 x₂ (λ z. omega arith) (broken _ 14 _ (λ k. k) 0 (failed (sym first-test) q)) front-long
+
+        module _ (q₁ : not (e .first && (b .first && w)) ≡ false) where
+          first-holds : (every (λ l. came t delta r says l .cell .first) lines and brandsFit (says 23)) ≡ true
+          first-holds = held (sym first-test) q₁
+
+          e-first : e .first ≡ true
+          e-first = and-left (e .first) (b .first && w) (held refl q₁)
+
+          b-first : b .first ≡ true
+          b-first = and-left (b .first) w (and-right (e .first) (b .first && w) (held refl q₁))
+
+          pub refuse-sum : not (b .within && (c .ok && leb (c .sum) subsamplesMost)) ≡ true → ReadAs (fieldRungs t delta r says) (newWords t delta r says 0) 15 x₂
+          unfolding fieldRungs
+          refuse-sum q =
+              refused _ _ 15 x₂ (λ z. omega arith)
+              (passed _ 14 _ (λ k. k) 0 first-holds (broken _ 15 _ (λ k. k) 0 (failed (sym (sum-test b-first)) q))) front-long
+
+          module _ (q₂ : not (b .within && (c .ok && leb (c .sum) subsamplesMost)) ≡ false) where
+            b-within : b .within ≡ true
+            b-within = and-left (b .within) (c .ok && leb (c .sum) subsamplesMost) (held refl q₂)
+
+            c-rest : (c .ok && leb (c .sum) subsamplesMost) ≡ true
+            c-rest = and-right (b .within) (c .ok && leb (c .sum) subsamplesMost) (held refl q₂)
+
+            sum-is : c .sum ≡ sum (subsamples t delta r says)
+            sum-is = sum-found b-first b-within (and-left (c .ok) (leb (c .sum) subsamplesMost) c-rest)
+
+            sum-small : c .sum ≤ subsamplesMost
+            sum-small = leb-true (c .sum) subsamplesMost (and-right (c .ok) (leb (c .sum) subsamplesMost) c-rest)
+
+            -- the lengths of ids 13 and 15 keep the maxima
+            pub sum-measured : Measured (measure t n (c .sum))
+            sum-measured = measured t n (c .sum) iv few sum-small
+
+            module _ (d : Cell) (x₃ : List ℕ) (hd : TakenAll (cameOf t delta r says (measure t n (c .sum))) (slice 10 lineCount lines) x₂ d x₃)
+                (rules : Bool) (er : rules ≡ setRules t n (marks t delta r says)) where
+              rest-long : length x₃ ≡ setLen
+              rest-long = hd .long ∙ front-long
+
+              rest-taken : TakenAll (cameOf t delta r says (measure t n (sum (subsamples t delta r says)))) (slice 10 lineCount lines) x₂ d x₃
+              rest-taken = rw sum-is at hd
+
+              -- the third rule
+              second-test : (every (λ l. came t delta r says l .cell .second) lines and setRules t (countOf t delta r says) (marks t delta r says))
+                  ≡ (e .second && (b .second && (d .second && rules)))
+              second-test =
+                  ap (λ (z : Bool). z and setRules t (countOf t delta r says) (marks t delta r says))
+                  (parts-are (λ z. z .cell .second) (e .second) (b .second) (d .second) (he .second) (hb .second) (rest-taken .second))
+                  ∙ ap (λ (m : ℕ). (e .second and (b .second and d .second)) and setRules t m (marks t delta r says)) count-is
+                  ∙ ap (λ (z : Bool). (e .second and (b .second and d .second)) and z) (sym er)
+                  ∙ second-tests (e .second) (b .second) (d .second) rules
+
+              sum-holds : (came t delta r says (lineFor 11 lines) .cell .within
+                  and (saizOk (t .«iv_size») (subsamples t delta r says) and leb (sum (subsamples t delta r says)) subsamplesMost)) ≡ true
+              sum-holds = held (sym (sum-test b-first)) q₂
+
+              pub refuse-rules : not (e .second && (b .second && (d .second && rules))) ≡ true
+                  → ReadAs (fieldRungs t delta r says) (newWords t delta r says 0) 14 x₃
+              unfolding fieldRungs
+              refuse-rules q =
+                  refused _ _ 14 x₃ (λ z. omega arith)
+                  (passed _ 14 _ (λ k. k) 0 first-holds (passed _ 15 _ (λ k. k) 0 sum-holds (broken _ 14 _ (λ k. k) 0 (failed (sym second-test) q))))
+                  rest-long
+
+              module _ (q₃ : not (e .second && (b .second && (d .second && rules))) ≡ false) where
+                e-second : e .second ≡ true
+                e-second = and-left (e .second) (b .second && (d .second && rules)) (held refl q₃)
+
+                d-second : d .second ≡ true
+                d-second =
+                    and-left (d .second) rules
+                    (and-right (b .second) (d .second && rules) (and-right (e .second) (b .second && (d .second && rules)) (held refl q₃)))
+
+                d-first : d .first ≡ true
+                d-first = hd .first ∙ late-all (measure t n (c .sum))
+
+                -- all fields are stored
+                all-stored : e .within ≡ true → d .within ≡ true → x₃ ≡ newWords t delta r says 0
+                all-stored ew dw =
+                    let f : Line → Held = fieldOf t delta r says in
+                    let g : Line → Held = λ l. cameOf t delta r says (measure t n 0) l .field in
+                    let k : Line → Held = λ l. cameOf t delta r says (measure t n (sum (subsamples t delta r says))) l .field in
+                    let fk : f ≡ k = λ j l. came-is l j .field in
+                    let s₁ : x₁ ≡ storeAll f (slice 9 10 lines) (setWords 0 n noFields) =
+                    hb .stored b-first eleven-second b-within
+                    ∙ ap (storeAll g (slice 9 10 lines)) ex
+                    ∙ sym (store-same f g early (λ l h. ap (λ (z : Came). z .field) (came-any 0 l h)) (slice 9 10 lines) early-eleven _) in
+                    let s₂ : x₂ ≡ storeAll f (slice 0 9 lines) x₁ =
+                    he .stored e-first e-second ew
+                    ∙ sym (store-same f g early (λ l h. ap (λ (z : Came). z .field) (came-any 0 l h)) (slice 0 9 lines) early-front x₁) in
+                    let s₃ : x₃ ≡ storeAll f (slice 10 lineCount lines) x₂ =
+                    rest-taken .stored d-first d-second dw ∙ ap (λ (z : Line → Held). storeAll z (slice 10 lineCount lines) x₂) (sym fk) in
+                    let fit : AllFit f = rw fk (fits-at (sum (subsamples t delta r says)) (omega (arith, sum-is, sum-small))) in
+                    s₃
+                    ∙ ap (storeAll f (slice 10 lineCount lines)) (s₂ ∙ ap (storeAll f (slice 0 9 lines)) s₁)
+                    ∙ stored-words f fit n
+                    ∙ ap (λ (m : ℕ). setWords 0 m f) (sym count-is)
+
+                module _ (s : Bool) (es : s ≡ sameIvSize t x₃) where
+                  -- the last rule
+                  last-test : (every (λ l. came t delta r says l .cell .within) lines and sameIvSize t (newWords t delta r says 0))
+                      ≡ (e .within && (d .within && s))
+                  last-test =
+                      ap (λ (z : Bool). z and sameIvSize t (newWords t delta r says 0))
+                      (parts-are (λ z. z .cell .within) (e .within) true (d .within) (he .within) (sym b-within ∙ hb .within) (rest-taken .within))
+                      ∙ last-tests (e .within) (d .within) s (sameIvSize t (newWords t delta r says 0)) (λ p q. es ∙ ap (sameIvSize t) (all-stored p q))
+
+                  second-holds : (every (λ l. came t delta r says l .cell .second) lines and setRules t (countOf t delta r says) (marks t delta r says))
+                      ≡ true
+                  second-holds = held (sym second-test) q₃
+
+                  pub refuse-values : not (e .within && (d .within && s)) ≡ true → ReadAs (fieldRungs t delta r says) (newWords t delta r says 0) 15 x₃
+                  unfolding fieldRungs
+                  refuse-values q =
+                      refused _ _ 15 x₃ (λ z. omega arith)
+                      (passed _ 14 _ (λ k. k) 0 first-holds
+                      (passed _ 15 _ (λ k. k) 0 sum-holds
+                      (passed _ 14 _ (λ k. k) 0 second-holds (broken _ 15 _ (λ k. k) 0 (failed (sym last-test) q)))))
+                      rest-long
+
+                  pub all-read : not (e .within && (d .within && s)) ≡ false → ReadAs (fieldRungs t delta r says) (newWords t delta r says 0) 0 x₃
+                  unfolding fieldRungs
+                  all-read q =
+                      let a : (e .within && (d .within && s)) ≡ true = held refl q in
+                      record {
+                        answered =
+                            passed _ 14 _ (λ k. k) 0 first-holds
+                            (passed _ 15 _ (λ k. k) 0 sum-holds
+                            (passed _ 14 _ (λ k. k) 0 second-holds (passed _ 15 _ (λ k. k) 0 (held (sym last-test) q) (top (λ k. k) 0))));
+                        stored = λ _.
+                            all-stored (and-left (e .within) (d .within && s) a) (and-left (d .within) s (and-right (e .within) (d .within && s) a));
+                        long = rest-long;
+                      }

@@ -1,0 +1,3 @@
+pub mod BmdtLaws
+pub mod PrftLaws
+pub mod PrftFacts

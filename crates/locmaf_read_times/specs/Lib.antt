@@ -1,0 +1,2 @@
+pub mod Bmdt
+pub mod Prft

@@ -1,0 +1,11 @@
+pub mod SameLoop
+pub mod WideLaws
+pub mod FieldLaws
+pub mod ChangeLaws
+pub mod SentLaws
+pub mod LinesLaws
+pub mod AbsentLaws
+pub mod StandLaws
+pub mod GoneLaws
+pub mod SetLaws
+pub mod GoneIds

@@ -1,0 +1,142 @@
+-- The loops over the lines of the table: fields weighed so far, and fields that are left to be written. Assumes nothing.
+use Prim.Native.Nat.{ℕ, _+_, _-_, _*_, _≤_, _<_}
+use native.Mathlib.Numerals.{add-one}
+use native.Mathlib.Omega.{arith}
+use mathlib.Core.Path.{_≡_, sym, _∙_, ap}
+use mathlib.Core.Bool.{Bool, true, _&&_}
+use mathlib.Core.List.{List, [], _∷_, _++_}
+use lib.ListN.{length, getD, take, length-take}
+use lib.Seq.{slice, slice-cons, slice-empty, take-suc, drop-append-le}
+use Rattle.laws.specs.Writes.{Wrote}
+use Rattle.wire.specs.declared.form.Row.{Row}
+use Rattle.laws.specs.Options.{isSome}
+use Rattle.track.specs.declared.Track.{Track}
+use Rattle.field_table.specs.declared.lines.Line.{Line}
+use Rattle.field_table.specs.Lines.{lines, spare, lineCount}
+use Rattle.field_table.proofs.LineLaws.{line-count}
+use Rattle.locmaf_write_tuples.specs.declared.tuples.Weight.{Weight}
+use Rattle.locmaf_write_tuples.specs.Items.{Items, nothing, _before_, bytesOf, weightMost, WeighedAs}
+use Rattle.locmaf_write_block.specs.Changes.{chunkLines, lineItems, lineMost}
+use Rattle.locmaf_write_block.specs.Fields.{beforeBmdt, beforeCount, linesItems, between, fieldAt}
+use Rattle.locmaf_write_tuples.proofs.ItemLaws.{nothing-before, before-nothing, before-assoc, weighed-both, weighed-nothing, weighed-as, weighed-within}
+use Rattle.locmaf_write_tuples.proofs.PutLaws.{Left, left-start, left-none, left-as, left-first, left-next}
+
+-- a run of lines with the one after it
+slice-snoc : (from i : ℕ) → from ≤ i → i < lineCount → slice from (i + 1) lines ≡ slice from i lines ++ (getD lines i spare ∷ [])
+slice-snoc from i h k =
+    let n : i < length lines = omega (arith, line-count) in
+    let m : from ≤ length (take i lines) = omega (arith, length-take i lines) in
+    rw (add-one, take-suc lines i spare n) (drop-append-le from (take i lines) (getD lines i spare ∷ []) m)
+
+module _ (F : List Row) (t : Track) (delta : Bool) (r x : List ℕ) where
+  lines-append : (xs ys : List Line) → linesItems F t delta r x (xs ++ ys) ≡ linesItems F t delta r x xs before linesItems F t delta r x ys
+  unfolding linesItems
+  lines-append [] ys = sym (nothing-before (linesItems F t delta r x ys))
+  lines-append (l ∷ xs) ys =
+      ap (λ (is : Items). lineItems t delta r x l F before is) (lines-append xs ys)
+      ∙ sym (before-assoc (lineItems t delta r x l F) (linesItems F t delta r x xs) (linesItems F t delta r x ys))
+
+  -- no line
+  pub lines-none : (i : ℕ) → between F t delta r x i i ≡ nothing
+  unfolding linesItems
+  lines-none i = rw (slice-empty i lines)
+
+  -- one line
+  line-alone : (l : Line) → linesItems F t delta r x (l ∷ []) ≡ lineItems t delta r x l F
+  unfolding linesItems
+  line-alone l = before-nothing (lineItems t delta r x l F)
+
+  -- one line more, at the end and at the front
+  lines-snoc : (from i : ℕ) → from ≤ i → i < lineCount → between F t delta r x from (i + 1) ≡ between F t delta r x from i before fieldAt F t delta r x i
+  lines-snoc from i h k =
+      ap (linesItems F t delta r x) (slice-snoc from i h k)
+      ∙ lines-append (slice from i lines) (getD lines i spare ∷ [])
+      ∙ ap (λ (is : Items). between F t delta r x from i before is) (line-alone (getD lines i spare))
+
+  pub lines-cons : (i to : ℕ) → i < to → to ≤ lineCount → between F t delta r x i to ≡ fieldAt F t delta r x i before between F t delta r x (i + 1) to
+  unfolding linesItems
+  lines-cons i to h k =
+      let n : to ≤ length lines = omega (arith, line-count) in
+      rw (slice-cons i to lines spare h n, add-one)
+
+  -- the lines of a chunk in three parts, between which BMDT and the sample count stand
+  pub three-parts : between F t delta r x 0 chunkLines ≡ between F t delta r x 0 beforeBmdt before between F t delta r x beforeBmdt beforeCount before between F t delta r x beforeCount chunkLines
+  unfolding lines
+  three-parts =
+      lines-append (slice 0 beforeBmdt lines) (slice beforeBmdt beforeCount lines ++ slice beforeCount chunkLines lines)
+      ∙ ap (λ (is : Items). between F t delta r x 0 beforeBmdt before is) (lines-append (slice beforeBmdt beforeCount lines) (slice beforeCount chunkLines lines))
+
+  -- the fields of the lines from one number up to the one at i were weighed
+  pub record Weighing (from to : ℕ) (sum : Weight) (i : ℕ) : Type 0 where
+    pub low : from ≤ i
+    pub high : i ≤ to
+    pub last : to ≤ chunkLines
+    pub done : WeighedAs F (between F t delta r x from i) (lineMost * (i - from)) sum
+
+  module _ (from to : ℕ) where
+    pub weigh-start : from ≤ to → to ≤ chunkLines → (sum : Weight) → (sum .fits ≡ true) × (sum .bytes ≡ 0) → Weighing from to sum from
+    weigh-start h k sum e =
+        record {
+          low = omega arith;
+          high = h;
+          last = k;
+          done = weighed-as (sym (lines-none from)) (weighed-nothing e);
+        }
+
+    module _ (sum : Weight) (i : ℕ) (h : Weighing from to sum i) where
+      -- all of them were
+      pub weigh-end : to ≤ i → WeighedAs F (between F t delta r x from to) (lineMost * (to - from)) sum
+      weigh-end le = let e : i ≡ to = omega (arith, h .high) in rw e at (h .done)
+
+      -- there is room for one more
+      pub weigh-room : (w : Weight) → WeighedAs F (fieldAt F t delta r x i) lineMost w → (sum .bytes ≤ weightMost) × (w .bytes ≤ weightMost)
+      weigh-room w p = (omega (arith, h .done .small, h .low, h .high, h .last), omega (arith, p .small))
+
+      -- one more was
+      pub weigh-next : i < to → (w : Weight) → WeighedAs F (fieldAt F t delta r x i) lineMost w
+          → (u : Weight) → (u .fits ≡ (sum .fits && w .fits)) × (u .bytes ≡ sum .bytes + w .bytes) → Weighing from to u (i + 1)
+      weigh-next lt w p u e =
+          record {
+            low = omega (arith, h .low);
+            high = omega arith;
+            last = h .last;
+            done =
+                weighed-as (sym (lines-snoc from i (h .low) (omega (arith, h .last))))
+                (weighed-within (omega (arith, h .low)) (weighed-both (h .done) p e));
+          }
+
+  -- the fields of the lines from the one at i on are left to be written
+  pub record Putting (l : List ℕ) (at from to : ℕ) (m : List ℕ) (p i : ℕ) : Type 0 where
+    pub high : i ≤ to
+    pub last : to ≤ chunkLines
+    pub left : Left F (between F t delta r x from to) l at (between F t delta r x i to) m p
+
+  module _ (l : List ℕ) (at from to : ℕ) where
+    pub put-start : from ≤ to → to ≤ chunkLines → isSome (between F t delta r x from to) ≡ true → at + length (bytesOf F (between F t delta r x from to)) ≤ length l
+        → Putting l at from to l at from
+    put-start h k s e = record { high = h; last = k; left = left-start F (between F t delta r x from to) l at s e }
+
+    module _ (m : List ℕ) (p i : ℕ) (h : Putting l at from to m p i) where
+      -- none is left
+      pub put-end : to ≤ i → Wrote l at (bytesOf F (between F t delta r x from to)) m p
+      put-end le =
+          let e : i ≡ to = omega (arith, h .high) in
+          let z : between F t delta r x i to ≡ nothing = rw e (lines-none to) in
+          left-none F (between F t delta r x from to) l at (left-as F (between F t delta r x from to) l at z (h .left))
+
+      module _ (lt : i < to) where
+        here : Left F (between F t delta r x from to) l at (fieldAt F t delta r x i before between F t delta r x (i + 1) to) m p
+        here = left-as F (between F t delta r x from to) l at (lines-cons i to lt (omega (arith, h .last))) (h .left)
+
+        -- the next one fits, and has room
+        pub put-first : (isSome (fieldAt F t delta r x i) ≡ true) × (p + length (bytesOf F (fieldAt F t delta r x i)) ≤ length m)
+        put-first = left-first F (between F t delta r x from to) l at (fieldAt F t delta r x i) (between F t delta r x (i + 1) to) m p here
+
+        -- it was written
+        pub put-next : (n : List ℕ) (q : ℕ) → Wrote m p (bytesOf F (fieldAt F t delta r x i)) n q → Putting l at from to n q (i + 1)
+        put-next n q w =
+            record {
+              high = omega arith;
+              last = h .last;
+              left = left-next F (between F t delta r x from to) l at (fieldAt F t delta r x i) (between F t delta r x (i + 1) to) m p here n q w;
+            }

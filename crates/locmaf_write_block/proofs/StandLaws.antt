@@ -1,0 +1,59 @@
+-- BMDT, the sample count and the lengths that fields go by, as code has them. Assumes nothing.
+use Prim.Native.Nat.{ℕ}
+use mathlib.Core.Path.{_≡_}
+use mathlib.Core.Bool.{Bool, true, false, not}
+use mathlib.Core.List.{List}
+use lib.Dec.{eqb}
+use lib.ListN.{getD}
+use Rattle.wire.specs.declared.form.Row.{Row}
+use Rattle.wire.specs.declared.zigzag.Coding.{Coding}
+use Rattle.wire.specs.declared.zigzag.Coding.the-variants.{Plain}
+use Rattle.wire.specs.declared.zigzag.Coded.{Coded}
+use Rattle.wire.specs.Zigzag.{codeOf}
+use Rattle.track.specs.declared.Track.{Track}
+use Rattle.field_table.specs.declared.lines.Measure.{Measure}
+use Rattle.field_table.specs.Lines.{bmdtAt, countAt}
+use Rattle.field_set.specs.Lawful.{measureOf}
+use Rattle.field_rules.specs.Fields.{codingFor}
+use Rattle.effective.specs.Durations.{Timed}
+use Rattle.effective.specs.Follows.{nextTime}
+use Rattle.effective.proofs.DurationLaws.{lawful-timed}
+use Rattle.locmaf_write_block.specs.declared.cells.Basis.{Basis}
+use Rattle.locmaf_write_tuples.specs.Items.{itemsIf, numberItem}
+use Rattle.locmaf_write_block.specs.Changes.{basisOf, Writable}
+use Rattle.locmaf_write_block.specs.Fields.{bmdtStands, countStands, bmdtItems, countItems}
+
+module _ (t : Track) (delta : Bool) (r x : List ℕ) where
+  -- the lengths, in a delta and in a full object
+  pub basis-delta : delta ≡ true → (w n : Measure) → w ≡ measureOf t r → n ≡ measureOf t x
+      → _≡_ {A = Basis} (record { delta = true; was = w; now = n }) (basisOf t delta r x)
+  basis-delta d w n e f = rw (d, e, f)
+
+  pub basis-full : delta ≡ false → (n : Measure) → n ≡ measureOf t x
+      → _≡_ {A = Basis} (record { delta = false; was = record { count = 0; ivs = 0; sum = 0 }; now = n }) (basisOf t delta r x)
+  basis-full d n f = rw (d, f)
+
+  -- BMDT, in a full object and in a delta
+  pub bmdt-full : delta ≡ false → true ≡ bmdtStands t delta r x
+  unfolding bmdtStands
+  bmdt-full d = rw d
+
+  pub bmdt-delta : delta ≡ true → (b : Bool) → b ≡ eqb (getD x bmdtAt 0) (nextTime t r) → not b ≡ bmdtStands t delta r x
+  unfolding bmdtStands
+  bmdt-delta h b e = rw (h, e)
+
+  -- a time can follow from the reference
+  pub timed : Writable t delta r x → delta ≡ true → Timed r
+  timed w d = lawful-timed t r (w .old-words) (w .old d)
+
+  -- their tuples
+  module _ (F : List Row) where
+    pub bmdt-is : {b : Bool} {c : Coded} → b ≡ bmdtStands t delta r x → c ≡ codeOf F Plain 0 (getD x bmdtAt 0)
+        → itemsIf b (numberItem 10 c) ≡ bmdtItems F t delta r x
+    unfolding bmdtItems
+    bmdt-is e f = rw (e, f)
+
+    pub count-is : {b : Bool} {coding : Coding} {c : Coded} → b ≡ countStands t delta r x → coding ≡ codingFor delta
+        → c ≡ codeOf F coding (getD r countAt 0) (getD x countAt 0) → itemsIf b (numberItem 14 c) ≡ countItems F t delta r x
+    unfolding countItems
+    count-is e g f = rw (e, f, g)

@@ -1,0 +1,43 @@
+-- `locmaf_write_block::set::count_size` meets its contract: an id that may stand. Assumes nothing.
+use borrow.Author.Needs.{needs}
+use native.Mathlib.Omega.{arith}
+use Rattle.locmaf_write_tuples.proofs.ItemLaws.{made-is, weighed-as}
+use Rattle.locmaf_write_block.proofs.StandLaws.{count-is}
+use Rattle.locmaf_write_block.proofs.set.count_size.Statement.{statement}
+use Rattle.locmaf_write_block.proofs.set.count_size.Tie as tie
+
+coding-for-requires : tie.Need-coding-for-requires
+coding-for-requires c κs = search needs
+
+shared-slice-read-code : tie.Need-shared-slice-read-code
+shared-slice-read-code c = search needs
+
+shared-slice-read-code-2 : tie.Need-shared-slice-read-code-2
+shared-slice-read-code-2 c = search needs
+
+code-requires : tie.Need-code-requires
+code-requires c κs = search needs
+
+count-stands-requires : tie.Need-count-stands-requires
+count-stands-requires c κs = search needs
+
+number-size-requires : tie.Need-number-size-requires
+number-size-requires c κs = (omega arith, made-is _ _ _ _ _ (c .before .code .ensures))
+
+returns : tie.Need-returns
+returns c =
+    let b₁ = c .before .before in
+    let b₂ = b₁ .before .before .before in
+    weighed-as (count-is _ _ _ _ _ (c .before .count-stands .ensures) (b₂ .coding-for .ensures) (b₁ .code .ensures)) (c .number-size .ensures)
+
+pub count-size-spec : {M : Type 1} → statement M
+count-size-spec =
+    tie.close
+    (tie.spec
+    coding-for-requires
+    shared-slice-read-code
+    shared-slice-read-code-2
+    code-requires
+    count-stands-requires
+    number-size-requires
+    returns)

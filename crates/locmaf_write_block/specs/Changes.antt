@@ -1,0 +1,99 @@
+-- What an object says of one field of a set x, whichever it is: in a delta against the reference's set r, in a full object against nothing.
+use Prim.Native.Nat.{ℕ, _+_, _-_, _*_, _≤_}
+use mathlib.Core.Path.{_≡_}
+use mathlib.Core.Bool.{Bool, true, false, cond, not, _&&_}
+use mathlib.Core.List.{List, [], _∷_}
+use mathlib.Core.Option.{some}
+use lib.Dec.{eqb}
+use lib.ListN.{length, getD}
+use lib.Seq.{slice}
+use Rattle.laws.specs.Tests.{_and_}
+use Rattle.constants.specs.Maxima.{subsamplesMost}
+use Rattle.wire.specs.declared.form.Row.{Row}
+use Rattle.wire.specs.Zigzag.{codeOf}
+use Rattle.runs.specs.Run.{first}
+use Rattle.block_items.specs.Items.{run}
+use Rattle.track.specs.declared.Track.{Track}
+use Rattle.field_table.specs.declared.lines.Line.{Line}
+use Rattle.field_table.specs.Lines.{setLen, lineCount, wanted, absentValue}
+use Rattle.field_set.specs.Lawful.{measureOf, lawful}
+use Rattle.field_rules.specs.Fields.{codingFor, codingOf, isIvs, stood, oldValues}
+use Rattle.field_rules.specs.Words.{wasOf}
+use Rattle.locmaf_write_block.specs.declared.cells.Change.{Change}
+use Rattle.locmaf_write_block.specs.declared.cells.Change.the-variants.{Omitted, Deleted, Sent}
+use Rattle.locmaf_write_block.specs.declared.cells.Basis.{Basis}
+use Rattle.locmaf_write_tuples.specs.Items.{Items, nothing, numberItem, runItem, wideBytes, pairMost}
+
+-- ==== The rules
+
+-- how many lines of the table a chunk's set can have: all but the last, id 16's. 02, order 9: "no accepted chunk reaches the encoder's case for id 16. Show that, and
+-- take the case out." (D142)
+abbrev pub chunkLines : ℕ
+chunkLines = lineCount - 1
+
+-- two lists are equal
+unfoldable pub same : List ℕ → List ℕ → Bool
+same [] [] = true
+same [] (y ∷ ys) = false
+same (x ∷ xs) [] = false
+same (x ∷ xs) (y ∷ ys) = eqb x y and same xs ys
+
+abbrev pub onChange : {A : Type 0} → Change → A → A → A
+onChange Omitted f z = z
+onChange Deleted f z = z
+onChange Sent f z = f
+
+module _ (t : Track) (delta : Bool) (r x : List ℕ) (l : Line) where
+  -- the field stands in the set, and its values
+  abbrev pub stands : Bool
+  stands = not (eqb (getD x (l .place) 0) 0)
+
+  abbrev pub news : List ℕ
+  news = slice (l .place + 1) (l .place + 1 + wanted (l .want) (measureOf t x)) x
+
+  -- the values that it had
+  abbrev pub olds : List ℕ
+  olds = oldValues delta r (wasOf t delta r) l
+
+  -- 01: "A present field equal to the reference's is omitted; a vanished one is listed in id 27". "Id 9, where the track is cenc and there are samples, always
+  -- stands in the object" (D66, D105).
+  unfoldable pub changeOf : Change
+  changeOf =
+      cond stands
+      (cond (stood delta r l && (not (isIvs (l .want)) && same olds news)) Omitted Sent)
+      (cond (stood delta r l) Deleted Omitted)
+
+  -- 01: "Id 5 is zigzag, other values plain", and in a delta distances: "A scalar's delta is against the previous value; if absent then, ids 2, 4, 6, 8 count as
+  -- trex, 12 as 0 and 16 as the parameter. List elements count as 0 where the reference has none."
+  unfoldable pub sentItems : List Row → Items
+  sentItems F =
+      let coding = codingOf (codingFor delta) (l .absent) in
+      let base = absentValue t (l .absent) in
+      cond (isIvs (l .want)) (some (run (l .id) (wideBytes news) ∷ []))
+      (cond (eqb (l .room) 1) (numberItem (l .id) (codeOf F coding (first base olds) (first 0 news)))
+      (runItem F coding (l .id) base olds news))
+
+  unfoldable pub lineItems : List Row → Items
+  lineItems F = onChange changeOf (sentItems F) nothing
+
+-- ==== What only mirrors the code
+
+-- the lengths that the fields go by
+abbrev pub basisOf : Track → Bool → List ℕ → List ℕ → Basis
+basisOf t delta r x = record { delta = delta; was = wasOf t delta r; now = measureOf t x }
+
+-- what is lent: lawful sets
+pub record Writable (t : Track) (delta : Bool) (r x : List ℕ) : Type 0 where
+  pub old-words : length r ≡ setLen
+  pub new-words : length x ≡ setLen
+  pub old : delta ≡ true → lawful t r ≡ true
+  pub new : lawful t x ≡ true
+  pub iv : t .«iv_size» ≤ 16
+
+-- what is lent, and the lengths that go with it
+abbrev pub Based : Track → Basis → List ℕ → List ℕ → Type 0
+Based t b r x = Writable t (b .delta) r x × (b ≡ basisOf t (b .delta) r x)
+
+-- the most bytes of a field: no list is longer than that of the subsamples
+abbrev pub lineMost : ℕ
+lineMost = pairMost + 8 * subsamplesMost

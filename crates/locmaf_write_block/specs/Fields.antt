@@ -1,0 +1,88 @@
+-- The set of moof fields in an object. 01: "The encoder writes them ascending".
+use Prim.Native.Nat.{ℕ, _+_, _*_, _≤_}
+use mathlib.Core.Path.{_≡_}
+use mathlib.Core.Bool.{Bool, true, false, cond, not, _||_}
+use mathlib.Core.List.{List, [], _∷_}
+use lib.Dec.{eqb}
+use lib.ListN.{length, getD, take}
+use lib.Seq.{slice}
+use Rattle.wire.specs.declared.form.Row.{Row}
+use Rattle.wire.specs.declared.zigzag.Coding.the-variants.{Plain}
+use Rattle.wire.specs.Zigzag.{codeOf}
+use Rattle.track.specs.declared.Track.{Track}
+use Rattle.field_table.specs.declared.lines.Line.{Line}
+use Rattle.field_table.specs.Lines.{lines, spare, lineCount, bmdtAt, countAt}
+use Rattle.field_rules.specs.Fields.{codingFor}
+use Rattle.effective.specs.Follows.{nextTime}
+use Rattle.locmaf_write_block.specs.declared.cells.Change.{Change}
+use Rattle.locmaf_write_block.specs.declared.cells.Change.the-variants.{Omitted, Deleted, Sent}
+use Rattle.locmaf_write_tuples.specs.Items.{Items, nothing, _before_, itemsIf, numberItem, runItem, pairMost}
+use Rattle.locmaf_write_block.specs.Changes.{chunkLines, changeOf, lineItems, lineMost}
+
+-- ==== The rules
+
+abbrev pub isDeleted : Change → Bool
+isDeleted Deleted = true
+isDeleted Omitted = false
+isDeleted Sent = false
+
+module _ (t : Track) (delta : Bool) (r x : List ℕ) where
+  -- 01: "a vanished one is listed in id 27, ascending"; id 16 too, if a reference came with one (D143)
+  unfoldable pub goneOf : List Line → List ℕ
+  goneOf [] = []
+  goneOf (l ∷ ls) = cond (isDeleted (changeOf t delta r x l)) (l .id ∷ goneOf ls) (goneOf ls)
+
+  -- 01: "Ids 10 and 14 always", in a full object; in a delta "Id 10 is absolute, written only if BMDT differs from the previous BMDT plus the previous effective
+  -- durations", and "Id 14 absent means same count." (D67)
+  unfoldable pub bmdtStands : Bool
+  bmdtStands = not delta || not (eqb (getD x bmdtAt 0) (nextTime t r))
+
+  unfoldable pub countStands : Bool
+  countStands = not delta || not (eqb (getD x countAt 0) (getD r countAt 0))
+
+-- how many lines stand before BMDT, and before the sample count
+abbrev pub beforeBmdt : ℕ
+beforeBmdt = 9
+
+abbrev pub beforeCount : ℕ
+beforeCount = 12
+
+module _ (F : List Row) (t : Track) (delta : Bool) (r x : List ℕ) where
+  unfoldable pub linesItems : List Line → Items
+  linesItems [] = nothing
+  linesItems (l ∷ ls) = lineItems t delta r x l F before linesItems ls
+
+  -- the fields of the lines from one number up to another
+  abbrev pub between : ℕ → ℕ → Items
+  between from to = linesItems (slice from to lines)
+
+  unfoldable pub bmdtItems : Items
+  bmdtItems = itemsIf (bmdtStands t delta r x) (numberItem 10 (codeOf F Plain 0 (getD x bmdtAt 0)))
+
+  unfoldable pub countItems : Items
+  countItems = itemsIf (countStands t delta r x) (numberItem 14 (codeOf F (codingFor delta) (getD r countAt 0) (getD x countAt 0)))
+
+  -- ids 1 to 15: the lines that a chunk can have, and ids 10 and 14 between them
+  unfoldable pub fieldItems : Items
+  fieldItems =
+      between 0 beforeBmdt before bmdtItems before between beforeBmdt beforeCount before countItems before between beforeCount chunkLines
+
+  unfoldable pub deletionItems : Items
+  deletionItems = itemsIf (not (eqb (length (goneOf t delta r x lines)) 0)) (runItem F Plain 27 0 [] (goneOf t delta r x lines))
+
+-- ==== What only mirrors the code
+
+-- the field of the line at a number
+abbrev pub fieldAt : List Row → Track → Bool → List ℕ → List ℕ → ℕ → Items
+fieldAt F t delta r x i = lineItems t delta r x (getD lines i spare) F
+
+-- the ids that were collected: so many, and the first so many words
+abbrev pub Collected : List ℕ → List ℕ → ℕ → Type 0
+Collected gone ids n = (n ≡ length gone) × (n ≤ lineCount) × (take n ids ≡ gone) × (length ids ≡ lineCount)
+
+-- the most bytes of ids 1 to 15, and of id 27
+abbrev pub setMost : ℕ
+setMost = lineMost * chunkLines + (pairMost + pairMost)
+
+abbrev pub goneMost : ℕ
+goneMost = pairMost + 8 * lineCount

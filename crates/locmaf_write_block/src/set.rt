@@ -1,0 +1,272 @@
+// The set of moof fields of a chunk in an object: every line of the table but that of id 16, with BMDT and the sample count among them by their ids.
+// Letters: `t` the track, `r` the words of the reference's set, `x` the words of the new set, `b` what is written against what.
+ghost use mathlib.Core.Path.{_≡_};
+ghost use mathlib.Core.Bool.{true};
+ghost use Prim.Native.Nat.{_+_, _-_, _*_, _≤_, _<_};
+ghost use Rattle.wire.specs.Form.{rows};
+ghost use Rattle.laws.specs.Options.{isSome};
+ghost use Rattle.field_table.specs.Lines.{lines};
+ghost use Rattle.locmaf_write_tuples.specs.Items.{pairMost, WeighedAs, RoomFor, WroteItems};
+ghost use Rattle.locmaf_write_block.specs.Changes.{chunkLines, basisOf, Writable, Based, lineMost};
+ghost use Rattle.locmaf_write_block.specs.Fields.{beforeBmdt, beforeCount, between, bmdtStands, bmdtItems, countStands, countItems, fieldItems, setMost};
+use crate::cells;
+use crate::cells::Basis;
+use constants::ids;
+use field_rules::rules::coding_for;
+use field_set::lawful;
+use field_table::lines;
+use field_table::lines::Measure;
+use locmaf_write_tuples::tuples;
+use locmaf_write_tuples::tuples::Weight;
+use track::Track;
+use wire::form::Form;
+use wire::zigzag::Coding;
+
+// The lines before BMDT, and those before the sample count.
+const BEFORE_BMDT: usize = 9;
+
+const BEFORE_COUNT: usize = 12;
+
+// The lines that a chunk's set can have: all but the last, id 16's, since the track's parameter cuts a chunk's IVs.
+const CHUNK_LINES: usize = lines::LINES - 1;
+
+// What the set x is written against: in a delta the reference r, in a full object nothing.
+pub fn basis_of(t: Track, delta: bool, r: &[u64], x: &[u64]) -> Basis
+    requires { ⌜ Writable t delta (now r) (now x) ⌝ }
+    ensures { λ b. ⌜ b ≡ basisOf t delta (now (r .entry)) (now (x .entry)) ⌝ }
+{
+    let now = lawful::measure(t, x);
+    if delta {
+        return Basis {
+            delta: true,
+            was: lawful::measure(t, r),
+            now,
+        };
+    }
+    Basis {
+        delta: false,
+        was: Measure {
+            count: 0,
+            ivs: 0,
+            sum: 0,
+        },
+        now,
+    }
+}
+
+// ---- BMDT and the sample count
+
+// BMDT goes by its own rule: it is left out where it follows from the reference, and not where it is the reference's.
+fn bmdt_stands(t: Track, delta: bool, r: &[u64], x: &[u64]) -> bool
+    requires { ⌜ Writable t delta (now r) (now x) ⌝ }
+    ensures { λ b. ⌜ b ≡ bmdtStands t delta (now (r .entry)) (now (x .entry)) ⌝ }
+{
+    if !delta {
+        return true;
+    }
+    !effective::follows::follows(t, r, x[lines::BMDT])
+}
+
+fn count_stands(t: Track, delta: bool, r: &[u64], x: &[u64]) -> bool
+    requires { ⌜ Writable t delta (now r) (now x) ⌝ }
+    ensures { λ b. ⌜ b ≡ countStands t delta (now (r .entry)) (now (x .entry)) ⌝ }
+{
+    !delta | (x[lines::COUNT] != r[lines::COUNT])
+}
+
+// BMDT is absolute in a delta too.
+fn bmdt_size(form: Form, t: Track, delta: bool, r: &[u64], x: &[u64]) -> Weight
+    requires { ⌜ Writable t delta (now r) (now x) ⌝ }
+    ensures { λ w. ⌜ WeighedAs (rows form) (bmdtItems (rows form) t delta (now (r .entry)) (now (x .entry)))
+        pairMost w ⌝ }
+{
+    let c = wire::zigzag::code(form, Coding::Plain, 0, x[lines::BMDT]);
+    tuples::number_size(form, bmdt_stands(t, delta, r, x), ids::BMDT, c)
+}
+
+fn put_bmdt(
+    form: Form,
+    t: Track,
+    delta: bool,
+    r: &[u64],
+    x: &[u64],
+    out: &mut [u8],
+    at: usize,
+) -> usize
+    requires { ⌜ Writable t delta (now r) (now x) ⌝ }
+    requires { ⌜ isSome (bmdtItems (rows form) t delta (now r) (now x)) ≡ true ⌝ }
+    requires { ⌜ RoomFor (rows form) (bmdtItems (rows form) t delta (now r) (now x)) (now out) at ⌝ }
+    ensures { λ p. ⌜ WroteItems (rows form) (bmdtItems (rows form) t delta (now (r .entry)) (now (x .entry)))
+        (now (out .entry)) at (now (out .exit)) p ⌝ }
+{
+    let c = wire::zigzag::code(form, Coding::Plain, 0, x[lines::BMDT]);
+    tuples::put_number(form, bmdt_stands(t, delta, r, x), ids::BMDT, c, out, at)
+}
+
+fn count_size(form: Form, t: Track, delta: bool, r: &[u64], x: &[u64]) -> Weight
+    requires { ⌜ Writable t delta (now r) (now x) ⌝ }
+    ensures { λ w. ⌜ WeighedAs (rows form) (countItems (rows form) t delta (now (r .entry)) (now (x .entry)))
+        pairMost w ⌝ }
+{
+    let c = wire::zigzag::code(form, coding_for(delta), r[lines::COUNT], x[lines::COUNT]);
+    tuples::number_size(form, count_stands(t, delta, r, x), ids::COUNT, c)
+}
+
+fn put_count(
+    form: Form,
+    t: Track,
+    delta: bool,
+    r: &[u64],
+    x: &[u64],
+    out: &mut [u8],
+    at: usize,
+) -> usize
+    requires { ⌜ Writable t delta (now r) (now x) ⌝ }
+    requires { ⌜ isSome (countItems (rows form) t delta (now r) (now x)) ≡ true ⌝ }
+    requires { ⌜ RoomFor (rows form) (countItems (rows form) t delta (now r) (now x)) (now out) at ⌝ }
+    ensures { λ p. ⌜ WroteItems (rows form) (countItems (rows form) t delta (now (r .entry)) (now (x .entry)))
+        (now (out .entry)) at (now (out .exit)) p ⌝ }
+{
+    let c = wire::zigzag::code(form, coding_for(delta), r[lines::COUNT], x[lines::COUNT]);
+    tuples::put_number(form, count_stands(t, delta, r, x), ids::COUNT, c, out, at)
+}
+
+// ---- the lines
+
+// The lines from a number up to another.
+fn lines_size(
+    form: Form,
+    t: Track,
+    b: Basis,
+    r: &[u64],
+    x: &[u64],
+    from: usize,
+    to: usize,
+) -> Weight
+    requires { ⌜ Based t b (now r) (now x) ⌝ }
+    requires { ⌜ (from ≤ to) × (to ≤ chunkLines) ⌝ }
+    ensures { λ w. ⌜ WeighedAs (rows form) (between (rows form) t (b .delta) (now (r .entry)) (now (x .entry)) from to)
+        (lineMost * (to - from)) w ⌝ }
+{
+    let mut sum = tuples::whole(0);
+    let mut i = from;
+    while i < to {
+        let w = cells::line_size(form, t, b, r, x, i);
+        sum = tuples::both(sum, w);
+        i += 1;
+    }
+    sum
+}
+
+fn put_lines(
+    form: Form,
+    t: Track,
+    b: Basis,
+    r: &[u64],
+    x: &[u64],
+    from: usize,
+    to: usize,
+    out: &mut [u8],
+    at: usize,
+) -> usize
+    requires { ⌜ Based t b (now r) (now x) ⌝ }
+    requires { ⌜ (from ≤ to) × (to ≤ chunkLines) ⌝ }
+    requires { ⌜ isSome (between (rows form) t (b .delta) (now r) (now x) from to) ≡ true ⌝ }
+    requires { ⌜ RoomFor (rows form) (between (rows form) t (b .delta) (now r) (now x) from to)
+        (now out) at ⌝ }
+    ensures { λ p. ⌜ WroteItems (rows form) (between (rows form) t (b .delta) (now (r .entry)) (now (x .entry)) from to)
+        (now (out .entry)) at (now (out .exit)) p ⌝ }
+{
+    let mut p = at;
+    let mut i = from;
+    while i < to {
+        p = cells::put_line(form, t, b, r, x, i, out, p);
+        i += 1;
+    }
+    p
+}
+
+// The lines between BMDT and the sample count seldom stand: one test of their marks passes over them all.
+fn put_middle(
+    form: Form,
+    t: Track,
+    b: Basis,
+    r: &[u64],
+    x: &[u64],
+    out: &mut [u8],
+    at: usize,
+) -> usize
+    requires { ⌜ Based t b (now r) (now x) ⌝ }
+    requires { ⌜ isSome (between (rows form) t (b .delta) (now r) (now x) beforeBmdt beforeCount) ≡ true ⌝ }
+    requires { ⌜ RoomFor (rows form) (between (rows form) t (b .delta) (now r) (now x) beforeBmdt beforeCount)
+        (now out) at ⌝ }
+    ensures { λ p. ⌜ WroteItems (rows form)
+        (between (rows form) t (b .delta) (now (r .entry)) (now (x .entry)) beforeBmdt beforeCount)
+        (now (out .entry)) at (now (out .exit)) p ⌝ }
+{
+    if (x[lines::SUBSAMPLES] == 0) & (x[lines::FIRST_FLAGS] == 0) & (x[lines::CLEAR] == 0) {
+        return at;
+    }
+    put_lines(form, t, b, r, x, BEFORE_BMDT, BEFORE_COUNT, out, at)
+}
+
+// The line after the sample count, id 15's, seldom stands either.
+fn put_high(
+    form: Form,
+    t: Track,
+    b: Basis,
+    r: &[u64],
+    x: &[u64],
+    out: &mut [u8],
+    at: usize,
+) -> usize
+    requires { ⌜ Based t b (now r) (now x) ⌝ }
+    requires { ⌜ isSome (between (rows form) t (b .delta) (now r) (now x) beforeCount chunkLines) ≡ true ⌝ }
+    requires { ⌜ RoomFor (rows form) (between (rows form) t (b .delta) (now r) (now x) beforeCount chunkLines)
+        (now out) at ⌝ }
+    ensures { λ p. ⌜ WroteItems (rows form)
+        (between (rows form) t (b .delta) (now (r .entry)) (now (x .entry)) beforeCount chunkLines)
+        (now (out .entry)) at (now (out .exit)) p ⌝ }
+{
+    if x[lines::PROTECTED] == 0 {
+        return at;
+    }
+    put_lines(form, t, b, r, x, BEFORE_COUNT, CHUNK_LINES, out, at)
+}
+
+// ---- ids 1 to 15
+
+// A sum is the same in any order, so the lines are weighed in one walk, whatever stands between them in the object.
+pub fn set_size(form: Form, t: Track, b: Basis, r: &[u64], x: &[u64]) -> Weight
+    requires { ⌜ Based t b (now r) (now x) ⌝ }
+    ensures { λ w. ⌜ WeighedAs (rows form) (fieldItems (rows form) t (b .delta) (now (r .entry)) (now (x .entry)))
+        setMost w ⌝ }
+{
+    let fields = lines_size(form, t, b, r, x, 0, CHUNK_LINES);
+    let bmdt = bmdt_size(form, t, b.delta, r, x);
+    let count = count_size(form, t, b.delta, r, x);
+    let numbers = tuples::both(bmdt, count);
+    tuples::both(fields, numbers)
+}
+
+pub fn put_set(
+    form: Form,
+    t: Track,
+    b: Basis,
+    r: &[u64],
+    x: &[u64],
+    out: &mut [u8],
+    at: usize,
+) -> usize
+    requires { ⌜ Based t b (now r) (now x) ⌝ }
+    requires { ⌜ isSome (fieldItems (rows form) t (b .delta) (now r) (now x)) ≡ true ⌝ }
+    requires { ⌜ RoomFor (rows form) (fieldItems (rows form) t (b .delta) (now r) (now x)) (now out) at ⌝ }
+    ensures { λ p. ⌜ WroteItems (rows form) (fieldItems (rows form) t (b .delta) (now (r .entry)) (now (x .entry)))
+        (now (out .entry)) at (now (out .exit)) p ⌝ }
+{
+    let p = put_lines(form, t, b, r, x, 0, BEFORE_BMDT, out, at);
+    let q = put_bmdt(form, t, b.delta, r, x, out, p);
+    let u = put_middle(form, t, b, r, x, out, q);
+    let v = put_count(form, t, b.delta, r, x, out, u);
+    put_high(form, t, b, r, x, out, v)
+}

@@ -1,0 +1,5 @@
+pub mod RecordLaws
+pub mod ListLaws
+pub mod SumLoop
+pub mod FitLoop
+pub mod WriteLoop

@@ -1,0 +1,4 @@
+pub mod ItemLaws
+pub mod AlikeLaws
+pub mod TupleLaws
+pub mod PutLaws

@@ -1,2 +1,0 @@
-pub mod Deletions
-pub mod Read

@@ -1,0 +1,184 @@
+-- The words of a share after an accepted object: their number, and that they are lawful. Assumes nothing.
+use Prim.Native.Nat.{ℕ, _+_, _-_, _≤_, _<_}
+use native.Mathlib.Omega.{arith}
+use mathlib.Core.Path.{_≡_, refl, sym, _∙_, ap, ap₂}
+use mathlib.Core.Logic.{_⊎_, inl, inr}
+use mathlib.Core.Bool.{Bool, true, false, cond, _&&_, _||_}
+use mathlib.Core.List.{List, [], _∷_, _++_, append-assoc}
+use borrow.Author.Tests.{eq-eqb, le-leb, not-true}
+use lib.Dec.{eqb, leb}
+use lib.ListN.{length, getD, take, drop, length-append, List·getD-append}
+use lib.Seq.{slice, length-take-le, length-slice, getD-take, getD-drop, getD-append-add, drop-append-add}
+use Rattle.laws.specs.Tests.{allZero}
+use Rattle.laws.proofs.TestLaws.{both}
+use Rattle.laws.proofs.SliceLaws.{drop-slice, slice-between}
+use Rattle.track.specs.Track.{narrow, u32, lawful as lawfulTrack}
+use Rattle.track.specs.declared.Track.{Track}
+use Rattle.field_table.specs.Lines.{setLen}
+use Rattle.slots.specs.declared.lawful.Side.{Side}
+use Rattle.share_words.specs.Share.{trackAt, timescaleAt, trackDescriptionAt, trackDurationAt, trackSizeAt, trackFlagsAt, protectionAt, trackIvSizeAt}
+use Rattle.share_words.specs.Share.{acceptedAt, heldAt, prftAt, ntpAt, mediaTimeAt, versionAt, prftFlagsAt, prftEnd, setAt, shareLen}
+use Rattle.slots.specs.Share.{u24, u62, asked, askedOf, trackOf, isOpen, acceptedOk, prftOk, setOk, referenceOk, openOk, lawful}
+use Rattle.prft_value.specs.declared.Prft.{Prft}
+use Rattle.reference.specs.Kept.{prftWords, referenceWords, keptWords}
+use Rattle.reference.proofs.OpenLaws.{Opened}
+use Rattle.prft_value.specs.Prft.{InRange}
+
+-- ---- the words one after another
+
+-- the parameters f, the count n, the mark, the words p of the `prft`, and the set w
+module _ (f : List ℕ) (n : ℕ) (p w : List ℕ) (lf : length f ≡ acceptedAt) (lp : length p ≡ prftEnd - prftAt) where
+  abbrev all : List ℕ
+  all = f ++ (n ∷ referenceWords p w)
+
+  all-long : length w ≡ setLen → length all ≡ shareLen
+  all-long lw = omega (arith, length-append f (n ∷ referenceWords p w), length-append p w)
+
+  -- a word behind the parameters
+  word-at : (k m : ℕ) → acceptedAt + k ≡ m → getD all m 0 ≡ getD (n ∷ referenceWords p w) k 0
+  word-at k m e =
+      let q : m ≡ length f + k = omega arith in
+      ap (λ (i : ℕ). getD all i 0) q ∙ getD-append-add f (n ∷ referenceWords p w) k 0
+
+  count-at : getD all acceptedAt 0 ≡ n
+  count-at = word-at 0 acceptedAt refl
+
+  mark-at : getD all heldAt 0 ≡ 1
+  mark-at = word-at 1 heldAt refl
+
+  five-at : slice prftAt prftEnd all ≡ p
+  five-at =
+      let pre : List ℕ = f ++ (n ∷ 1 ∷ []) in
+      let a : prftAt ≡ length pre = omega (arith, length-append f (n ∷ 1 ∷ [])) in
+      let b : prftEnd ≡ length pre + length p = omega (arith, length-append f (n ∷ 1 ∷ [])) in
+      ap (slice prftAt prftEnd) (sym (append-assoc f (n ∷ 1 ∷ []) (p ++ w)))
+      ∙ ap₂ (λ (i j : ℕ). slice i j (pre ++ (p ++ w))) a b
+      ∙ slice-between pre p w
+
+  set-at : drop setAt all ≡ w
+  set-at =
+      let pre : List ℕ = f ++ (n ∷ 1 ∷ p) in
+      let a : setAt ≡ length pre + 0 = omega (arith, length-append f (n ∷ 1 ∷ p)) in
+      ap (drop setAt) (sym (append-assoc f (n ∷ 1 ∷ p) w)) ∙ ap (λ (i : ℕ). drop i (pre ++ w)) a ∙ drop-append-add pre w 0
+
+-- ---- the `prft` that is kept
+
+-- its test, by its five words alone
+unfoldable prftIn : List ℕ → Bool
+prftIn p =
+    cond (eqb (getD p 0 0) 0) (allZero (drop (ntpAt - prftAt) p))
+    (eqb (getD p 0 0) 1
+    && (leb (getD p (versionAt - prftAt) 0) 1
+    && ((eqb (getD p (versionAt - prftAt) 0) 1 || leb (getD p (mediaTimeAt - prftAt) 0) u32) && (leb (getD p (prftFlagsAt - prftAt) 0) u24 && (leb (getD p (ntpAt - prftAt) 0) u62 && leb (getD p (mediaTimeAt - prftAt) 0) u62)))))
+
+part-word : (f t k m : ℕ) (s : List ℕ) → f + k ≡ m → m < t → getD s m 0 ≡ getD (slice f t s) k 0
+part-word f t k m s e h = sym (getD-drop f (take t s) k 0 ∙ ap (λ (i : ℕ). getD (take t s) i 0) e ∙ getD-take t s m 0 h)
+
+prft-in : (s : List ℕ) → prftOk s ≡ prftIn (slice prftAt prftEnd s)
+unfolding prftOk prftIn
+prft-in s =
+    let a = part-word prftAt prftEnd 0 prftAt s refl (omega arith) in
+    let n = part-word prftAt prftEnd (ntpAt - prftAt) ntpAt s refl (omega arith) in
+    let b = part-word prftAt prftEnd (mediaTimeAt - prftAt) mediaTimeAt s refl (omega arith) in
+    let c = part-word prftAt prftEnd (versionAt - prftAt) versionAt s refl (omega arith) in
+    let d = part-word prftAt prftEnd (prftFlagsAt - prftAt) prftFlagsAt s refl (omega arith) in
+    let e = sym (drop-slice prftAt prftEnd (ntpAt - prftAt) s) in
+    λ j.
+    cond (eqb (a j) 0) (allZero (e j))
+    (eqb (a j) 1 && (leb (c j) 1 && ((eqb (c j) 1 || leb (b j) u32) && (leb (d j) u24 && (leb (n j) u62 && leb (b j) u62)))))
+
+or-of : (a b : Bool) → (a ≡ true) ⊎ (b ≡ true) → (a || b) ≡ true
+or-of true b e = refl
+or-of false b (inl e) = let z : _≡_ {A = ℕ} 0 1 = cc in absurd (omega arith)
+or-of false b (inr e) = e
+
+words-ranged : (p : Prft) → InRange p → prftIn (prftWords p) ≡ true
+unfolding prftIn prftWords allZero
+words-ranged p h = go (p .stands) refl
+  where
+    media : (p .version ≡ 1) ⊎ (p .media .0 ≤ 0xffff_ffff) → (eqb (p .version) 1 || leb (p .media .0) u32) ≡ true
+    media (inl e) = or-of (eqb (p .version) 1) (leb (p .media .0) u32) (inl (eq-eqb (p .version) 1 e))
+    media (inr e) = or-of (eqb (p .version) 1) (leb (p .media .0) u32) (inr (le-leb (p .media .0) u32 e))
+
+    go : (b : Bool) → p .stands ≡ b → prftIn (cond b 1 0 ∷ p .ntp .0 ∷ p .media .0 ∷ p .version ∷ p .flags ∷ []) ≡ true
+    go false q =
+        let z = h .0 q in
+        both _ _ (eq-eqb _ _ (z .0)) (both _ _ (eq-eqb _ _ (z .1)) (both _ _ (eq-eqb _ _ (z .2)) (both _ _ (eq-eqb _ _ (z .3)) refl)))
+    go true q =
+        let z = h .1 q in
+        rw (le-leb _ _ (z .0), media (z .1), le-leb _ _ (z .2), le-leb _ _ (z .3), le-leb _ _ (z .4))
+
+-- ---- an accepted object's share
+
+module _ (s : List ℕ) (l : length s ≡ shareLen) where
+  front-long : length (take acceptedAt s) ≡ acceptedAt
+  front-long = length-take-le acceptedAt s (omega arith)
+
+  -- the five words that stand for the `prft`
+  fiveOf : Bool → Prft → List ℕ
+  fiveOf delta p = cond delta (slice prftAt prftEnd s) (prftWords p)
+
+  five-long : (delta : Bool) (p : Prft) → length (fiveOf delta p) ≡ prftEnd - prftAt
+  unfolding fiveOf prftWords
+  five-long true p = length-slice prftAt prftEnd s (omega arith)
+  five-long false p = refl
+
+  five-ok : (delta : Bool) (p : Prft) → (delta ≡ true → prftOk s ≡ true) → (delta ≡ false → InRange p) → prftIn (fiveOf delta p) ≡ true
+  unfolding fiveOf
+  five-ok true p a b = sym (prft-in s) ∙ a refl
+  five-ok false p a b = words-ranged p (b refl)
+
+  module _ (delta : Bool) (n : ℕ) (p : Prft) (w : List ℕ) where
+    -- it keeps its length
+    pub accepted-long : length w ≡ setLen → length (keptWords delta n p w s) ≡ shareLen
+    unfolding keptWords fiveOf
+    accepted-long lw = all-long (take acceptedAt s) n (fiveOf delta p) w front-long (five-long delta p) lw
+
+    -- and its parameters
+    accepted-kept : (k : ℕ) → k < acceptedAt → getD (keptWords delta n p w s) k 0 ≡ getD s k 0
+    unfolding keptWords
+    accepted-kept k h =
+        let m : k < length (take acceptedAt s) = omega (arith, front-long) in
+        List·getD-append (take acceptedAt s) _ 0 k m ∙ getD-take acceptedAt s k 0 h
+
+    accepted-asked : askedOf (keptWords delta n p w s) ≡ askedOf s
+    accepted-asked =
+        λ j.
+        asked (accepted-kept trackAt (omega arith) j) (accepted-kept timescaleAt (omega arith) j) (accepted-kept trackDescriptionAt (omega arith) j) (accepted-kept trackDurationAt (omega arith) j)
+        (accepted-kept trackSizeAt (omega arith) j) (accepted-kept trackFlagsAt (omega arith) j) (accepted-kept protectionAt (omega arith) j) (accepted-kept trackIvSizeAt (omega arith) j)
+
+    accepted-prft : prftOk (keptWords delta n p w s) ≡ prftIn (fiveOf delta p)
+    unfolding keptWords fiveOf
+    accepted-prft =
+        prft-in (keptWords delta n p w s)
+        ∙ ap prftIn (five-at (take acceptedAt s) n (fiveOf delta p) w front-long (five-long delta p))
+
+    accepted-set : drop setAt (keptWords delta n p w s) ≡ w
+    unfolding keptWords fiveOf
+    accepted-set = set-at (take acceptedAt s) n (fiveOf delta p) w front-long (five-long delta p)
+
+    accepted-count : getD (keptWords delta n p w s) acceptedAt 0 ≡ n
+    unfolding keptWords fiveOf
+    accepted-count = count-at (take acceptedAt s) n (fiveOf delta p) w front-long (five-long delta p)
+
+    accepted-mark : getD (keptWords delta n p w s) heldAt 0 ≡ 1
+    unfolding keptWords fiveOf
+    accepted-mark = mark-at (take acceptedAt s) n (fiveOf delta p) w front-long (five-long delta p)
+
+    accepted-reference : (t : Track) → prftIn (fiveOf delta p) ≡ true → setOk t w ≡ true → referenceOk t (keptWords delta n p w s) ≡ true
+    unfolding referenceOk
+    accepted-reference t a b =
+        rw accepted-mark (both _ _ refl (both _ _ (accepted-prft ∙ a) (ap (setOk t) accepted-set ∙ b)))
+
+    -- it is lawful where the new set is, the count, and the `prft` that is kept
+    pub accepted-lawful : (side : Side) → isOpen s ≡ true → Opened side s → acceptedOk side n ≡ true → (delta ≡ true → prftOk s ≡ true)
+        → (delta ≡ false → InRange p) → setOk (trackOf s) w ≡ true → lawful side (keptWords delta n p w s) ≡ true
+    unfolding lawful openOk isOpen
+    accepted-lawful side o h m a b c =
+        let z : eqb (getD (keptWords delta n p w s) trackAt 0) 0 ≡ false =
+        ap (λ (k : ℕ). eqb k 0) (accepted-kept trackAt (omega arith)) ∙ not-true _ o in
+        let count : acceptedOk side (getD (keptWords delta n p w s) acceptedAt 0) ≡ true = ap (acceptedOk side) accepted-count ∙ m in
+        let kept : referenceOk (trackOf (keptWords delta n p w s)) (keptWords delta n p w s) ≡ true =
+        ap (λ x. referenceOk (narrow x) (keptWords delta n p w s)) accepted-asked
+        ∙ accepted-reference (trackOf s) (five-ok delta p a b) c in
+        rw z (both _ _ (ap lawfulTrack accepted-asked ∙ h .track) (both _ _ count kept))

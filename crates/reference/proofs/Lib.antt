@@ -1,0 +1,4 @@
+pub mod OpenLaws
+pub mod KeepLaws
+pub mod AcceptedLaws
+pub mod KeptLaws

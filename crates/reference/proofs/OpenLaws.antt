@@ -1,0 +1,67 @@
+-- An open share that is lawful. Assumes nothing.
+use Prim.Native.Nat.{ℕ, _-_}
+use native.Mathlib.Omega.{arith}
+use mathlib.Core.Path.{_≡_, refl, sym, _∙_, ap}
+use mathlib.Core.Bool.{Bool, true, false}
+use mathlib.Core.List.{List}
+use borrow.Author.Tests.{not-true}
+use lib.Dec.{eqb}
+use lib.ListN.{length, getD, take, drop, length-drop, take-append-drop}
+use lib.Seq.{drop-drop}
+use Rattle.laws.specs.Tests.{_and_, allZero}
+use Rattle.laws.proofs.TestLaws.{left, right, allZero-append}
+use Rattle.track.specs.declared.Track.{Track}
+use Rattle.track.specs.Track.{lawful as lawfulTrack}
+use Rattle.field_table.specs.Lines.{setLen}
+use Rattle.field_set.specs.Lawful.{Tidy, lawful as lawfulSet}
+use Rattle.field_set.proofs.TidyLaws.{lawful-tidy, zeros-tidy}
+use Rattle.slots.specs.declared.lawful.Side.{Side}
+use Rattle.share_words.specs.Share.{trackAt, acceptedAt, heldAt, prftAt, setAt, shareLen}
+use Rattle.slots.specs.Share.{askedOf, trackOf, isOpen, acceptedOk, prftOk, setOk, referenceOk, openOk, lawful}
+
+-- an open share, taken apart
+pub record Opened (side : Side) (s : List ℕ) : Type 0 where
+  pub track : lawfulTrack (askedOf s) ≡ true
+  pub accepted : acceptedOk side (getD s acceptedAt 0) ≡ true
+  pub reference : referenceOk (trackOf s) s ≡ true
+
+pub opened-facts : (side : Side) (s : List ℕ) → lawful side s ≡ true → isOpen s ≡ true → Opened side s
+unfolding lawful isOpen openOk
+opened-facts side s h o =
+    let z : eqb (getD s trackAt 0) 0 ≡ false = not-true _ o in
+    let ok : (lawfulTrack (askedOf s) and acceptedOk side (getD s acceptedAt 0) and referenceOk (trackOf s) s) ≡ true = rw z at h in
+    record { track = left _ _ ok; accepted = left _ _ (right _ _ ok); reference = right _ _ (right _ _ ok) }
+
+-- a share that holds a reference
+pub held-facts : (t : Track) (s : List ℕ) → referenceOk t s ≡ true → eqb (getD s heldAt 0) 0 ≡ false
+    → (prftOk s ≡ true) × (lawfulSet t (drop setAt s) ≡ true)
+unfolding referenceOk setOk
+held-facts t s h z =
+    let ok : (eqb (getD s heldAt 0) 1 and prftOk s and setOk t (drop setAt s)) ≡ true = rw z at h in
+    (left _ _ (right _ _ ok), left _ _ (right _ _ (right _ _ ok)))
+
+-- the words of the reference's set
+pub reference-long : (s : List ℕ) → length s ≡ shareLen → length (drop setAt s) ≡ setLen
+reference-long s l = omega (arith, length-drop setAt s)
+
+-- the set as it is lent
+abbrev pub lent : List ℕ → List ℕ
+lent s = take (length s - setAt) (drop setAt s)
+
+-- what is left of zeros
+rest-zero : (n : ℕ) (l : List ℕ) → allZero l ≡ true → allZero (drop n l) ≡ true
+rest-zero n l e = right _ _ (sym (allZero-append (take n l) (drop n l)) ∙ ap allZero (take-append-drop n l) ∙ e)
+
+-- a field that doesn't stand in the reference, if there is one, has nothing stored
+pub share-tidy : (side : Side) (s : List ℕ) → length s ≡ shareLen → lawful side s ≡ true → isOpen s ≡ true → Tidy (drop setAt s)
+unfolding referenceOk
+share-tidy side s l h o = go (eqb (getD s heldAt 0) 0) refl
+  where
+    r : referenceOk (trackOf s) s ≡ true
+    r = opened-facts side s h o .reference
+
+    go : (b : Bool) → eqb (getD s heldAt 0) 0 ≡ b → Tidy (drop setAt s)
+    go true q =
+        let z : allZero (drop prftAt s) ≡ true = rw q at r in
+        zeros-tidy (drop setAt s) (reference-long s l) (ap allZero (sym (drop-drop (setAt - prftAt) prftAt s)) ∙ rest-zero (setAt - prftAt) (drop prftAt s) z)
+    go false q = lawful-tidy (trackOf s) (drop setAt s) (reference-long s l) (held-facts (trackOf s) s r q .1)

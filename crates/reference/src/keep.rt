@@ -1,0 +1,70 @@
+// The reference into the share.
+// Letters: `s` the words of a share, `x` the words of the new set.
+ghost use mathlib.Core.Path.{_≡_};
+ghost use mathlib.Core.List.{_++_};
+ghost use lib.ListN.{length, take, drop};
+ghost use Rattle.field_table.specs.Lines.{setLen};
+ghost use Rattle.field_set.specs.Lawful.{Tidy};
+ghost use Rattle.share_words.specs.Share.{setAt, shareLen};
+ghost use Rattle.reference.specs.Kept.{replacedBy, keptWords};
+use field_table::lines;
+use prft_value::Prft;
+use share_words::share;
+use word_spans::words;
+
+// The words of a set into the share. A field that stands neither in the old set nor in the new one has nothing stored in either: its words stay.
+fn copy_set(s: &mut [u64], x: &[u64])
+    requires { ⌜ (length (now s) ≡ shareLen) × (length (now x) ≡ setLen) ⌝ }
+    requires { ⌜ Tidy (drop setAt (now s)) × Tidy (now x) ⌝ }
+    ensures { λ r. ⌜ now (s .exit) ≡ take setAt (now (s .entry)) ++ now (x .entry) ⌝ }
+{
+    words::copy(x, lines::BMDT, lines::SIZES, &mut *s, share::SET);
+    let mut from = lines::SIZES;
+    let mut i = 0;
+    while i < lines::LINES {
+        let to = lines::place_at(i + 1);
+        let at = share::SET + from;
+        if (s[at] != 0) | (x[from] != 0) {
+            words::copy(x, from, to - from, &mut *s, at);
+        }
+        from = to;
+        i += 1;
+    }
+}
+
+// What an accepted object replaces of the reference.
+pub struct Replaced {
+    pub set: bool,
+    pub prft: bool,
+}
+
+// The set always: a delta is read against the object before it, and not against the last full one. The prft with a full object alone.
+fn replaced_by(delta: bool) -> Replaced
+    ensures { λ r. ⌜ r ≡ replacedBy delta ⌝ }
+{
+    Replaced {
+        set: true,
+        prft: !delta,
+    }
+}
+
+// The reference after an accepted object.
+pub fn keep(s: &mut [u64], delta: bool, prft: Prft, sequence: u64, x: &[u64])
+    requires { ⌜ (length (now s) ≡ shareLen) × (length (now x) ≡ setLen) ⌝ }
+    requires { ⌜ Tidy (drop setAt (now s)) × Tidy (now x) ⌝ }
+    ensures { λ r. ⌜ now (s .exit) ≡ keptWords delta sequence prft (now (x .entry)) (now (s .entry)) ⌝ }
+{
+    let new = replaced_by(delta);
+    s[share::ACCEPTED] = sequence;
+    s[share::HELD] = 1;
+    if new.prft {
+        s[share::PRFT] = if prft.stands { 1 } else { 0 };
+        s[share::NTP] = prft.ntp.0;
+        s[share::MEDIA_TIME] = prft.media.0;
+        s[share::VERSION] = prft.version;
+        s[share::PRFT_FLAGS] = prft.flags;
+    }
+    if new.set {
+        copy_set(s, x);
+    }
+}

@@ -1,6 +1,0 @@
-pub mod PartLaws
-pub mod RunLaws
-pub mod TopLaws
-pub mod InnerLaws
-pub mod LeftLaws
-pub mod OneBoxLaws

@@ -1,4 +1,0 @@
-pub mod Parts
-pub mod Top
-pub mod Inner
-pub mod Left

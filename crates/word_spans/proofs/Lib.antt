@@ -1,0 +1,2 @@
+pub mod ScanLaws
+pub mod CopyLoop

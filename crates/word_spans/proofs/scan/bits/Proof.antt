@@ -1,0 +1,86 @@
+-- `word_spans::scan::bits` meets its contract, by what is left to collect from the loops' place on. Assumes nothing.
+use Prim.Native.Nat.{_-_}
+use native.Mathlib.Omega.{arith}
+use borrow.Author.Needs.{needs}
+use Rattle.word_spans.proofs.ScanLaws.{Collecting, collect-none, collect-start, collect-run, collect-word, collect-end}
+use Rattle.word_spans.proofs.scan.bits.Statement.{statement}
+use Rattle.word_spans.proofs.scan.bits.Tie as tie
+
+abbrev Inv-loop : tie.InvT-loop
+Inv-loop w from to all₀ i₀ all i = Collecting w from to all i
+
+abbrev μ-loop : tie.MeasureT-loop
+μ-loop w from to all₀ i₀ all i = to - i
+
+abbrev Inv-loop2 : tie.InvT-loop2
+Inv-loop2 w from to all₀ i₀ all i = Collecting w from to all i
+
+abbrev μ-loop2 : tie.MeasureT-loop2
+μ-loop2 w from to all₀ i₀ all i = to - i
+
+returns : tie.Need-returns Inv-loop μ-loop Inv-loop2 μ-loop2
+returns c = collect-none _ _ _ (c .if1 .taken)
+
+loop-holds : tie.Need-loop-holds Inv-loop μ-loop Inv-loop2 μ-loop2
+loop-holds c = collect-start _ _ _ (c .before .before .pre) (c .if1 .left)
+
+sub-loop : tie.Need-sub-loop Inv-loop μ-loop Inv-loop2 μ-loop2
+sub-loop c = search needs
+
+sixty-four-requires : tie.Need-sixty-four-requires Inv-loop μ-loop Inv-loop2 μ-loop2
+sixty-four-requires c κs = search needs
+
+add-i : tie.Need-add-i Inv-loop μ-loop Inv-loop2 μ-loop2
+add-i c = search needs
+
+loop-less : tie.Need-loop-less Inv-loop μ-loop Inv-loop2 μ-loop2
+loop-less c = search needs
+
+loop-again : tie.Need-loop-again Inv-loop μ-loop Inv-loop2 μ-loop2
+loop-again c =
+    let h = c .before .before .loop .inv in
+    collect-run _ _ _ _ _ h _ (omega arith) (search needs) (c .«sixty-four» .ensures)
+
+loop2-holds : tie.Need-loop2-holds Inv-loop μ-loop Inv-loop2 μ-loop2
+loop2-holds c = search needs
+
+mul-all : tie.Need-mul-all Inv-loop μ-loop Inv-loop2 μ-loop2
+mul-all c = search needs
+
+shared-slice-read-all : tie.Need-shared-slice-read-all Inv-loop μ-loop Inv-loop2 μ-loop2
+shared-slice-read-all c = search needs
+
+add-i-2 : tie.Need-add-i-2 Inv-loop μ-loop Inv-loop2 μ-loop2
+add-i-2 c = search needs
+
+loop2-less : tie.Need-loop2-less Inv-loop μ-loop Inv-loop2 μ-loop2
+loop2-less c = search needs
+
+loop2-again : tie.Need-loop2-again Inv-loop μ-loop Inv-loop2 μ-loop2
+loop2-again c = collect-word _ _ _ _ _ (c .before .before .loop2 .inv) (c .before .loop2-test .taken)
+
+returns-2 : tie.Need-returns-2 Inv-loop μ-loop Inv-loop2 μ-loop2
+returns-2 c = collect-end _ _ _ _ _ (c .before .loop2 .inv) (c .loop2-test .left)
+
+pub bits-spec : {M : Type 1} → statement M
+bits-spec =
+    tie.close
+    (tie.spec
+    Inv-loop
+    μ-loop
+    Inv-loop2
+    μ-loop2
+    returns
+    loop-holds
+    sub-loop
+    sixty-four-requires
+    add-i
+    loop-less
+    loop-again
+    loop2-holds
+    mul-all
+    shared-slice-read-all
+    add-i-2
+    loop2-less
+    loop2-again
+    returns-2)

@@ -1,0 +1,51 @@
+// Many words looked at as one, without a branch for each.
+// Letters: `w` the words of a set.
+ghost use mathlib.Core.Path.{_≡_};
+ghost use Prim.Native.Nat.{_+_, _≤_};
+ghost use lib.ListN.{length};
+ghost use lib.Seq.{slice};
+ghost use Rattle.laws.specs.Tests.{allBits};
+
+// The bits that are set in some of the four words from a place on, of the sixteen, and of the sixty-four: a long run is taken in such steps, so
+// that a loop has few turns.
+fn four(w: &[u64], i: usize) -> u64
+    requires { ⌜ i + 4 ≤ length (now w) ⌝ }
+    ensures { λ r. ⌜ r ≡ allBits (slice i (i + 4) (now (w .entry))) ⌝ }
+{
+    w[i] | (w[i + 1] | (w[i + 2] | w[i + 3]))
+}
+
+fn sixteen(w: &[u64], i: usize) -> u64
+    requires { ⌜ i + 16 ≤ length (now w) ⌝ }
+    ensures { λ r. ⌜ r ≡ allBits (slice i (i + 16) (now (w .entry))) ⌝ }
+{
+    four(w, i) | (four(w, i + 4) | (four(w, i + 8) | four(w, i + 12)))
+}
+
+fn sixty_four(w: &[u64], i: usize) -> u64
+    requires { ⌜ i + 64 ≤ length (now w) ⌝ }
+    ensures { λ r. ⌜ r ≡ allBits (slice i (i + 64) (now (w .entry))) ⌝ }
+{
+    (sixteen(w, i) | sixteen(w, i + 16)) | (sixteen(w, i + 32) | sixteen(w, i + 48))
+}
+
+// The bits that are set in some word from a place up to another.
+pub fn bits(w: &[u64], from: usize, to: usize) -> u64
+    requires { ⌜ to ≤ length (now w) ⌝ }
+    ensures { λ r. ⌜ r ≡ allBits (slice from to (now (w .entry))) ⌝ }
+{
+    if to <= from {
+        return 0;
+    }
+    let mut all = 0;
+    let mut i = from;
+    while 64 <= to - i {
+        all = all | sixty_four(w, i);
+        i += 64;
+    }
+    while i < to {
+        all = all | w[i];
+        i += 1;
+    }
+    all
+}

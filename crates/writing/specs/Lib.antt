@@ -1,4 +1,0 @@
-pub mod Items
-pub mod Changes
-pub mod Fields
-pub mod Prft
