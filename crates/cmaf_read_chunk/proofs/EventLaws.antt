@@ -18,8 +18,8 @@ use Rattle.byte_parts.specs.declared.Part.{Part}
 use Rattle.cmaf_read_shape.specs.Parts.{endOf, listAt, boxAt}
 use Rattle.cmaf_read_shape.proofs.PartLaws.{box-sized, box-size}
 use Rattle.event_value.specs.Events.{Event, eventAt, eventsFrom, eventsOf}
-use Rattle.event_value.specs.Events.{eventWords as perEvent, eventSchemeLen, eventValue, eventValueLen, eventTimescale, eventTime, eventDuration, eventId, eventMessage, eventMessageLen}
-use Rattle.cmaf_read_prelude.specs.Emsg.{emsgOk, emsgAt, emsgsOk, eventWords, emsgWords, keptEvents}
+use Rattle.event_value.specs.Events.{eventWords, eventSchemeLen, eventValue, eventValueLen, eventTimescale, eventTime, eventDuration, eventId, eventMessage, eventMessageLen}
+use Rattle.cmaf_read_prelude.specs.Emsg.{emsgOk, emsgAt, emsgsOk, boxWords, emsgWords, keptEvents}
 use Rattle.cmaf_read_prelude.proofs.NumberLaws.{number-lt}
 use Rattle.cmaf_read_prelude.proofs.EmsgLaws.{Strings, strings}
 use Rattle.cmaf_read_prelude.proofs.EventLaws.{event-in, event-numbers, event-length, words-length}
@@ -41,8 +41,8 @@ record Narrow (l : List ℕ) : Type 0 where
   value : getD l eventValueLen 0 < 2 ^ 32
   message : getD l eventMessageLen 0 < 2 ^ 32
 
-first-narrow : (c : List ℕ) (at : ℕ) (rest : List ℕ) → Bytes c → emsgOk c (emsgAt c at) ≡ true → Narrow (eventWords c (emsgAt c at) ++ rest)
-unfolding eventWords
+first-narrow : (c : List ℕ) (at : ℕ) (rest : List ℕ) → Bytes c → emsgOk c (emsgAt c at) ≡ true → Narrow (boxWords c (emsgAt c at) ++ rest)
+unfolding boxWords
 first-narrow c at rest y e =
     let b : Part = emsgAt c at in
     let s : Strings c b = strings c b e in
@@ -54,45 +54,45 @@ first-narrow c at rest y e =
     }
 
 all-narrow : (c : List ℕ) (k at i : ℕ) (rest : List ℕ) → Bytes c → emsgsOk c k at ≡ true → i < k
-    → Narrow (drop (perEvent * i) (emsgWords c k at ++ rest))
+    → Narrow (drop (eventWords * i) (emsgWords c k at ++ rest))
 unfolding emsgWords emsgsOk
 all-narrow c zero at i rest y e lt = absurd (not-suc-le-zero lt)
 all-narrow c (suc k) at zero rest y e lt =
-    subst Narrow (sym (append-assoc (eventWords c (emsgAt c at)) _ rest))
+    subst Narrow (sym (append-assoc (boxWords c (emsgAt c at)) _ rest))
     (first-narrow c at (emsgWords c k (endOf (emsgAt c at)) ++ rest) y (left _ _ e))
 all-narrow c (suc k) at (suc i) rest y e lt =
     let b : Part = emsgAt c at in
     let w : List ℕ = emsgWords c k (endOf b) ++ rest in
-    let n : perEvent * suc i ≡ perEvent + perEvent * i = omega arith in
-    let past : drop (perEvent * i) w ≡ drop (perEvent * suc i) ((eventWords c b ++ emsgWords c k (endOf b)) ++ rest) =
+    let n : eventWords * suc i ≡ eventWords + eventWords * i = omega arith in
+    let past : drop (eventWords * i) w ≡ drop (eventWords * suc i) ((boxWords c b ++ emsgWords c k (endOf b)) ++ rest) =
     sym
-    (ap (drop (perEvent * suc i)) (append-assoc (eventWords c b) (emsgWords c k (endOf b)) rest)
-    ∙ ap (λ (m : ℕ). drop m (eventWords c b ++ w)) n
-    ∙ sym (drop-drop (perEvent * i) perEvent (eventWords c b ++ w))
-    ∙ ap (drop (perEvent * i)) (drop-at (eventWords c b) w perEvent (event-length c b))) in
+    (ap (drop (eventWords * suc i)) (append-assoc (boxWords c b) (emsgWords c k (endOf b)) rest)
+    ∙ ap (λ (m : ℕ). drop m (boxWords c b ++ w)) n
+    ∙ sym (drop-drop (eventWords * i) eventWords (boxWords c b ++ w))
+    ∙ ap (drop (eventWords * i)) (drop-at (boxWords c b) w eventWords (event-length c b))) in
     subst Narrow past (all-narrow c k (endOf b) i rest y (right _ _ e) (omega arith))
 
 -- ---- the words are the chunk's events
 
 -- events look at their own words only
-event-front : (c ws rest : List ℕ) (i : ℕ) → perEvent * i + perEvent ≤ length ws → eventAt c (ws ++ rest) i ≡ eventAt c ws i
+event-front : (c ws rest : List ℕ) (i : ℕ) → eventWords * i + eventWords ≤ length ws → eventAt c (ws ++ rest) i ≡ eventAt c ws i
 unfolding eventAt
 event-front c ws rest i h =
-    let w : (j : ℕ) → j < perEvent * i + perEvent → getD (ws ++ rest) j 0 ≡ getD ws j 0 = λ j l. List·getD-append ws rest 0 j (omega arith) in
+    let w : (j : ℕ) → j < eventWords * i + eventWords → getD (ws ++ rest) j 0 ≡ getD ws j 0 = λ j l. List·getD-append ws rest 0 j (omega arith) in
     rw (
-      w (perEvent * i) (omega arith),
-      w (perEvent * i + eventSchemeLen) (omega arith),
-      w (perEvent * i + eventValue) (omega arith),
-      w (perEvent * i + eventValueLen) (omega arith),
-      w (perEvent * i + eventTimescale) (omega arith),
-      w (perEvent * i + eventTime) (omega arith),
-      w (perEvent * i + eventDuration) (omega arith),
-      w (perEvent * i + eventId) (omega arith),
-      w (perEvent * i + eventMessage) (omega arith),
-      w (perEvent * i + eventMessageLen) (omega arith),
+      w (eventWords * i) (omega arith),
+      w (eventWords * i + eventSchemeLen) (omega arith),
+      w (eventWords * i + eventValue) (omega arith),
+      w (eventWords * i + eventValueLen) (omega arith),
+      w (eventWords * i + eventTimescale) (omega arith),
+      w (eventWords * i + eventTime) (omega arith),
+      w (eventWords * i + eventDuration) (omega arith),
+      w (eventWords * i + eventId) (omega arith),
+      w (eventWords * i + eventMessage) (omega arith),
+      w (eventWords * i + eventMessageLen) (omega arith),
     )
 
-events-front : (c ws rest : List ℕ) (k i : ℕ) → perEvent * (i + k) ≤ length ws → eventsFrom c (ws ++ rest) k i ≡ eventsFrom c ws k i
+events-front : (c ws rest : List ℕ) (k i : ℕ) → eventWords * (i + k) ≤ length ws → eventsFrom c (ws ++ rest) k i ≡ eventsFrom c ws k i
 unfolding eventsFrom
 events-front c ws rest zero i h = refl
 events-front c ws rest (suc k) i h =
@@ -101,13 +101,13 @@ events-front c ws rest (suc k) i h =
 module _ (c : List ℕ) (k at : ℕ) (ws : List ℕ) where
   pub events-kept : eventsOf c (keptEvents c k at ws) k ≡ eventsOf c (emsgWords c k at) k
   unfolding keptEvents
-  events-kept = events-front c (emsgWords c k at) (drop (perEvent * k) ws) k 0 (omega (arith, words-length c k at))
+  events-kept = events-front c (emsgWords c k at) (drop (eventWords * k) ws) k 0 (omega (arith, words-length c k at))
 
-  pub kept-long : perEvent * k ≤ length (keptEvents c k at ws)
+  pub kept-long : eventWords * k ≤ length (keptEvents c k at ws)
   unfolding keptEvents
-  kept-long = omega (arith, length-append (emsgWords c k at) (drop (perEvent * k) ws), words-length c k at)
+  kept-long = omega (arith, length-append (emsgWords c k at) (drop (eventWords * k) ws), words-length c k at)
 
-  module _ (h : at ≤ length c) (e : emsgsOk c k at ≡ true) (r : perEvent * k ≤ length ws) where
+  module _ (h : at ≤ length c) (e : emsgsOk c k at ≡ true) (r : eventWords * k ≤ length ws) where
     -- the texts of the events lie in the chunk
     pub all-in : AllIn c (keptEvents c k at ws) k
     all-in i lt = let w = event-in c k at ws h e r i lt in record { scheme = w .scheme; value = w .value; message = w .message }
@@ -116,20 +116,20 @@ module _ (c : List ℕ) (k at : ℕ) (ws : List ℕ) where
     pub all-words : Bytes c → k ≤ eventsMost → AllWords (keptEvents c k at ws) k
     unfolding keptEvents
     all-words y few =
-        let all : List ℕ = emsgWords c k at ++ drop (perEvent * k) ws in
+        let all : List ℕ = emsgWords c k at ++ drop (eventWords * k) ws in
         record {
           few = few;
           each = λ i lt.
               let w = event-in c k at ws h e r i lt in
               let n = event-numbers c k at ws y h e i lt in
-              let s = all-narrow c k at i (drop (perEvent * k) ws) y e lt in
+              let s = all-narrow c k at i (drop (eventWords * k) ws) y e lt in
               record {
                 there = w .there;
-                scheme-lt = rw (sym (getD-drop (perEvent * i) all eventSchemeLen 0)) (s .scheme);
-                value-lt = rw (sym (getD-drop (perEvent * i) all eventValueLen 0)) (s .value);
+                scheme-lt = rw (sym (getD-drop (eventWords * i) all eventSchemeLen 0)) (s .scheme);
+                value-lt = rw (sym (getD-drop (eventWords * i) all eventValueLen 0)) (s .value);
                 timescale-lt = n .timescale;
                 duration-lt = n .duration;
                 id-lt = n .id;
-                message-lt = rw (sym (getD-drop (perEvent * i) all eventMessageLen 0)) (s .message);
+                message-lt = rw (sym (getD-drop (eventWords * i) all eventMessageLen 0)) (s .message);
               };
         }

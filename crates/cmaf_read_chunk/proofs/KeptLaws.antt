@@ -6,7 +6,7 @@ use mathlib.Core.Bool.{Bool, true}
 use mathlib.Core.List.{List}
 use lib.ListN.{length}
 use Rattle.constants.specs.Maxima.{eventBytesMost}
-use Rattle.event_value.specs.Events.{eventWords as perEvent, eventsLen}
+use Rattle.event_value.specs.Events.{eventWords, eventsLen}
 use Rattle.laws.specs.Bytes.{Bytes}
 use Rattle.wire.specs.declared.form.Row.{Row}
 use Rattle.track.specs.declared.Track.{Track}
@@ -46,11 +46,11 @@ module _ {t : Track} {c : List ℕ} {x : Top} {f : Inner} {ws₀ : List ℕ} (j 
   events-ok : emsgsOk c (x .events) (x .emsgs .at) ≡ true
   events-ok = found-hold t c x f (j .top-is) (j .inner-is) (j .boxes-right) .emsgs-ok
 
-  events-room : perEvent * x .events ≤ length ws₀
+  events-room : eventWords * x .events ≤ length ws₀
   events-room = omega (arith, j .lent, events-few)
 
   -- the events can be kept
-  pub events-lent : ((x .emsgs .at ≤ length c) × (emsgsOk c (x .events) (x .emsgs .at) ≡ true)) × (perEvent * x .events ≤ length ws₀)
+  pub events-lent : ((x .emsgs .at ≤ length c) × (emsgsOk c (x .events) (x .emsgs .at) ≡ true)) × (eventWords * x .events ≤ length ws₀)
   events-lent = ((events-in, events-ok), events-room)
 
   -- BMDT can be read
@@ -66,7 +66,7 @@ module _ {t : Track} {c : List ℕ} {x : Top} {f : Inner} {ws₀ : List ℕ} (j 
     kept-in = rw w (all-in c (x .events) (x .emsgs .at) ws₀ events-in events-ok events-room)
 
     -- the rules can be asked
-    pub rules-lent : Right t c x f × (perEvent * x .events ≤ length ws)
+    pub rules-lent : Right t c x f × (eventWords * x .events ≤ length ws)
     rules-lent = (
       right-is t c x f (j .top-is) (j .inner-is) (j .boxes-right) (j .counts-right),
       rw w (kept-long c (x .events) (x .emsgs .at) ws₀),

@@ -7,7 +7,7 @@ use mathlib.Core.Bool.{true}
 use mathlib.Core.List.{List}
 use borrow.Author.Tests.{eqb-false, not-true}
 use lib.ListN.{length, getD, drop}
-use Rattle.event_value.specs.Events.{eventWords as perEvent, eventSchemeLen, eventValue, eventValueLen, eventMessage, eventMessageLen}
+use Rattle.event_value.specs.Events.{eventWords, eventSchemeLen, eventValue, eventValueLen, eventMessage, eventMessageLen}
 use Rattle.laws.specs.Tests.{allLe}
 use Rattle.laws.proofs.BytesLaws.{bytes-are}
 use Rattle.laws.proofs.TestLaws.{left, right, low-take, low-drop}
@@ -52,7 +52,7 @@ module _ (c : List ℕ) (k at : ℕ) (low : allLe 255 c ≡ true) (i : at ≤ le
         id = omega (arith, n .id);
         scheme = p .scheme-text;
         value = p .value-text;
-        scheme-bytes = text (getD ws (perEvent * j) 0) (getD ws (perEvent * j + eventSchemeLen) 0);
-        value-bytes = text (getD ws (perEvent * j + eventValue) 0) (getD ws (perEvent * j + eventValueLen) 0);
-        message-bytes = text (getD ws (perEvent * j + eventMessage) 0) (getD ws (perEvent * j + eventMessageLen) 0);
+        scheme-bytes = text (getD ws (eventWords * j) 0) (getD ws (eventWords * j + eventSchemeLen) 0);
+        value-bytes = text (getD ws (eventWords * j + eventValue) 0) (getD ws (eventWords * j + eventValueLen) 0);
+        message-bytes = text (getD ws (eventWords * j + eventMessage) 0) (getD ws (eventWords * j + eventMessageLen) 0);
       }))

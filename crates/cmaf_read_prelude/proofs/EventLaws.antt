@@ -15,9 +15,9 @@ use Rattle.byte_parts.specs.declared.Part.{Part}
 use Rattle.cmaf_read_shape.specs.Parts.{Inside, endOf}
 use Rattle.event_value.specs.Events.{part, EventFits}
 use Rattle.constants.specs.Maxima.{blockMost}
-use Rattle.event_value.specs.Events.{eventWords as perEvent, eventSchemeLen, eventValue, eventValueLen, eventTimescale, eventTime, eventDuration, eventId, eventMessage, eventMessageLen}
+use Rattle.event_value.specs.Events.{eventWords, eventSchemeLen, eventValue, eventValueLen, eventTimescale, eventTime, eventDuration, eventId, eventMessage, eventMessageLen}
 use Rattle.cmaf_read_tree.specs.Numbers.{u32, u64}
-use Rattle.cmaf_read_prelude.specs.Emsg.{zeroFrom, schemeAt, schemeEnd, valueEnd, emsgOk, emsgAt, emsgsOk, eventWords, emsgWords, keptEvents}
+use Rattle.cmaf_read_prelude.specs.Emsg.{zeroFrom, schemeAt, schemeEnd, valueEnd, emsgOk, emsgAt, emsgsOk, boxWords, emsgWords, keptEvents}
 use Rattle.cmaf_read_prelude.proofs.NumberLaws.{number-lt}
 use Rattle.cmaf_read_prelude.proofs.ZeroLaws.{zero-text}
 use Rattle.cmaf_read_prelude.proofs.EmsgLaws.{Strings, strings, scheme-is, value-is, emsg-inside, emsgs-step}
@@ -55,23 +55,23 @@ module _ (l : List ℕ) (at : ℕ) (ws : List ℕ) where
 pub words-are : (c : List ℕ) (b : Part) (ok : emsgOk c b ≡ true) (end s : ℕ) (ee : end ≡ endOf b) (es : s ≡ zeroFrom c (b .at + 32) end)
     → (v : ℕ) → v ≡ zeroFrom c (s + 1) end
     → (t p d n : ℕ) → t ≡ u32 c (b .at + 12) → p ≡ u64 c (b .at + 16) → d ≡ u32 c (b .at + 24) → n ≡ u32 c (b .at + 28)
-    → ((b .at + 32) ∷ (s - (b .at + 32)) ∷ (s + 1) ∷ (v - (s + 1)) ∷ t ∷ p ∷ d ∷ n ∷ (v + 1) ∷ (end - (v + 1)) ∷ []) ≡ eventWords c b
-unfolding eventWords
+    → ((b .at + 32) ∷ (s - (b .at + 32)) ∷ (s + 1) ∷ (v - (s + 1)) ∷ t ∷ p ∷ d ∷ n ∷ (v + 1) ∷ (end - (v + 1)) ∷ []) ≡ boxWords c b
+unfolding boxWords
 words-are c b ok end s ee es v ev t p d n et ep ed en = rw (value-is c b ok end s ee es v ev, scheme-is c b ok end s ee es, ee, et, ep, ed, en)
 
 -- ---- the events that are kept
 
-pub event-length : (c : List ℕ) (b : Part) → length (eventWords c b) ≡ 10
-unfolding eventWords
+pub event-length : (c : List ℕ) (b : Part) → length (boxWords c b) ≡ 10
+unfolding boxWords
 event-length c b = refl
 
-pub words-length : (c : List ℕ) (k at : ℕ) → length (emsgWords c k at) ≡ perEvent * k
+pub words-length : (c : List ℕ) (k at : ℕ) → length (emsgWords c k at) ≡ eventWords * k
 unfolding emsgWords
 words-length c zero at = refl
 words-length c (suc k) at =
-    length-append (eventWords c (emsgAt c at)) _ ∙ omega (arith, event-length c (emsgAt c at), words-length c k (endOf (emsgAt c at)))
+    length-append (boxWords c (emsgAt c at)) _ ∙ omega (arith, event-length c (emsgAt c at), words-length c k (endOf (emsgAt c at)))
 
-words-step : (c : List ℕ) (p k i : ℕ) → i < k → emsgWords c (k - i) p ≡ eventWords c (emsgAt c p) ++ emsgWords c (k - (i + 1)) (endOf (emsgAt c p))
+words-step : (c : List ℕ) (p k i : ℕ) → i < k → emsgWords c (k - i) p ≡ boxWords c (emsgAt c p) ++ emsgWords c (k - (i + 1)) (endOf (emsgAt c p))
 unfolding emsgWords
 words-step c p k i h = let e : k - i ≡ suc (k - (i + 1)) = omega arith in rw e
 
@@ -80,13 +80,13 @@ pub record Keeping (c : List ℕ) (k at : ℕ) (ws₀ ws : List ℕ) (p i : ℕ)
   pub within : p ≤ length c
   pub high : i ≤ k
   pub ok : emsgsOk c (k - i) p ≡ true
-  pub room : perEvent * k ≤ length ws
+  pub room : eventWords * k ≤ length ws
   pub same : length ws ≡ length ws₀
-  pub rest : sets ws (perEvent * i) (emsgWords c (k - i) p) ≡ sets ws₀ 0 (emsgWords c k at)
+  pub rest : sets ws (eventWords * i) (emsgWords c (k - i) p) ≡ sets ws₀ 0 (emsgWords c k at)
 
 module _ (c : List ℕ) (k at : ℕ) (ws₀ : List ℕ) where
   -- none is kept yet
-  pub keeping-start : at ≤ length c → emsgsOk c k at ≡ true → perEvent * k ≤ length ws₀ → Keeping c k at ws₀ ws₀ at 0
+  pub keeping-start : at ≤ length c → emsgsOk c k at ≡ true → eventWords * k ≤ length ws₀ → Keeping c k at ws₀ ws₀ at 0
   keeping-start h e r = record { within = h; high = omega arith; ok = rw sub-zero e; room = r; same = refl; rest = rw sub-zero }
 
   module _ (ws : List ℕ) (p i : ℕ) (h : Keeping c k at ws₀ ws p i) where
@@ -95,21 +95,21 @@ module _ (c : List ℕ) (k at : ℕ) (ws₀ : List ℕ) where
     keeping-ok lt b eb = rw eb (left _ _ (sym (emsgs-step c p k i lt) ∙ h .ok))
 
     -- one event more
-    pub keeping-next : i < k → (b : Part) (q : ℕ) (ws′ : List ℕ) → b ≡ emsgAt c p → q ≡ endOf b → ws′ ≡ sets ws (perEvent * i) (eventWords c b)
+    pub keeping-next : i < k → (b : Part) (q : ℕ) (ws′ : List ℕ) → b ≡ emsgAt c p → q ≡ endOf b → ws′ ≡ sets ws (eventWords * i) (boxWords c b)
         → Keeping c k at ws₀ ws′ q (i + 1)
     keeping-next lt b q ws′ eb eq ew =
-        let n : perEvent * (i + 1) ≡ perEvent * i + length (eventWords c b) = omega (arith, event-length c b) in
-        let same′ : length ws′ ≡ length ws = ap length ew ∙ length-sets ws (perEvent * i) (eventWords c b) in
-        let left′ : eventWords c b ++ emsgWords c (k - (i + 1)) q ≡ emsgWords c (k - i) p = rw (eq, eb) (sym (words-step c p k i lt)) in
-        let run : sets ws′ (perEvent * (i + 1)) (emsgWords c (k - (i + 1)) q) ≡ sets ws (perEvent * i) (eventWords c b ++ emsgWords c (k - (i + 1)) q) =
-        rw (n, ew) (sym (sets-append (eventWords c b) (emsgWords c (k - (i + 1)) q) ws (perEvent * i))) in
+        let n : eventWords * (i + 1) ≡ eventWords * i + length (boxWords c b) = omega (arith, event-length c b) in
+        let same′ : length ws′ ≡ length ws = ap length ew ∙ length-sets ws (eventWords * i) (boxWords c b) in
+        let left′ : boxWords c b ++ emsgWords c (k - (i + 1)) q ≡ emsgWords c (k - i) p = rw (eq, eb) (sym (words-step c p k i lt)) in
+        let run : sets ws′ (eventWords * (i + 1)) (emsgWords c (k - (i + 1)) q) ≡ sets ws (eventWords * i) (boxWords c b ++ emsgWords c (k - (i + 1)) q) =
+        rw (n, ew) (sym (sets-append (boxWords c b) (emsgWords c (k - (i + 1)) q) ws (eventWords * i))) in
         record {
           within = rw (eq, eb) (emsg-inside c p (h .within) .within);
           high = omega arith;
           ok = rw (eq, eb) (right _ _ (sym (emsgs-step c p k i lt) ∙ h .ok));
           room = omega (arith, same′, h .room);
           same = same′ ∙ h .same;
-          rest = run ∙ ap (λ (l : List ℕ). sets ws (perEvent * i) l) left′ ∙ h .rest;
+          rest = run ∙ ap (λ (l : List ℕ). sets ws (eventWords * i) l) left′ ∙ h .rest;
         }
 
     -- all are
@@ -117,21 +117,21 @@ module _ (c : List ℕ) (k at : ℕ) (ws₀ : List ℕ) where
     unfolding keptEvents emsgWords
     keeping-end le =
         let z : k - i ≡ 0 = omega arith in
-        let e : ws ≡ sets ws (perEvent * i) (emsgWords c (k - i) p) = rw z in
+        let e : ws ≡ sets ws (eventWords * i) (emsgWords c (k - i) p) = rw z in
         let room : 0 + length (emsgWords c k at) ≤ length ws₀ = omega (arith, words-length c k at, h .room, h .same) in
-        let n : 0 + length (emsgWords c k at) ≡ perEvent * k = omega (arith, words-length c k at) in
+        let n : 0 + length (emsgWords c k at) ≡ eventWords * k = omega (arith, words-length c k at) in
         e ∙ h .rest ∙ sets-eq (emsgWords c k at) ws₀ 0 room ∙ ap (λ (m : ℕ). emsgWords c k at ++ drop m ws₀) n
 
 -- ---- what kept words say
 
 -- the texts of the event with the number i lie in the chunk, and its strings hold no zero byte
 pub record EventIn (c ws : List ℕ) (i : ℕ) : Type 0 where
-  pub there : perEvent * i + perEvent ≤ length ws
-  pub scheme : getD ws (perEvent * i) 0 + getD ws (perEvent * i + eventSchemeLen) 0 ≤ length c
-  pub value : getD ws (perEvent * i + eventValue) 0 + getD ws (perEvent * i + eventValueLen) 0 ≤ length c
-  pub message : getD ws (perEvent * i + eventMessage) 0 + getD ws (perEvent * i + eventMessageLen) 0 ≤ length c
-  pub scheme-text : noZero (part c (getD ws (perEvent * i) 0) (getD ws (perEvent * i + eventSchemeLen) 0)) ≡ true
-  pub value-text : noZero (part c (getD ws (perEvent * i + eventValue) 0) (getD ws (perEvent * i + eventValueLen) 0)) ≡ true
+  pub there : eventWords * i + eventWords ≤ length ws
+  pub scheme : getD ws (eventWords * i) 0 + getD ws (eventWords * i + eventSchemeLen) 0 ≤ length c
+  pub value : getD ws (eventWords * i + eventValue) 0 + getD ws (eventWords * i + eventValueLen) 0 ≤ length c
+  pub message : getD ws (eventWords * i + eventMessage) 0 + getD ws (eventWords * i + eventMessageLen) 0 ≤ length c
+  pub scheme-text : noZero (part c (getD ws (eventWords * i) 0) (getD ws (eventWords * i + eventSchemeLen) 0)) ≡ true
+  pub value-text : noZero (part c (getD ws (eventWords * i + eventValue) 0) (getD ws (eventWords * i + eventValueLen) 0)) ≡ true
 
 -- the words at the front of a list are those of a box in the chunk that is as it must be
 pub record Leads (c l : List ℕ) : Type 0 where
@@ -139,10 +139,10 @@ pub record Leads (c l : List ℕ) : Type 0 where
   pub rest : List ℕ
   pub inside : Inside c b
   pub ok : emsgOk c b ≡ true
-  pub words : l ≡ eventWords c b ++ rest
+  pub words : l ≡ boxWords c b ++ rest
 
 pub leads : (c : List ℕ) (k at i : ℕ) (rest : List ℕ) → at ≤ length c → emsgsOk c k at ≡ true → i < k
-    → Leads c (drop (perEvent * i) (emsgWords c k at ++ rest))
+    → Leads c (drop (eventWords * i) (emsgWords c k at ++ rest))
 unfolding emsgWords emsgsOk
 leads c zero at i rest h e lt = absurd (not-suc-le-zero lt)
 leads c (suc k) at zero rest h e lt =
@@ -151,18 +151,18 @@ leads c (suc k) at zero rest h e lt =
       rest = emsgWords c k (endOf (emsgAt c at)) ++ rest;
       inside = emsg-inside c at h;
       ok = left _ _ e;
-      words = append-assoc (eventWords c (emsgAt c at)) _ rest;
+      words = append-assoc (boxWords c (emsgAt c at)) _ rest;
     }
 leads c (suc k) at (suc i) rest h e lt =
     let b : Part = emsgAt c at in
     let w : List ℕ = emsgWords c k (endOf b) ++ rest in
-    let n : perEvent * suc i ≡ perEvent + perEvent * i = omega arith in
-    let past : drop (perEvent * i) w ≡ drop (perEvent * suc i) (eventWords c b ++ emsgWords c k (endOf b) ++ rest) =
+    let n : eventWords * suc i ≡ eventWords + eventWords * i = omega arith in
+    let past : drop (eventWords * i) w ≡ drop (eventWords * suc i) (boxWords c b ++ emsgWords c k (endOf b) ++ rest) =
     sym
-    (ap (drop (perEvent * suc i)) (append-assoc (eventWords c b) (emsgWords c k (endOf b)) rest)
-    ∙ ap (λ (m : ℕ). drop m (eventWords c b ++ w)) n
-    ∙ sym (drop-drop (perEvent * i) perEvent (eventWords c b ++ w))
-    ∙ ap (drop (perEvent * i)) (drop-at (eventWords c b) w perEvent (event-length c b))) in
+    (ap (drop (eventWords * suc i)) (append-assoc (boxWords c b) (emsgWords c k (endOf b)) rest)
+    ∙ ap (λ (m : ℕ). drop m (boxWords c b ++ w)) n
+    ∙ sym (drop-drop (eventWords * i) eventWords (boxWords c b ++ w))
+    ∙ ap (drop (eventWords * i)) (drop-at (boxWords c b) w eventWords (event-length c b))) in
     subst (Leads c) past (leads c k (endOf b) i rest (emsg-inside c at h .within) (right _ _ e) (omega arith))
 
 word-at : (ws l : List ℕ) (n j : ℕ) → drop n ws ≡ l → getD ws (n + j) 0 ≡ getD l j 0
@@ -176,23 +176,23 @@ value-text : (c : List ℕ) (b : Part) → Inside c b → Strings c b → noZero
 unfolding valueEnd
 value-text c b n s = zero-text c (schemeEnd c b + 1) (endOf b) (omega (arith, s .scheme-to)) (n .within)
 
-pub event-in : (c : List ℕ) (k at : ℕ) (ws : List ℕ) → at ≤ length c → emsgsOk c k at ≡ true → perEvent * k ≤ length ws
+pub event-in : (c : List ℕ) (k at : ℕ) (ws : List ℕ) → at ≤ length c → emsgsOk c k at ≡ true → eventWords * k ≤ length ws
     → (i : ℕ) → i < k → EventIn c (keptEvents c k at ws) i
-unfolding keptEvents eventWords
+unfolding keptEvents boxWords
 event-in c k at ws h e r i lt =
-    let l = leads c k at i (drop (perEvent * k) ws) h e lt in
-    let all : List ℕ = emsgWords c k at ++ drop (perEvent * k) ws in
+    let l = leads c k at i (drop (eventWords * k) ws) h e lt in
+    let all : List ℕ = emsgWords c k at ++ drop (eventWords * k) ws in
     let b : Part = l .b in
     let s = strings c b (l .ok) in
-    let w0 : getD all (perEvent * i) 0 ≡ schemeAt b = ap (λ (n : ℕ). getD all n 0) (sym (add-zero (perEvent * i))) ∙ word-at all _ (perEvent * i) 0 (l .words) in
-    let w1 : getD all (perEvent * i + eventSchemeLen) 0 ≡ schemeEnd c b - schemeAt b = word-at all _ (perEvent * i) eventSchemeLen (l .words) in
-    let w2 : getD all (perEvent * i + eventValue) 0 ≡ schemeEnd c b + 1 = word-at all _ (perEvent * i) eventValue (l .words) in
-    let w3 : getD all (perEvent * i + eventValueLen) 0 ≡ valueEnd c b - (schemeEnd c b + 1) = word-at all _ (perEvent * i) eventValueLen (l .words) in
-    let w8 : getD all (perEvent * i + eventMessage) 0 ≡ valueEnd c b + 1 = word-at all _ (perEvent * i) eventMessage (l .words) in
-    let w9 : getD all (perEvent * i + eventMessageLen) 0 ≡ endOf b - (valueEnd c b + 1) = word-at all _ (perEvent * i) eventMessageLen (l .words) in
+    let w0 : getD all (eventWords * i) 0 ≡ schemeAt b = ap (λ (n : ℕ). getD all n 0) (sym (add-zero (eventWords * i))) ∙ word-at all _ (eventWords * i) 0 (l .words) in
+    let w1 : getD all (eventWords * i + eventSchemeLen) 0 ≡ schemeEnd c b - schemeAt b = word-at all _ (eventWords * i) eventSchemeLen (l .words) in
+    let w2 : getD all (eventWords * i + eventValue) 0 ≡ schemeEnd c b + 1 = word-at all _ (eventWords * i) eventValue (l .words) in
+    let w3 : getD all (eventWords * i + eventValueLen) 0 ≡ valueEnd c b - (schemeEnd c b + 1) = word-at all _ (eventWords * i) eventValueLen (l .words) in
+    let w8 : getD all (eventWords * i + eventMessage) 0 ≡ valueEnd c b + 1 = word-at all _ (eventWords * i) eventMessage (l .words) in
+    let w9 : getD all (eventWords * i + eventMessageLen) 0 ≡ endOf b - (valueEnd c b + 1) = word-at all _ (eventWords * i) eventMessageLen (l .words) in
     let n : endOf b ≤ length c = l .inside .within in
     record {
-      there = omega (arith, length-append (emsgWords c k at) (drop (perEvent * k) ws), words-length c k at, length-drop (perEvent * k) ws);
+      there = omega (arith, length-append (emsgWords c k at) (drop (eventWords * k) ws), words-length c k at, length-drop (eventWords * k) ws);
       scheme = omega (arith, w0, w1, s .scheme-from, s .scheme-to);
       value = omega (arith, w2, w3, s .value-from, s .value-to);
       message = omega (arith, w8, w9, s .value-to);
@@ -202,24 +202,24 @@ event-in c k at ws h e r i lt =
 
 -- its numbers are those of their box fields
 pub record EventNumbers (ws : List ℕ) (i : ℕ) : Type 0 where
-  pub timescale : getD ws (perEvent * i + eventTimescale) 0 < 2 ^ 32
-  pub time : getD ws (perEvent * i + eventTime) 0 < 2 ^ 64
-  pub duration : getD ws (perEvent * i + eventDuration) 0 < 2 ^ 32
-  pub id : getD ws (perEvent * i + eventId) 0 < 2 ^ 32
+  pub timescale : getD ws (eventWords * i + eventTimescale) 0 < 2 ^ 32
+  pub time : getD ws (eventWords * i + eventTime) 0 < 2 ^ 64
+  pub duration : getD ws (eventWords * i + eventDuration) 0 < 2 ^ 32
+  pub id : getD ws (eventWords * i + eventId) 0 < 2 ^ 32
 
 pub event-numbers : (c : List ℕ) (k at : ℕ) (ws : List ℕ) → Bytes c → at ≤ length c → emsgsOk c k at ≡ true
     → (i : ℕ) → i < k → EventNumbers (keptEvents c k at ws) i
-unfolding keptEvents eventWords
+unfolding keptEvents boxWords
 event-numbers c k at ws y h e i lt =
-    let l = leads c k at i (drop (perEvent * k) ws) h e lt in
-    let all : List ℕ = emsgWords c k at ++ drop (perEvent * k) ws in
+    let l = leads c k at i (drop (eventWords * k) ws) h e lt in
+    let all : List ℕ = emsgWords c k at ++ drop (eventWords * k) ws in
     let b : Part = l .b in
     let s = strings c b (l .ok) in
     let n : endOf b ≤ length c = l .inside .within in
-    let w4 : getD all (perEvent * i + eventTimescale) 0 ≡ u32 c (b .at + 12) = word-at all _ (perEvent * i) eventTimescale (l .words) in
-    let w5 : getD all (perEvent * i + eventTime) 0 ≡ u64 c (b .at + 16) = word-at all _ (perEvent * i) eventTime (l .words) in
-    let w6 : getD all (perEvent * i + eventDuration) 0 ≡ u32 c (b .at + 24) = word-at all _ (perEvent * i) eventDuration (l .words) in
-    let w7 : getD all (perEvent * i + eventId) 0 ≡ u32 c (b .at + 28) = word-at all _ (perEvent * i) eventId (l .words) in
+    let w4 : getD all (eventWords * i + eventTimescale) 0 ≡ u32 c (b .at + 12) = word-at all _ (eventWords * i) eventTimescale (l .words) in
+    let w5 : getD all (eventWords * i + eventTime) 0 ≡ u64 c (b .at + 16) = word-at all _ (eventWords * i) eventTime (l .words) in
+    let w6 : getD all (eventWords * i + eventDuration) 0 ≡ u32 c (b .at + 24) = word-at all _ (eventWords * i) eventDuration (l .words) in
+    let w7 : getD all (eventWords * i + eventId) 0 ≡ u32 c (b .at + 28) = word-at all _ (eventWords * i) eventId (l .words) in
     record {
       timescale = rw w4 (number-lt c 4 (b .at + 12) y (omega (arith, s .long)));
       time = rw w5 (number-lt c 8 (b .at + 16) y (omega (arith, s .long)));
@@ -229,7 +229,7 @@ event-numbers c k at ws y h e i lt =
 
 -- where its texts are short it can be written again
 pub event-fits : (c ws : List ℕ) (i : ℕ) → EventIn c ws i
-    → getD ws (perEvent * i + eventSchemeLen) 0 ≤ blockMost → getD ws (perEvent * i + eventValueLen) 0 ≤ blockMost → getD ws (perEvent * i + eventMessageLen) 0 ≤ blockMost → EventFits c ws i
+    → getD ws (eventWords * i + eventSchemeLen) 0 ≤ blockMost → getD ws (eventWords * i + eventValueLen) 0 ≤ blockMost → getD ws (eventWords * i + eventMessageLen) 0 ≤ blockMost → EventFits c ws i
 event-fits c ws i h x y z =
     record {
       there = h .there;

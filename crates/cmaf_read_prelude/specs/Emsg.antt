@@ -7,7 +7,7 @@ use lib.ListN.{length, drop}
 use lib.Seq.{slice}
 use Rattle.laws.specs.Tests.{_and_}
 use Rattle.boxes.specs.Box.{emsg}
-use Rattle.event_value.specs.Events.{eventWords as perEvent}
+use Rattle.event_value.specs.Events.{eventWords}
 use Rattle.cmaf_read_shape.specs.Words.{wordOf}
 use Rattle.byte_parts.specs.declared.Part.{Part}
 use Rattle.cmaf_read_shape.specs.Parts.{endOf, boxAt}
@@ -48,8 +48,8 @@ emsgsOk c zero at = true
 emsgsOk c (suc k) at = emsgOk c (emsgAt c at) and emsgsOk c k (endOf (emsgAt c at))
 
 -- an event's ten words, in the order of their places: place and length of scheme and value; timescale, presentation time, duration and id; place and length of the message
-unfoldable pub eventWords : List ℕ → Part → List ℕ
-eventWords c b =
+unfoldable pub boxWords : List ℕ → Part → List ℕ
+boxWords c b =
     schemeAt b
     ∷ (schemeEnd c b - schemeAt b)
     ∷ (schemeEnd c b + 1)
@@ -65,10 +65,10 @@ eventWords c b =
 -- the words of the events of k boxes from the place on
 unfoldable pub emsgWords : List ℕ → ℕ → ℕ → List ℕ
 emsgWords c zero at = []
-emsgWords c (suc k) at = eventWords c (emsgAt c at) ++ emsgWords c k (endOf (emsgAt c at))
+emsgWords c (suc k) at = boxWords c (emsgAt c at) ++ emsgWords c k (endOf (emsgAt c at))
 
 -- ==== What only mirrors the code
 
--- words that these are stored in, from the first on: those of the event with the number i stand at perEvent * i
+-- words that these are stored in, from the first on: those of the event with the number i stand at eventWords * i
 unfoldable pub keptEvents : List ℕ → ℕ → ℕ → List ℕ → List ℕ
-keptEvents c k at ws = emsgWords c k at ++ drop (perEvent * k) ws
+keptEvents c k at ws = emsgWords c k at ++ drop (eventWords * k) ws

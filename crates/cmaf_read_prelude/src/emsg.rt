@@ -5,9 +5,9 @@ ghost use mathlib.Core.Bool.{true};
 ghost use Prim.Native.Nat.{_+_, _*_, _≤_};
 ghost use lib.ListN.{length};
 ghost use lib.Seq.{sets};
-ghost use Rattle.event_value.specs.Events.{eventWords as perEvent};
+ghost use Rattle.event_value.specs.Events.{eventWords};
 ghost use Rattle.cmaf_read_shape.specs.Parts.{Inside};
-ghost use Rattle.cmaf_read_prelude.specs.Emsg.{zeroFrom, emsgOk, emsgsOk, eventWords, keptEvents};
+ghost use Rattle.cmaf_read_prelude.specs.Emsg.{zeroFrom, emsgOk, emsgsOk, boxWords, keptEvents};
 use boxes::kinds;
 use byte_parts::Part;
 use cmaf_read_shape::parts::box_at;
@@ -78,8 +78,8 @@ fn store(out: &mut [u64], at: usize, words: &[u64])
 // the box has them.
 fn keep_event(c: &[u8], b: Part, events: &mut [u64], at: usize)
     requires { ⌜ Inside (now c) b ⌝ }
-    requires { ⌜ (emsgOk (now c) b ≡ true) × (at + perEvent ≤ length (now events)) ⌝ }
-    ensures { λ r. ⌜ now (events .exit) ≡ sets (now (events .entry)) at (eventWords (now (c .entry)) b) ⌝ }
+    requires { ⌜ (emsgOk (now c) b ≡ true) × (at + eventWords ≤ length (now events)) ⌝ }
+    ensures { λ r. ⌜ now (events .exit) ≡ sets (now (events .entry)) at (boxWords (now (c .entry)) b) ⌝ }
 {
     let from = b.at + 32;
     let end = end_of(b);
@@ -103,7 +103,7 @@ fn keep_event(c: &[u8], b: Part, events: &mut [u64], at: usize)
 // Keeps the k events of the `emsg` boxes from the place on, ten words each.
 pub fn keep_events(c: &[u8], at: usize, k: usize, events: &mut [u64])
     requires { ⌜ (at ≤ length (now c)) × (emsgsOk (now c) k at ≡ true) ⌝ }
-    requires { ⌜ perEvent * k ≤ length (now events) ⌝ }
+    requires { ⌜ eventWords * k ≤ length (now events) ⌝ }
     ensures { λ r. ⌜ now (events .exit) ≡ keptEvents (now (c .entry)) k at (now (events .entry)) ⌝ }
 {
     let mut p = at;

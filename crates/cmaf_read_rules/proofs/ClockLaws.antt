@@ -8,11 +8,11 @@ use lib.ListN.{getD}
 use Rattle.laws.specs.Tests.{_and_}
 use Rattle.laws.proofs.RowLaws.{Row}
 use Rattle.event_value.specs.Events.{eventAt, eventsFrom}
-use Rattle.event_value.specs.Events.{eventWords as perEvent, eventTimescale}
+use Rattle.event_value.specs.Events.{eventWords, eventTimescale}
 use Rattle.cmaf_read_rules.specs.Rules.{clocksOk}
 
 -- each event's timescale is the fifth of its ten words
-pub clocks-row : (o ws : List ℕ) → Row (λ i. not (eqb (getD ws (perEvent * i + eventTimescale) 0) 0)) (λ k i. clocksOk (eventsFrom o ws k i))
+pub clocks-row : (o ws : List ℕ) → Row (λ i. not (eqb (getD ws (eventWords * i + eventTimescale) 0) 0)) (λ k i. clocksOk (eventsFrom o ws k i))
 unfolding clocksOk eventsFrom eventAt
 clocks-row o ws = record { none = λ i. refl; more = λ k i. refl }
 
@@ -20,4 +20,4 @@ clocks-row o ws = record { none = λ i. refl; more = λ k i. refl }
 pub clocks-any : (o p ws : List ℕ) (k i : ℕ) → clocksOk (eventsFrom o ws k i) ≡ clocksOk (eventsFrom p ws k i)
 unfolding clocksOk eventsFrom eventAt
 clocks-any o p ws zero i = refl
-clocks-any o p ws (suc k) i = ap (λ (b : Bool). not (eqb (getD ws (perEvent * i + eventTimescale) 0) 0) and b) (clocks-any o p ws k (suc i))
+clocks-any o p ws (suc k) i = ap (λ (b : Bool). not (eqb (getD ws (eventWords * i + eventTimescale) 0) 0) and b) (clocks-any o p ws k (suc i))

@@ -13,6 +13,7 @@ use Rattle.laws.specs.Ladder.{Hold}
 use Rattle.wire.specs.declared.form.Form.the-variants.{Rfc9000}
 use Rattle.wire.proofs.SizeLaws.{limit-most}
 use Rattle.track.specs.declared.Track.{Track}
+use Rattle.field_table.specs.Lines.{bmdtAt}
 use Rattle.track.specs.Track.{ivOk, lawful as lawfulTrack}
 use Rattle.slots.specs.declared.lawful.Side.the-variants.{Encoder, Receiver}
 use Rattle.share_words.specs.Share.{acceptedAt, heldAt}
@@ -173,7 +174,7 @@ module _ (p : Send) (s s′ room : List ℕ) (pair : Paired s s′) (low : allLe
         ∙ front-is t n (fields t c) (prft c) (boxes c) names (payload c)
 
     start-same : bmdt c ≡ bmdt rebuilt
-    start-same = sym (fields-bmdt t c) ∙ ap (λ (l : List ℕ). getD l 0 0) (sym (said .set)) ∙ fields-bmdt t rebuilt
+    start-same = sym (fields-bmdt t c) ∙ ap (λ (l : List ℕ). getD l bmdtAt 0) (sym (said .set)) ∙ fields-bmdt t rebuilt
 
     names-same : isDelta p s ≡ false → brands c ≡ brands rebuilt
     names-same e = sym (said .brands-are ∙ ap (λ (d : Bool). cond d [] (brands c)) e)

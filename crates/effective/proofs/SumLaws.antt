@@ -14,7 +14,7 @@ use Rattle.laws.specs.Tests.{_and_, sum}
 use Rattle.laws.proofs.SliceLaws.{slice-none}
 use Rattle.laws.proofs.TestLaws.{and-next, and-end}
 use Rattle.track.specs.declared.Track.{Track}
-use Rattle.field_table.specs.Lines.{lines, lineFor}
+use Rattle.field_table.specs.Lines.{lines, lineFor, sizesAt}
 use Rattle.field_set.specs.Lawful.{has, valuesOf, inUse, valueAt, countIn}
 use Rattle.effective.specs.Sizes.{lastSize, sizeBy, Sized}
 use Rattle.field_set.proofs.ValueLaws.{pairsLeft, pairs-all, pairs-on, listed}
@@ -49,15 +49,15 @@ module _ (t : Track) (w : List ℕ) (payload : ℕ) where
   -- none listed
   unlisted : (m : ℕ) → has 1 w ≡ false → sum (valuesOf 1 m w) ≡ 0
   unfolding valuesOf inUse has lines lineFor sum
-  unlisted m h = rw (not-false (eqb (getD w 2 0) 0) h) (ap sum (slice-none 3 3 w (omega arith)))
+  unlisted m h = rw (not-false (eqb (getD w sizesAt 0) 0) h) (ap sum (slice-none (sizesAt + 1) (sizesAt + 1) w (omega arith)))
 
   few-listed : (m : ℕ) → m ≡ 0 → sum (valuesOf 1 m w) ≡ 0
   unfolding valuesOf inUse lines lineFor sum
-  few-listed m h = rw h (go (eqb (getD w 2 0) 0))
+  few-listed m h = rw h (go (eqb (getD w sizesAt 0) 0))
     where
-      go : (b : Bool) → sum (slice 3 (3 + cond b 0 0) w) ≡ 0
-      go true = ap sum (slice-none 3 3 w (omega arith))
-      go false = ap sum (slice-none 3 3 w (omega arith))
+      go : (b : Bool) → sum (slice (sizesAt + 1) ((sizesAt + 1) + cond b 0 0) w) ≡ 0
+      go true = ap sum (slice-none (sizesAt + 1) (sizesAt + 1) w (omega arith))
+      go false = ap sum (slice-none (sizesAt + 1) (sizesAt + 1) w (omega arith))
 
   -- sizes that add up leave a last size
   pub sizes-sized : sizesOk t w payload ≡ true → payload ≤ payloadMost → Sized w payload

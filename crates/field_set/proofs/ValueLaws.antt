@@ -13,7 +13,7 @@ use lib.Seq.{slice, slice-cons}
 use Rattle.constants.specs.Maxima.{samplesMost}
 use Rattle.laws.specs.Tests.{sum}
 use Rattle.laws.proofs.SliceLaws.{slice-none}
-use Rattle.field_table.specs.Lines.{lines, lineFor, setLen, subsamplesAt}
+use Rattle.field_table.specs.Lines.{lines, lineFor, setLen, subsamplesAt, sizesAt}
 use Rattle.field_set.specs.Lawful.{has, inUse, valueAt, countIn, valuesOf}
 
 -- a field stands where its mark is not 0
@@ -26,11 +26,11 @@ unfolding has
 has-yes id w h = rw (ne-eqb _ _ h)
 
 -- the words of id 1
-pub listed : (w : List ℕ) → 1 < countIn w → has 1 w ≡ true → valuesOf 1 (countIn w - 1) w ≡ slice 3 (2 + countIn w) w
+pub listed : (w : List ℕ) → 1 < countIn w → has 1 w ≡ true → valuesOf 1 (countIn w - 1) w ≡ slice (sizesAt + 1) (sizesAt + countIn w) w
 unfolding has valuesOf inUse lines lineFor
 listed w many h =
-    let e : 3 + (countIn w - 1) ≡ 2 + countIn w = omega arith in
-    rw (not-true (eqb (getD w 2 0) 0) h) (ap (λ (to : ℕ). slice 3 to w) e)
+    let e : (sizesAt + 1) + (countIn w - 1) ≡ sizesAt + countIn w = omega arith in
+    rw (not-true (eqb (getD w sizesAt 0) 0) h) (ap (λ (to : ℕ). slice (sizesAt + 1) to w) e)
 
 -- the subsamples of the samples from the number i up to n
 unfoldable pub pairsLeft : List ℕ → ℕ → ℕ → ℕ

@@ -11,6 +11,7 @@ use lib.ListN.{length}
 use Rattle.laws.proofs.SliceLaws.{slice-few}
 use Rattle.laws.proofs.TestLaws.{left, and-left, and-right}
 use Rattle.wire.specs.declared.form.Row.{Row}
+use Rattle.constants.specs.Maxima.{brandBytesMost, eventsMost, eventBytesMost, payloadMost, numberMost}
 use Rattle.track.specs.declared.Track.{Track}
 use Rattle.media.specs.declared.clocks.TrackTicks.{TrackTicks}
 use Rattle.media.specs.declared.clocks.TrackTime.{TrackTime}
@@ -41,7 +42,7 @@ module _ (t : Track) (b : ℕ) where
       by true Outside = h _ _
       by false x = h _ _
 
-  all-short : (bs : List ℕ) (rs : List Record) → length bs ≤ 4096 → AllShort (boxes t b (map (eventOf bs) rs))
+  all-short : (bs : List ℕ) (rs : List Record) → length bs ≤ eventBytesMost → AllShort (boxes t b (map (eventOf bs) rs))
   unfolding eventOf
   all-short bs [] h = tt
   all-short bs (r ∷ rs) h = (
@@ -55,7 +56,7 @@ module _ (t : Track) (b : ℕ) where
     all-short bs rs h,
   )
 
-  listed-short : (F : List Row) (said : Option (List ℕ)) → length (numbers said) ≤ 4096 → AllShort (boxes t b (listed F said))
+  listed-short : (F : List Row) (said : Option (List ℕ)) → length (numbers said) ≤ eventBytesMost → AllShort (boxes t b (listed F said))
   unfolding listed eventsF
   listed-short F none h = tt
   listed-short F (some bs) h = by (recordsF F 0 bs) refl
@@ -67,17 +68,17 @@ module _ (t : Track) (b : ℕ) where
 -- of an object whose values are right
 module _ (F : List Row) (o s : List ℕ) (h : valuesOk F o s ≡ true) where
   -- the last three of the tests in their row
-  maxima : (leb (length (brands F o s)) 64 && (leb (length (events F o s)) 16 && leb (length (numbers (saying F o 25))) 4096)) ≡ true
+  maxima : (leb (length (brands F o s)) brandBytesMost && (leb (length (events F o s)) eventsMost && leb (length (numbers (saying F o 25))) eventBytesMost)) ≡ true
   unfolding valuesOk
   maxima =
-      and-right (leb (length (payload F o)) 16777216) _
-      (and-right (prft F o s .ok) _ (and-right (leb (bmdt F o s) (2 ^ 62 - 1)) _ (left _ _ h)))
+      and-right (leb (length (payload F o)) payloadMost) _
+      (and-right (prft F o s .ok) _ (and-right (leb (bmdt F o s) numberMost) _ (left _ _ h)))
 
-  pub brands-few : length (brands F o s) ≤ 64
-  brands-few = leb-true _ _ (and-left (leb (length (brands F o s)) 64) _ maxima)
+  pub brands-few : length (brands F o s) ≤ brandBytesMost
+  brands-few = leb-true _ _ (and-left (leb (length (brands F o s)) brandBytesMost) _ maxima)
 
   pub events-short : AllShort (boxes (track F o s) (bmdt F o s) (events F o s))
   unfolding events
   events-short =
       listed-short (track F o s) (bmdt F o s) F (saying F o 25)
-      (leb-true _ _ (and-right (leb (length (events F o s)) 16) _ (and-right (leb (length (brands F o s)) 64) _ maxima)))
+      (leb-true _ _ (and-right (leb (length (events F o s)) 16) _ (and-right (leb (length (brands F o s)) brandBytesMost) _ maxima)))

@@ -10,6 +10,7 @@ use lib.Dec.{eqb, leb}
 use lib.ListN.{length, getD, drop}
 use Rattle.laws.specs.Tests.{_and_}
 use Rattle.laws.specs.Ladder.{_else_}
+use Rattle.constants.specs.Maxima.{brandBytesMost, eventsMost, eventBytesMost, payloadMost, numberMost}
 use Rattle.wire.specs.declared.form.Row.{Row}
 use Rattle.track.specs.declared.Asked.{Asked}
 use Rattle.track.specs.Track.{u32}
@@ -75,10 +76,10 @@ module _ (F : List Row) (o : List ℕ) (a : Asked) (n m : ℕ) (r : List ℕ) wh
   unfolding valuesOk bmdt events
   values-same =
       λ j.
-      (leb (bmdt F o s) (2 ^ 62 - 1)
+      (leb (bmdt F o s) numberMost
       && (time-same j .ok
-      && (leb (length (payload F o)) 16777216
-      && (leb (length (brands F o s)) 64 && (leb (length (events F o s)) 16 && leb (length (numbers (saying F o 25))) 4096)))))
+      && (leb (length (payload F o)) payloadMost
+      && (leb (length (brands F o s)) brandBytesMost && (leb (length (events F o s)) eventsMost && leb (length (numbers (saying F o 25))) eventBytesMost)))))
       and allFit (track F o s) (bmdt F o s) (events F o s)
 
   -- the front with any number

@@ -20,7 +20,7 @@ use Rattle.media.specs.declared.clocks.TrackTicks.{TrackTicks}
 use Rattle.media.specs.declared.clocks.TrackTime.{TrackTime}
 use Rattle.media.specs.declared.clocks.TrackTime.the-variants.{At, Outside}
 use Rattle.media.specs.Clocks.{onTrack}
-use Rattle.event_value.specs.Events.{part, Inside, EventFits, EventsFit, eventsLen}
+use Rattle.event_value.specs.Events.{part, Inside, EventFits, EventsFit, eventsLen, eventSchemeLen, eventValue, eventValueLen, eventTimescale, eventTime, eventDuration, eventId}
 use Rattle.locmaf_read_events.specs.Events.{fromBmdt, onClock, rebuilt, timed, eventOk, eventsOk, allRebuilt, EventRead, EventsRead}
 
 -- ---- bytes that are not 0
@@ -50,9 +50,9 @@ module _ (o : List ℕ) (from to : ℕ) where
 
 module _ (t : Track) (bmdt : ℕ) (ws : List ℕ) (p : ℕ) where
   here : {A : Type 0} (track : TrackTicks → A) (outside own : A)
-      → onClock bmdt (drop p ws) track outside own ≡ cond (eqb (getD ws (p + 4) 0) 0) (onTrack (fromBmdt bmdt (getD ws (p + 5) 0)) track outside) own
+      → onClock bmdt (drop p ws) track outside own ≡ cond (eqb (getD ws (p + eventTimescale) 0) 0) (onTrack (fromBmdt bmdt (getD ws (p + eventTime) 0)) track outside) own
   unfolding onClock
-  here track outside own = rw (getD-drop p ws 4 0, getD-drop p ws 5 0)
+  here track outside own = rw (getD-drop p ws eventTimescale 0, getD-drop p ws eventTime 0)
 
   -- words stored from its timescale on
   put-at : (vs : List ℕ) → p ≤ length ws → sets ws (p + 4) vs ≡ take p ws ++ sets (drop p ws) 4 vs
@@ -62,18 +62,18 @@ module _ (t : Track) (bmdt : ℕ) (ws : List ℕ) (p : ℕ) where
       ∙ sets-after vs (take p ws) (drop p ws) 4
 
   -- on its own clock it stays
-  pub own-clock : (getD ws (p + 4) 0 ≡ 0 → ⊥) → (true ≡ timed bmdt (drop p ws)) × (ws ≡ take p ws ++ rebuilt t bmdt (drop p ws))
+  pub own-clock : (getD ws (p + eventTimescale) 0 ≡ 0 → ⊥) → (true ≡ timed bmdt (drop p ws)) × (ws ≡ take p ws ++ rebuilt t bmdt (drop p ws))
   unfolding timed rebuilt
   own-clock h = (rw (here, ne-eqb _ _ h), rw (here, ne-eqb _ _ h) (sym (take-append-drop p ws)))
 
-  module _ (zero : getD ws (p + 4) 0 ≡ 0) where
+  module _ (zero : getD ws (p + eventTimescale) 0 ≡ 0) where
     -- its time is below 0
-    pub time-outside : Outside ≡ fromBmdt bmdt (getD ws (p + 5) 0) → (false ≡ timed bmdt (drop p ws)) × (ws ≡ take p ws ++ rebuilt t bmdt (drop p ws))
+    pub time-outside : Outside ≡ fromBmdt bmdt (getD ws (p + eventTime) 0) → (false ≡ timed bmdt (drop p ws)) × (ws ≡ take p ws ++ rebuilt t bmdt (drop p ws))
     unfolding timed rebuilt
     time-outside e = (rw (here, eq-eqb _ _ zero, ← e), rw (here, eq-eqb _ _ zero, ← e) (sym (take-append-drop p ws)))
 
     -- its time is on the track's clock
-    pub time-at : (x : TrackTicks) → At x ≡ fromBmdt bmdt (getD ws (p + 5) 0) → p + 10 ≤ length ws
+    pub time-at : (x : TrackTicks) → At x ≡ fromBmdt bmdt (getD ws (p + eventTime) 0) → p + 10 ≤ length ws
         → (true ≡ timed bmdt (drop p ws)) × (set (set ws (p + 4) (t .timescale)) (p + 5) (x .0) ≡ take p ws ++ rebuilt t bmdt (drop p ws))
     unfolding timed rebuilt
     time-at x e h =
@@ -102,17 +102,17 @@ text-is o a n h =
 module _ (bmdt : ℕ) (o ws : List ℕ) (p : ℕ) where
   -- its tests, as code makes them
   pub event-is : (timely scheme value : Bool) → timely ≡ timed bmdt (drop p ws)
-      → scheme ≡ noZero (slice (getD ws p 0) (getD ws p 0 + getD ws (p + 1) 0) o)
-      → value ≡ noZero (slice (getD ws (p + 2) 0) (getD ws (p + 2) 0 + getD ws (p + 3) 0) o)
-      → Inside o (getD ws p 0) (getD ws (p + 1) 0) → Inside o (getD ws (p + 2) 0) (getD ws (p + 3) 0)
-      → (timely && ((scheme && value) && (leb (getD ws (p + 4) 0) u32 && (leb (getD ws (p + 6) 0) u32 && leb (getD ws (p + 7) 0) u32))))
+      → scheme ≡ noZero (slice (getD ws p 0) (getD ws p 0 + getD ws (p + eventSchemeLen) 0) o)
+      → value ≡ noZero (slice (getD ws (p + eventValue) 0) (getD ws (p + eventValue) 0 + getD ws (p + eventValueLen) 0) o)
+      → Inside o (getD ws p 0) (getD ws (p + eventSchemeLen) 0) → Inside o (getD ws (p + eventValue) 0) (getD ws (p + eventValueLen) 0)
+      → (timely && ((scheme && value) && (leb (getD ws (p + eventTimescale) 0) u32 && (leb (getD ws (p + eventDuration) 0) u32 && leb (getD ws (p + eventId) 0) u32))))
       ≡ eventOk bmdt o (drop p ws)
   unfolding eventOk _and_
   event-is timely scheme value a b c i j =
       let z : getD (drop p ws) 0 0 ≡ getD ws p 0 = getD-drop p ws 0 0 ∙ ap (λ (n : ℕ). getD ws n 0) (add-zero p) in
-      let b′ : scheme ≡ noZero (part o (getD ws p 0) (getD ws (p + 1) 0)) = b ∙ ap noZero (text-is o _ _ i) in
-      let c′ : value ≡ noZero (part o (getD ws (p + 2) 0) (getD ws (p + 3) 0)) = c ∙ ap noZero (text-is o _ _ j) in
-      rw (a, b′, c′, z, getD-drop p ws 1 0, getD-drop p ws 2 0, getD-drop p ws 3 0, getD-drop p ws 4 0, getD-drop p ws 6 0, getD-drop p ws 7 0)
+      let b′ : scheme ≡ noZero (part o (getD ws p 0) (getD ws (p + eventSchemeLen) 0)) = b ∙ ap noZero (text-is o _ _ i) in
+      let c′ : value ≡ noZero (part o (getD ws (p + eventValue) 0) (getD ws (p + eventValueLen) 0)) = c ∙ ap noZero (text-is o _ _ j) in
+      rw (a, b′, c′, z, getD-drop p ws eventSchemeLen 0, getD-drop p ws eventValue 0, getD-drop p ws eventValueLen 0, getD-drop p ws eventTimescale 0, getD-drop p ws eventDuration 0, getD-drop p ws eventId 0)
 
 -- ---- an event is its first ten words
 
@@ -125,37 +125,37 @@ module _ (bmdt n : ℕ) (e : List ℕ) (h : 8 ≤ n) where
   cut-ok o =
       rw (
         cut-at 0 (omega arith),
-        cut-at 1 (omega arith),
-        cut-at 2 (omega arith),
-        cut-at 3 (omega arith),
-        cut-at 4 (omega arith),
-        cut-at 5 (omega arith),
-        cut-at 6 (omega arith),
-        cut-at 7 (omega arith),
+        cut-at eventSchemeLen (omega arith),
+        cut-at eventValue (omega arith),
+        cut-at eventValueLen (omega arith),
+        cut-at eventTimescale (omega arith),
+        cut-at eventTime (omega arith),
+        cut-at eventDuration (omega arith),
+        cut-at eventId (omega arith),
       )
 
   module _ (t : Track) where
     pub length-rebuilt : length (rebuilt t bmdt e) ≡ length e
     unfolding rebuilt onClock
-    length-rebuilt = go (eqb (getD e 4 0) 0) (fromBmdt bmdt (getD e 5 0))
+    length-rebuilt = go (eqb (getD e eventTimescale 0) 0) (fromBmdt bmdt (getD e eventTime 0))
       where
-        go : (c : Bool) (x : TrackTime) → length (cond c (onTrack x (λ time. sets e 4 (t .timescale ∷ time .0 ∷ [])) e) e) ≡ length e
-        go true (At x) = length-sets e 4 (t .timescale ∷ x .0 ∷ [])
+        go : (c : Bool) (x : TrackTime) → length (cond c (onTrack x (λ time. sets e eventTimescale (t .timescale ∷ time .0 ∷ [])) e) e) ≡ length e
+        go true (At x) = length-sets e eventTimescale (t .timescale ∷ x .0 ∷ [])
         go true Outside = refl
         go false x = refl
 
     cut-rebuilt : n ≤ length e → rebuilt t bmdt e ≡ rebuilt t bmdt (take n e) ++ drop n e
     unfolding rebuilt onClock
-    cut-rebuilt l = rw (cut-at 4 (omega arith), cut-at 5 (omega arith)) (go (eqb (getD e 4 0) 0) (fromBmdt bmdt (getD e 5 0)))
+    cut-rebuilt l = rw (cut-at eventTimescale (omega arith), cut-at eventTime (omega arith)) (go (eqb (getD e eventTimescale 0) 0) (fromBmdt bmdt (getD e eventTime 0)))
       where
-        front : (vs : List ℕ) → length vs ≡ 2 → sets e 4 vs ≡ sets (take n e) 4 vs ++ drop n e
+        front : (vs : List ℕ) → length vs ≡ 2 → sets e eventTimescale vs ≡ sets (take n e) eventTimescale vs ++ drop n e
         front vs q =
-            let r : 4 + length vs ≤ length (take n e) = omega (arith, length-take-le n e l) in
-            ap (λ (z : List ℕ). sets z 4 vs) (sym (take-append-drop n e)) ∙ sets-before vs (take n e) (drop n e) 4 r
+            let r : eventTimescale + length vs ≤ length (take n e) = omega (arith, length-take-le n e l) in
+            ap (λ (z : List ℕ). sets z eventTimescale vs) (sym (take-append-drop n e)) ∙ sets-before vs (take n e) (drop n e) eventTimescale r
 
         go : (c : Bool) (x : TrackTime)
-            → cond c (onTrack x (λ time. sets e 4 (t .timescale ∷ time .0 ∷ [])) e) e
-            ≡ cond c (onTrack x (λ time. sets (take n e) 4 (t .timescale ∷ time .0 ∷ [])) (take n e)) (take n e) ++ drop n e
+            → cond c (onTrack x (λ time. sets e eventTimescale (t .timescale ∷ time .0 ∷ [])) e) e
+            ≡ cond c (onTrack x (λ time. sets (take n e) eventTimescale (t .timescale ∷ time .0 ∷ [])) (take n e)) (take n e) ++ drop n e
         go true (At x) = front (t .timescale ∷ x .0 ∷ []) refl
         go true Outside = sym (take-append-drop n e)
         go false x = sym (take-append-drop n e)

@@ -13,7 +13,7 @@ use Rattle.byte_parts.specs.declared.Part.{Part}
 use Rattle.cmaf_read_shape.specs.Parts.{endOf, Inside}
 use Rattle.event_value.specs.Events.{Event, part, eventAt}
 use Rattle.event_value.specs.Events as E
-use Rattle.cmaf_read_prelude.specs.Emsg.{schemeAt, schemeEnd, valueEnd, emsgOk, emsgAt, emsgsOk, eventWords, emsgWords}
+use Rattle.cmaf_read_prelude.specs.Emsg.{schemeAt, schemeEnd, valueEnd, emsgOk, emsgAt, emsgsOk, boxWords, emsgWords}
 use Rattle.cmaf_read_prelude.proofs.EmsgLaws.{strings, emsg-inside}
 use Rattle.cmaf_read_prelude.proofs.EventLaws.{event-length}
 use Rattle.meaning.specs.Meaning.{eventOf, eventsFrom}
@@ -25,13 +25,13 @@ module _ (c : List ℕ) where
 
   -- an event by its ten words, which stand among others
   event-means : (b : Part) (pre rest : List ℕ) (i : ℕ) → length pre ≡ 10 * i → Inside c b → emsgOk c b ≡ true
-      → eventAt c (pre ++ (eventWords c b ++ rest)) i ≡ eventOf c b
-  unfolding eventAt eventOf eventWords
+      → eventAt c (pre ++ (boxWords c b ++ rest)) i ≡ eventOf c b
+  unfolding eventAt eventOf boxWords
   event-means b pre rest i n inside ok =
       let s = strings c b ok in
       let within : endOf b ≤ length c = inside .within in
-      let word : (q : ℕ) → getD (pre ++ (eventWords c b ++ rest)) (10 * i + q) 0 ≡ getD (eventWords c b ++ rest) q 0 =
-      λ q. rw (← n) (getD-append-add pre (eventWords c b ++ rest) q 0) in
+      let word : (q : ℕ) → getD (pre ++ (boxWords c b ++ rest)) (10 * i + q) 0 ≡ getD (boxWords c b ++ rest) q 0 =
+      λ q. rw (← n) (getD-append-add pre (boxWords c b ++ rest) q 0) in
       λ x.
       record {
         scheme = text-is (schemeAt b) (schemeEnd c b) (rw add-zero at (word 0)) (word 1) (s .scheme-from) (omega (arith, s .scheme-to)) x;
@@ -51,6 +51,6 @@ module _ (c : List ℕ) where
   events-mean (suc k) i at pre n h ok =
       let b : Part = emsgAt c at in
       let rest : List ℕ = emsgWords c k (endOf b) in
-      let m : length (pre ++ eventWords c b) ≡ 10 * suc i = omega (arith, length-append pre (eventWords c b), event-length c b) in
+      let m : length (pre ++ boxWords c b) ≡ 10 * suc i = omega (arith, length-append pre (boxWords c b), event-length c b) in
       ap₂ (λ (e : Event) (es : List Event). e ∷ es) (sym (event-means b pre rest i n (emsg-inside c at h) (left _ _ ok)))
-      (rw append-assoc at (events-mean k (suc i) (endOf b) (pre ++ eventWords c b) m (emsg-inside c at h .within) (right _ _ ok)))
+      (rw append-assoc at (events-mean k (suc i) (endOf b) (pre ++ boxWords c b) m (emsg-inside c at h .within) (right _ _ ok)))

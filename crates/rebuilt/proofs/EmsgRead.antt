@@ -17,7 +17,7 @@ use Rattle.byte_parts.specs.declared.Part.{Part}
 use Rattle.cmaf_read_shape.specs.Parts.{part, endOf}
 use Rattle.event_value.specs.Events.{Event, eventAt, eventsFrom, eventsOf}
 use Rattle.cmaf_write_emsg.specs.Emsg.{emsgBox, emsgBoxes}
-use Rattle.cmaf_read_prelude.specs.Emsg.{beforeZero, zeroFrom, schemeAt, schemeEnd, valueEnd, eventWords, emsgWords}
+use Rattle.cmaf_read_prelude.specs.Emsg.{beforeZero, zeroFrom, schemeAt, schemeEnd, valueEnd, boxWords, emsgWords}
 use Rattle.cmaf_read_shape.specs.Left.{Left}
 use Rattle.cmaf_read_shape.proofs.LeftLaws.{left-to, left-on, left-number, left-part, left-past}
 use Rattle.cmaf_read_facts.specs.Given.{BoxedEvent, AllBoxed}
@@ -84,8 +84,8 @@ module _ {c : List ℕ} {at end : ℕ} (e : Event) (ys : List ℕ) (h : Left c a
     left-message = rw append-nil (past-zero (e .value) (e .message) value-ends left-value)
 
   -- what it says, by its words
-  pub event-read : BoxedEvent e → (ws : List ℕ) → eventAt c (eventWords c b ++ ws) 0 ≡ e
-  unfolding eventAt eventWords be
+  pub event-read : BoxedEvent e → (ws : List ℕ) → eventAt c (boxWords c b ++ ws) 0 ≡ e
+  unfolding eventAt boxWords be
   event-read k ws =
       let z = k .scheme in
       let y = k .value in
@@ -128,7 +128,7 @@ events-read {c} (e ∷ es) at ys s k h =
     let b : Part = part at (length (emsgBox e)) in
     let l : Left c at (length c) (emsgBox e ++ (emsgBoxes es ++ ys)) = rw append-assoc at h in
     let others : List ℕ = emsgWords c (length es) (endOf b) in
-    ap (λ (p : Part). eventsFrom c (eventWords c p ++ emsgWords c (length es) (endOf p)) (suc (length es)) 0) (one-found (emsg-box e (s .0)) _ l)
+    ap (λ (p : Part). eventsFrom c (boxWords c p ++ emsgWords c (length es) (endOf p)) (suc (length es)) 0) (one-found (emsg-box e (s .0)) _ l)
     ∙ ap₂ (λ (x : Event) (xs : List Event). x ∷ xs) (event-read e (emsgBoxes es ++ ys) l (k .0) others)
-    (events-past c (eventWords c b) others (event-length c b) (length es) 0
+    (events-past c (boxWords c b) others (event-length c b) (length es) 0
     ∙ events-read es (endOf b) ys (s .1) (k .1) (left-past (emsgBox e) (emsgBoxes es ++ ys) l))

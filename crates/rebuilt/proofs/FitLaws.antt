@@ -7,7 +7,7 @@ use mathlib.Core.List.{List, [], _∷_}
 use borrow.Author.Tests.{ltb-true}
 use lib.Dec.{leb, ltb}
 use lib.ListN.{length, getD}
-use Rattle.constants.specs.Maxima.{payloadMost}
+use Rattle.constants.specs.Maxima.{payloadMost, eventBytesMost}
 use Rattle.laws.specs.Tests.{sum}
 use Rattle.track.specs.declared.Track.{Track}
 use Rattle.track.specs.declared.Asked.{Asked}
@@ -45,7 +45,7 @@ size-low t w bounds payload i few own = by (leb (countIn w) 1) (has 1 w) refl (l
 -- ---- events of a short list are short
 
 -- each text is shorter than the list
-all-short : (t : Track) (start : ℕ) (es : List Event) → listBytes F (allSent t start es) ≤ 4096 → AllShort es
+all-short : (t : Track) (start : ℕ) (es : List Event) → listBytes F (allSent t start es) ≤ eventBytesMost → AllShort es
 unfolding listBytes recordBytes textBytes sent
 all-short t start [] n = tt
 all-short t start (e ∷ es) n = (

@@ -6,6 +6,7 @@ use mathlib.Core.Bool.{true, _&&_}
 use mathlib.Core.List.{List}
 use lib.Dec.{leb}
 use Rattle.laws.specs.Ladder.{Hold}
+use Rattle.constants.specs.Maxima.{samplesMost, subsamplesMost, eventsMost, eventBytesMost, payloadMost}
 use Rattle.laws.proofs.TestLaws.{both}
 use Rattle.wire.specs.declared.form.Row.{Row}
 use Rattle.cmaf_read_tree.specs.Whole.{whole}
@@ -16,7 +17,7 @@ use Rattle.cmaf_read_shape.specs.declared.inner.Inner.{Inner}
 use Rattle.cmaf_read_shape.specs.Parts.{bodyOf}
 use Rattle.cmaf_read_shape.specs.Top.{topOf, topOk}
 use Rattle.cmaf_read_shape.specs.Inner.{innerOf, innerOk}
-use Rattle.cmaf_read_prelude.specs.Styp.{stypOk, brandsIn}
+use Rattle.cmaf_read_prelude.specs.Styp.{stypOk, brandsIn, brandsMost}
 use Rattle.cmaf_read_prelude.specs.Prft.{prftOk}
 use Rattle.cmaf_read_prelude.specs.Emsg.{emsgsOk, emsgWords}
 use Rattle.cmaf_read_moof.specs.Headers.{mfhdOk, tfdtOk, bmdtOf}
@@ -37,11 +38,11 @@ module _ (F : List Row) (t : Track) (c : List ℕ) (T : Top) (I : Inner) (es : L
     pub outer-ok : (stypOk (T .styp) && (prftOk c (T .prft) && emsgsOk c (T .events) (T .emsgs .at))) ≡ true
     pub plain-ok : ((mfhdOk c (I .mfhd) && tfhdOk c (I .tfhd)) && (tfdtOk c (I .tfdt) && trunOk c (I .trun))) ≡ true
     pub last-ok : (sencOk t c (I .senc) && (saizOk c (I .saiz) && saioOk c (I .saio))) ≡ true
-    pub samples-few : (leb (countOf c (I .trun)) 64 && (leb (sencCount c (I .senc)) 64 && leb (saizCount c (I .saiz)) 64)) ≡ true
-    pub pairs-few : leb (subsamples t c (I .senc)) 256 ≡ true
-    pub outer-few : (leb (brandsIn (T .styp)) 16 && (leb (T .events) 16 && leb (bodyOf (T .mdat) .len) 16777216)) ≡ true
+    pub samples-few : (leb (countOf c (I .trun)) samplesMost && (leb (sencCount c (I .senc)) samplesMost && leb (saizCount c (I .saiz)) samplesMost)) ≡ true
+    pub pairs-few : leb (subsamples t c (I .senc)) subsamplesMost ≡ true
+    pub outer-few : (leb (brandsIn (T .styp)) brandsMost && (leb (T .events) eventsMost && leb (bodyOf (T .mdat) .len) payloadMost)) ≡ true
     pub list-is : eventsOf c (emsgWords c (T .events) (T .emsgs .at)) (T .events) ≡ es
-    pub list-few : leb (listBytes F (allSent t (bmdtOf c (I .tfdt)) es)) 4096 ≡ true
+    pub list-few : leb (listBytes F (allSent t (bmdtOf c (I .tfdt)) es)) eventBytesMost ≡ true
     pub rules-ok : rulesOk t c T I es ≡ true
 
   pub accepted : topOf c ≡ T → innerOf c (T .moof) ≡ I → Fine → whole c ≡ true → Hold (acceptRungs F t c)

@@ -8,6 +8,7 @@ use borrow.Author.Tests.{eq-eqb, ne-eqb, le-leb, lt-ltb}
 use lib.Dec.{leb}
 use lib.ListN.{length, length-append}
 use Rattle.laws.proofs.TestLaws.{both}
+use Rattle.constants.specs.Maxima.{samplesMost, eventsMost, eventBytesMost, payloadMost}
 use Rattle.laws.specs.Ladder.{Hold}
 use Rattle.cmaf_read_chunk.specs.Accepted.{acceptRungs}
 use Rattle.boxes.specs.Box.{box}
@@ -120,11 +121,11 @@ module _ (a : Asked) (sequence : ℕ) (w : List ℕ) (p : Prft) (es : List Box) 
         plain-ok =
             rw (mfhd-right sequence _ (left-inside B.moof _ (box B.mdat bs) h), k .tfhd-right, k .tfdt-right, trun-right (k .trun) m refl);
         last-ok = last .right;
-        samples-few = rw (k .trun .count, le-leb (countIn w) 64 (sizes .set .few)) (last .samples);
+        samples-few = rw (k .trun .count, le-leb (countIn w) samplesMost (sizes .set .few)) (last .samples);
         pairs-few = last .pairs;
-        outer-few = rw (styp .few, le-leb (length es) 16 (g .few), body-is, le-leb n 16777216 (g .short));
+        outer-few = rw (styp .few, le-leb (length es) eventsMost (g .few), body-is, le-leb n payloadMost (g .short));
         list-is = events-read es _ _ (sizes .events-short) (g .boxed) (left₂ t sequence w p es names bs sizes);
-        list-few = ap (λ (v : ℕ). leb (listBytes F (allSent t v es)) 4096) (k .time) ∙ le-leb _ 4096 (g .list-short);
+        list-few = ap (λ (v : ℕ). leb (listBytes F (allSent t v es)) eventBytesMost) (k .time) ∙ le-leb _ eventBytesMost (g .list-short);
         rules-ok =
             both _ _ (rw (styp .minor, prft .track, k .track, eq-eqb (t .id) (t .id) refl))
             (both _ _ (clocks-right es (g .boxed))
