@@ -8,7 +8,7 @@ from conversation import Conversation
 from objects import raw, varint, whole, zigzag
 
 R = random.Random(20261115)
-SHARE, HELD = 996, 9
+HELD = 9
 ROOM = 4096
 
 

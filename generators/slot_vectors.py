@@ -12,7 +12,7 @@ U5, U8, U16, U24, U32, U62, U64 = (2 ** bits - 1 for bits in (5, 8, 16, 24, 32, 
 
 # The words of a share
 SHARE = 996
-PARAMETERS, ACCEPTED, HELD, PRFT, SET = 0, 8, 9, 10, 15
+ACCEPTED, HELD, PRFT, PRFT_END, SET = 8, 9, 10, 15, 15
 
 # The words of a set: BMDT, the sample count, and a region for each other id: mark at, room, values in use, largest value
 BMDT, COUNT = 0, 1
@@ -111,7 +111,7 @@ def lawful(side, share):
     if share[HELD] == 0:
         return not any(share[PRFT:])
     trex_size, protection, iv_size = share[4], share[6], share[7]
-    return share[HELD] == 1 and lawful_prft(*share[PRFT:SET]) and lawful_set(share[SET:], trex_size, protection, iv_size)
+    return share[HELD] == 1 and lawful_prft(*share[PRFT:PRFT_END]) and lawful_set(share[SET:], trex_size, protection, iv_size)
 
 
 # The calls, each with what it makes of a share
@@ -132,7 +132,7 @@ def call(side, table, slot, letter, parameters):
     if letter in "ob":
         if letter == "b" or not good_parameters(parameters):
             return 4
-        table[here] = list(parameters) + [0] * (SHARE - 8)
+        table[here] = list(parameters) + [0] * (SHARE - ACCEPTED)
     elif letter == "c":
         table[here] = [0] * SHARE
     else:
@@ -192,7 +192,7 @@ def fresh_calls(side):
 
 def bare(accepted=0, protection=NONE, iv_size=0):
     """A share without a reference."""
-    return [9] * 6 + [protection, iv_size, accepted] + [0] * (SHARE - 9)
+    return [9] * 6 + [protection, iv_size, accepted] + [0] * (SHARE - HELD)
 
 
 def held(samples, ids, accepted=0, protection=NONE, iv_size=0, prft=None, counts=(), value=1, **others):
@@ -200,7 +200,7 @@ def held(samples, ids, accepted=0, protection=NONE, iv_size=0, prft=None, counts
     share = bare(accepted, protection, iv_size)
     share[HELD] = 1
     if prft is not None:
-        share[PRFT:SET] = [1, 1, 2 ** 32 if prft else 1, prft, 1]
+        share[PRFT:PRFT_END] = [1, 1, 2 ** 32 if prft else 1, prft, 1]
     share[SET + BMDT], share[SET + COUNT] = 5, samples
     lengths = {"one": 1, "count": samples, "count less one": samples - 1, "count x IV size / 8": samples * iv_size // 8,
                "sum of id 11": sum(counts)}

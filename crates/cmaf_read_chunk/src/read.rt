@@ -1,5 +1,5 @@
 // A chunk read: every rule in the order of the numbers, each step over the whole chunk before the next; then its set.
-// Letters: `t` the track, `c` a chunk's bytes, `x` the words of the new set.
+// Letters: `t` the track, `c` a chunk's bytes, `x` the words of the new set, `f` the boxes inside the `moof`, `d` the defaults of the `tfhd`.
 ghost use mathlib.Core.Path.{_≡_};
 ghost use mathlib.Core.Bool.{true};
 ghost use Prim.Native.Nat.{_≤_};
@@ -9,11 +9,15 @@ ghost use Rattle.event_value.specs.Events.{eventsLen};
 ghost use Rattle.field_table.specs.Lines.{setLen};
 ghost use Rattle.cmaf_read_shape.specs.Top.{topOf};
 ghost use Rattle.cmaf_read_shape.specs.Inner.{innerOf};
+ghost use Rattle.cmaf_read_prelude.specs.Prft.{prftOk};
+ghost use Rattle.cmaf_read_moof.specs.Defaults.{defaultsOf, Narrow};
 ghost use Rattle.cmaf_read_boxes.specs.Right.{boxesOk};
 ghost use Rattle.cmaf_read_chunk.specs.Chunks.{refusedWith, takenAs, JudgedAs, ReadAs};
 use crate::maxima;
 use byte_parts::Part;
 use cmaf_read_boxes::right;
+use cmaf_read_moof::defaults;
+use cmaf_read_moof::defaults::Defaults;
 use cmaf_read_shape::inner::Inner;
 use cmaf_read_shape::top::Top;
 use cmaf_read_tree::whole;
@@ -52,8 +56,8 @@ fn refused(number: u64) -> Chunk
     }
 }
 
-fn taken(t: Track, c: &[u8], top: Top, list: usize) -> Chunk
-    requires { ⌜ (top ≡ topOf (now c)) × (boxesOk t (now c) ≡ true) ⌝ }
+fn taken(c: &[u8], top: Top, list: usize) -> Chunk
+    requires { ⌜ (top ≡ topOf (now c)) × (prftOk (now c) (top .prft) ≡ true) ⌝ }
     ensures { λ r. ⌜ r ≡ takenAs (now (c .entry)) list ⌝ }
 {
     let styp = top.styp;
@@ -70,9 +74,18 @@ fn taken(t: Track, c: &[u8], top: Top, list: usize) -> Chunk
 }
 
 // The maxima and then the rules, of a chunk whose boxes are right: 8, 7 or 0. The words of the events are kept on the way.
-fn judge(form: Form, t: Track, c: &[u8], top: Top, f: Inner, events: &mut [u64]) -> Judged
+fn judge(
+    form: Form,
+    t: Track,
+    c: &[u8],
+    top: Top,
+    f: Inner,
+    d: Defaults,
+    events: &mut [u64],
+) -> Judged
     requires { ⌜ (top ≡ topOf (now c)) × (f ≡ innerOf (now c) (top .moof)) ⌝ }
     requires { ⌜ (boxesOk t (now c) ≡ true) × (length (now events) ≡ eventsLen) ⌝ }
+    requires { ⌜ (d ≡ defaultsOf t (now c) (f .tfhd)) × Narrow d ⌝ }
     ensures { λ r. ⌜ JudgedAs (rows form) t (now (c .entry)) r (now (events .exit)) ⌝ }
 {
     if !maxima::counts_ok(t, c, top, f) {
@@ -86,7 +99,7 @@ fn judge(form: Form, t: Track, c: &[u8], top: Top, f: Inner, events: &mut [u64])
     if (EVENT_BYTES as usize) < list {
         return Judged { number: 8, list: 0 };
     }
-    if !cmaf_read_rules::all::rules_ok(t, c, top, f, events) {
+    if !cmaf_read_rules::all::rules_ok(t, c, top, f, d, events) {
         return Judged { number: 7, list: 0 };
     }
     Judged { number: 0, list }
@@ -108,10 +121,12 @@ pub fn read_chunk(form: Form, t: Track, c: &[u8], events: &mut [u64], x: &mut [u
     if n != 0 {
         return refused(n);
     }
-    let j = judge(form, t, c, top, f, &mut *events);
+    let tfhd = f.tfhd;
+    let d = defaults::defaults_of(t, c, tfhd);
+    let j = judge(form, t, c, top, f, d, &mut *events);
     if j.number != 0 {
         return refused(j.number);
     }
-    cmaf_read_set::set::put_set(t, c, f, &mut *x);
-    taken(t, c, top, j.list)
+    cmaf_read_set::set::put_set(t, c, f, d, &mut *x);
+    taken(c, top, j.list)
 }

@@ -8,27 +8,33 @@ use borrow.Author.Tests.{eqb-true, eqb-false, not-true, not-false}
 use lib.Dec.{eqb}
 use Rattle.laws.specs.Tests.{_and_}
 use Rattle.laws.proofs.TestLaws.{and-left, and-right, and-is, and-true}
-use Rattle.constants.specs.Maxima.{samplesMost}
+use Rattle.constants.specs.Maxima.{subsamplesMost}
 use Rattle.track.specs.declared.Track.{Track}
 use Rattle.track.specs.Track.{none}
 use Rattle.byte_parts.specs.declared.Part.{Part}
 use Rattle.cmaf_read_shape.specs.declared.top.Top.{Top}
 use Rattle.cmaf_read_shape.specs.declared.inner.Inner.{Inner}
-use Rattle.cmaf_read_shape.specs.Parts.{endOf}
 use Rattle.cmaf_read_trun.specs.declared.rows.Run.{Run}
-use Rattle.cmaf_read_trun.specs.Rows.{RowsIn}
-use Rattle.cmaf_read_trun.proofs.RowLaws.{rows-in}
 use Rattle.cmaf_read_senc.specs.declared.entries.Entries.{Entries}
-use Rattle.cmaf_read_senc.specs.Entries.{sencHead, entriesOf, subsamples}
+use Rattle.cmaf_read_senc.specs.Entries.{sencHead, entriesOf, FewPairs}
 use Rattle.cmaf_read_senc.specs.Sizes.{saizCount, leadsTo}
-use Rattle.cmaf_read_senc.proofs.EntryLaws.{Left}
-use Rattle.cmaf_read_senc.proofs.SencLaws.{entries-at, senc-stands, senc-left}
+use Rattle.cmaf_read_senc.proofs.SencLaws.{entries-at, senc-stands, senc-few}
 use Rattle.cmaf_read_rules.specs.Rules.{countsOk, entriesOk, protectedOk, Right}
 use Rattle.cmaf_read_rules.specs.Rules as R
 
 -- a test that fails says that two numbers differ
 differ : (a b : ℕ) → not (eqb a b) ≡ true → a ≡ b → ⊥
 differ a b h = eqb-false a b (not-true _ h)
+
+-- the counts, by how many samples the `saiz` counts
+pub counts-by : (t : Track) (c : List ℕ) (saiz : Part) (e : Entries) (r : Run) (k : ℕ) → k ≡ saizCount c saiz
+    → ((not (eqb (t .protection) none) && not (eqb (r .count) 0))
+    && ((eqb (e .count) (r .count) && eqb k (r .count)) && (not (eqb (e .iv) 0) || e .map)))
+    ≡ countsOk t c saiz e r
+unfolding countsOk
+counts-by t c saiz e r k p = λ j.
+    (not (eqb (t .protection) none) && not (eqb (r .count) 0))
+    && ((eqb (e .count) (r .count) && eqb (p j) (r .count)) && (not (eqb (e .iv) 0) || e .map))
 
 module _ (t : Track) (c : List ℕ) (top : Top) (f : Inner) where
   abbrev run : Run
@@ -37,17 +43,10 @@ module _ (t : Track) (c : List ℕ) (top : Top) (f : Inner) where
   abbrev entries : Entries
   entries = R.entries t c top f
 
-  -- the counts, by what was read
-  abbrev countsBy : Entries → Run → ℕ → Bool
-  countsBy e r k =
-      (not (eqb (t .protection) none) && not (eqb (r .count) 0))
-      && ((eqb (e .count) (r .count) && eqb k (r .count)) && (not (eqb (e .iv) 0) || e .map))
+  abbrev counts : Bool
+  counts = countsOk t c (f .saiz) entries run
 
-  pub counts-are : (e : Entries) (r : Run) (k : ℕ) → e ≡ entries → r ≡ run → k ≡ saizCount c (f .saiz) → countsBy e r k ≡ countsOk t c top f
-  unfolding countsOk
-  counts-are e r k p q s = ap₂ (λ (x : Entries) (y : Run). countsBy x y k) p q ∙ ap (countsBy entries run) s
-
-  -- what they say
+  -- what the counts say
   pub record CountsHold : Type 0 where
     pub protected : t .protection ≡ none → ⊥
     pub samples : run .count ≡ 0 → ⊥
@@ -64,9 +63,10 @@ module _ (t : Track) (c : List ℕ) (top : Top) (f : Inner) where
   abbrev some-kind : Bool
   some-kind = not (eqb (entries .iv) 0) || entries .map
 
-  pub counts-hold : countsOk t c top f ≡ true → CountsHold
+  pub counts-hold : counts ≡ true → CountsHold
+  unfolding countsOk
   counts-hold h =
-      let all : (on && (alike && some-kind)) ≡ true = counts-are entries run (saizCount c (f .saiz)) refl refl refl ∙ h in
+      let all : (on && (alike && some-kind)) ≡ true = h in
       let a : on ≡ true = and-left on (alike && some-kind) all in
       let b : (alike && some-kind) ≡ true = and-right on (alike && some-kind) all in
       let d : alike ≡ true = and-left alike some-kind b in
@@ -81,18 +81,22 @@ module _ (t : Track) (c : List ℕ) (top : Top) (f : Inner) where
   -- ---- the rules on a `senc` that stands
 
   -- the counts are wrong, or right, by what code found of them
-  pub protected-not : (x : Bool) → x ≡ countsOk t c top f → not x ≡ true → false ≡ protectedOk t c top f
-  unfolding protectedOk _and_
-  protected-not x e h = rw (sym e ∙ not-true x h)
+  module _ {e : Entries} {r : Run} (p : e ≡ entries) (q : r ≡ run) (x : Bool) (w : x ≡ countsOk t c (f .saiz) e r) where
+    found : counts ≡ x
+    found = sym (w ∙ ap₂ (countsOk t c (f .saiz)) p q)
 
-  pub counts-right : (x : Bool) → x ≡ countsOk t c top f → not x ≡ false → countsOk t c top f ≡ true
-  counts-right x e h = sym e ∙ not-false x h
+    pub protected-not : not x ≡ true → false ≡ protectedOk t c top f
+    unfolding protectedOk _and_
+    protected-not h = rw (found ∙ not-true x h)
+
+    pub counts-right : not x ≡ false → counts ≡ true
+    counts-right h = found ∙ not-false x h
 
   -- by what was read
   abbrev protectedBy : Entries → Run → ℕ → Bool
   protectedBy e r default = leadsTo c (f .saio) (top .moof) (e .at) and entriesOk c e (f .saiz) r default (r .count) 0 (e .at)
 
-  pub protected-by : (e : Entries) (r : Run) (default : ℕ) (l b : Bool) → countsOk t c top f ≡ true → e ≡ entries → r ≡ run
+  pub protected-by : (e : Entries) (r : Run) (default : ℕ) (l b : Bool) → counts ≡ true → e ≡ entries → r ≡ run
       → default ≡ R.defaults t c top f .size → l ≡ leadsTo c (f .saio) (top .moof) (e .at)
       → b ≡ entriesOk c e (f .saiz) r default (r .count) 0 (e .at) → (l && b) ≡ protectedOk t c top f
   unfolding protectedOk
@@ -108,26 +112,20 @@ pub leads-first : (t : Track) (c : List ℕ) (senc saio moof : Part) {e : Entrie
     → l ≡ leadsTo c saio moof (senc .at + sencHead) → l ≡ leadsTo c saio moof (e .at)
 leads-first t c senc saio moof p h = h ∙ ap (leadsTo c saio moof) (sym (ap (λ (x : Entries). x .at) p ∙ entries-at t c senc))
 
--- ---- what stands in a chunk whose boxes are right
+-- ---- what stands in a chunk whose boxes are right, with a `senc`
 
 module _ {t : Track} {c : List ℕ} {top : Top} {f : Inner} (g : Right t c top f) where
-  -- few samples, their rows, and a number for each in the `saiz`
-  module _ {r : Run} (q : r ≡ R.run t c top f) where
-    pub samples-few : r .count ≤ samplesMost
-    samples-few = omega (arith, g .samples, ap (λ (x : Run). x .count) q)
-
-    pub rows-here : RowsIn c r
-    rows-here = rw q (rows-in c (f .trun) (g .trun-ok) (g .trun-in))
-
-    pub infos-here : countsOk t c top f ≡ true → {i : ℕ} → i < r .count → i < saizCount c (f .saiz)
-    infos-here h k = omega (arith, k, counts-hold t c top f h .infos, ap (λ (x : Run). x .count) q)
-
-  -- a `senc` that stands: its head, and entries after the start of the `moof`, as many as samples
+  -- the head of the box
   module _ (w : 0 < f .senc .len) where
     pub senc-head : 16 ≤ f .senc .len
     senc-head = senc-stands t c (f .senc) (g .senc-ok) w
 
-    module _ {e : Entries} (p : e ≡ R.entries t c top f) where
-      pub senc-walk : {r : Run} → r ≡ R.run t c top f → countsOk t c top f ≡ true
-          → Left c e (endOf (f .senc)) (r .count) (e .at) (subsamples t c (f .senc))
-      senc-walk q h = rw (p, q, ← counts-hold t c top f h .counted) (senc-left t c (f .senc) (g .senc-in) senc-head (g .senc-ok))
+    -- as many entries as samples
+    pub senc-walk : {e : Entries} {r : Run} → e ≡ R.entries t c top f → r ≡ R.run t c top f → counts t c top f ≡ true
+        → FewPairs c e (r .count) subsamplesMost
+    senc-walk p q h =
+        rw (p, q, ← counts-hold t c top f h .counted) (senc-few t c (f .senc) (g .senc-in) (g .senc-ok) w (g .subsamples) refl)
+
+  -- and a number for each in the `saiz`
+  pub infos-here : {r : Run} → r ≡ R.run t c top f → counts t c top f ≡ true → r .count ≤ saizCount c (f .saiz)
+  infos-here q h = omega (arith, counts-hold t c top f h .infos, ap (λ (x : Run). x .count) q)

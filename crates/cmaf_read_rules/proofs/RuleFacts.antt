@@ -13,6 +13,7 @@ use Rattle.cmaf_read_shape.specs.declared.top.Top.{Top}
 use Rattle.cmaf_read_shape.specs.declared.inner.Inner.{Inner}
 use Rattle.event_value.specs.Events.{Event}
 use Rattle.field_set.specs.Lawful.{saizOk}
+use Rattle.cmaf_read_moof.specs.declared.defaults.Defaults.{Defaults}
 use Rattle.cmaf_read_trun.specs.declared.rows.Run.{Run}
 use Rattle.cmaf_read_senc.specs.declared.entries.Entries.{Entries}
 use Rattle.cmaf_read_senc.specs.Sizes.{leadsTo}
@@ -22,14 +23,23 @@ use Rattle.cmaf_read_rules.proofs.CountLaws.{CountsHold, counts-hold}
 use Rattle.cmaf_read_rules.proofs.InfoLaws.{countsFrom, counts-keep}
 
 module _ (t : Track) (c : List ℕ) (top : Top) (f : Inner) where
+  abbrev defaults : Defaults
+  defaults = R.defaults t c top f
+
+  abbrev run : Run
+  run = R.run t c top f
+
+  abbrev entries : Entries
+  entries = R.entries t c top f
+
   -- each rule by itself
   pub record RulesHold (events : List Event) : Type 0 where
-    pub outer : outerOk t c top f ≡ true
+    pub outer : outerOk t c top defaults ≡ true
     pub clocks : clocksOk events ≡ true
     pub offset : offsetOk t c top f ≡ true
-    pub flags : flagsOk t c top f ≡ true
-    pub offsets : offsetsOk t c top f ≡ true
-    pub sizes : sizesOk t c top f ≡ true
+    pub flags : flagsOk c (f .trun) (defaults .flags) run ≡ true
+    pub offsets : offsetsOk c run ≡ true
+    pub sizes : sizesOk c (top .mdat) (defaults .size) run ≡ true
     pub protection : cond (eqb (f .senc .len) 0) (unprotectedOk t c top f) (protectedOk t c top f) ≡ true
 
   pub rules-hold : (events : List Event) → rulesOk t c top f events ≡ true → RulesHold events
@@ -64,16 +74,10 @@ module _ (t : Track) (c : List ℕ) (top : Top) (f : Inner) where
 
   -- ---- a `senc` that stands
 
-  abbrev run : Run
-  run = R.run t c top f
-
-  abbrev entries : Entries
-  entries = R.entries t c top f
-
   pub record ProtectionHolds : Type 0 where
     pub counts : CountsHold t c top f
     pub leads : leadsTo c (f .saio) (top .moof) (entries .at) ≡ true
-    pub each : entriesOk c entries (f .saiz) run (R.defaults t c top f .size) (run .count) 0 (entries .at) ≡ true
+    pub each : entriesOk c entries (f .saiz) run (defaults .size) (run .count) 0 (entries .at) ≡ true
 
   pub protection-holds : protectedOk t c top f ≡ true → ProtectionHolds
   unfolding protectedOk

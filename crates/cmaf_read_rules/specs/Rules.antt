@@ -52,6 +52,34 @@ entriesOk c e saiz r default (suc k) i at =
     (entryOk c e at (sizeAt c r default i) && eqb (infoSize c saiz i) (lengthAt c e at))
     and entriesOk c e saiz r default k (suc i) (at + lengthAt c e at)
 
+-- ---- by what was read: d the defaults of the `tfhd`, `default` one of them, r the rows of the `trun`, e the entries of the `senc`
+
+-- 01: "`styp`: minor_version 0." "`prft`: .. its track ours." "`tfhd`: our track_ID"
+unfoldable pub outerOk : Track → List ℕ → Top → Defaults → Bool
+outerOk t c top d = eqb (minorVersion c (top .styp)) 0 && (eqb (prftTrack c (top .prft) (t .id)) (t .id) && eqb (d .track) (t .id))
+
+-- 01: "Sample flags: only ..": of every field of flags that stands, whether or not it has an effect (D47)
+unfoldable pub flagsOk : List ℕ → Part → ℕ → Run → Bool
+flagsOk c trun default r = (only default && only (firstFlags c trun)) and allOnly (columnOf c r sampleFlags)
+
+-- 01: "Composition offsets: -2^31 to 2^31-1, in version 0 too." In version 0 they have no sign; in version 1 they are always in range (D46).
+unfoldable pub offsetsOk : List ℕ → Run → Bool
+offsetsOk c r = eqb (r .word / 0x100_0000) 1 || allLe offsetMost (columnOf c r offsets)
+
+-- 01: "Sample sizes sum to the payload length; with no samples the payload is empty and `trun` has only its data offset." That the payload is empty
+-- then, the sum of no sizes says (D27, D48).
+unfoldable pub sizesOk : List ℕ → Part → ℕ → Run → Bool
+sizesOk c mdat default r =
+    eqb (sum (sizesOf c r default)) (bodyOf mdat .len) && (not (eqb (r .count) 0) || eqb (r .word % 0x100_0000) 0x1)
+
+-- 01: "`senc` ..: .. forbidden otherwise or without samples; it has IVs or subsamples. It and `saiz` count as many samples as `trun`." (D29)
+unfoldable pub countsOk : Track → List ℕ → Part → Entries → Run → Bool
+countsOk t c saiz e r =
+    (not (eqb (t .protection) none) && not (eqb (r .count) 0))
+    && ((eqb (e .count) (r .count) && eqb (saizCount c saiz) (r .count)) && (not (eqb (e .iv) 0) || e .map))
+
+-- ---- of a chunk
+
 module _ (t : Track) (c : List ℕ) (top : Top) (f : Inner) where
   -- what the boxes say
   abbrev pub defaults : Defaults
@@ -63,56 +91,30 @@ module _ (t : Track) (c : List ℕ) (top : Top) (f : Inner) where
   abbrev pub entries : Entries
   entries = entriesOf t c (f .senc)
 
-  -- 01: "`styp`: minor_version 0." "`prft`: .. its track ours." "`tfhd`: our track_ID"
-  unfoldable pub outerOk : Bool
-  outerOk =
-      eqb (minorVersion c (top .styp)) 0 && (eqb (prftTrack c (top .prft) (t .id)) (t .id) && eqb (defaults .track) (t .id))
-
   -- 01: "data offset present and equal to the `moof` size plus 8"
   unfoldable pub offsetOk : Bool
   offsetOk = offsetLeads c (f .trun) (top .moof)
-
-  -- 01: "Sample flags: only ..": of every field of flags that stands, whether or not it has an effect (D47)
-  unfoldable pub flagsOk : Bool
-  flagsOk = (only (defaults .flags) && only (firstFlags c (f .trun))) and allOnly (columnOf c run sampleFlags)
-
-  -- 01: "Composition offsets: -2^31 to 2^31-1, in version 0 too." In version 0 they have no sign; in version 1 they are always in range (D46).
-  unfoldable pub offsetsOk : Bool
-  offsetsOk = eqb (run .word / 0x100_0000) 1 || allLe offsetMost (columnOf c run offsets)
-
-  -- 01: "Sample sizes sum to the payload length; with no samples the payload is empty and `trun` has only its data offset." That the payload is empty
-  -- then, the sum of no sizes says (D27, D48).
-  unfoldable pub sizesOk : Bool
-  sizesOk =
-      eqb (sum (sizesOf c run (defaults .size))) (bodyOf (top .mdat) .len)
-      && (not (eqb (run .count) 0) || eqb (run .word % 0x100_0000) 0x1)
 
   -- 01: "`senc` ..: required on cenc with samples": where it doesn't stand
   unfoldable pub unprotectedOk : Bool
   unprotectedOk = not (eqb (t .protection) cenc) || eqb (run .count) 0
 
-  -- 01: "forbidden otherwise or without samples; it has IVs or subsamples. It and `saiz` count as many samples as `trun`." (D29)
-  unfoldable pub countsOk : Bool
-  countsOk =
-      (not (eqb (t .protection) none) && not (eqb (run .count) 0))
-      && ((eqb (entries .count) (run .count) && eqb (saizCount c (f .saiz)) (run .count)) && (not (eqb (entries .iv) 0) || entries .map))
-
   -- where it stands
   unfoldable pub protectedOk : Bool
   protectedOk =
-      countsOk
+      countsOk t c (f .saiz) entries run
       and leadsTo c (f .saio) (top .moof) (entries .at)
       and entriesOk c entries (f .saiz) run (defaults .size) (run .count) 0 (entries .at)
 
   -- every rule, with the events of the chunk
   unfoldable pub rulesOk : List Event → Bool
   rulesOk events =
-      outerOk
+      outerOk t c top defaults
       and clocksOk events
       and offsetOk
-      and flagsOk
-      and offsetsOk
-      and sizesOk
+      and flagsOk c (f .trun) (defaults .flags) run
+      and offsetsOk c run
+      and sizesOk c (top .mdat) (defaults .size) run
       and cond (eqb (f .senc .len) 0) unprotectedOk protectedOk
 
 -- ==== What only mirrors the code

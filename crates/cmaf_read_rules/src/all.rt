@@ -1,15 +1,17 @@
 // Every rule.
-// Letters: `t` the track, `c` a chunk's bytes, `f` the boxes inside the `moof`.
+// Letters: `t` the track, `c` a chunk's bytes, `d` the defaults of the `tfhd`, `f` the boxes inside the `moof`.
 ghost use mathlib.Core.Path.{_≡_};
+ghost use mathlib.Core.Bool.{true};
 ghost use mathlib.Core.List.{[]};
 ghost use Prim.Native.Nat.{_*_, _≤_};
 ghost use lib.ListN.{length};
 ghost use Rattle.event_value.specs.Events.{eventWords, eventsOf};
+ghost use Rattle.cmaf_read_shape.specs.Parts.{Inside};
+ghost use Rattle.cmaf_read_prelude.specs.Prft.{prftOk};
+ghost use Rattle.cmaf_read_moof.specs.Defaults.{defaultsOf, Narrow};
 ghost use Rattle.cmaf_read_rules.specs.Rules.{clocksOk, outerOk, rulesOk, Right};
-ghost use Rattle.cmaf_read_rules.specs.Rules as R;
 use crate::protection;
 use crate::samples;
-use cmaf_read_moof::defaults;
 use cmaf_read_moof::defaults::Defaults;
 use cmaf_read_shape::inner::Inner;
 use cmaf_read_shape::top::Top;
@@ -32,9 +34,10 @@ fn clocks_ok(events: &[u64], k: usize) -> bool
     ok
 }
 
-fn outer_ok(t: Track, c: &[u8], top: Top, f: Inner, d: Defaults) -> bool
-    requires { ⌜ Right t (now c) top f × (d ≡ R.defaults t (now c) top f) ⌝ }
-    ensures { λ b. ⌜ b ≡ outerOk t (now (c .entry)) top f ⌝ }
+fn outer_ok(t: Track, c: &[u8], top: Top, d: Defaults) -> bool
+    requires { ⌜ Inside (now c) (top .styp) × Inside (now c) (top .prft) ⌝ }
+    requires { ⌜ prftOk (now c) (top .prft) ≡ true ⌝ }
+    ensures { λ b. ⌜ b ≡ outerOk t (now (c .entry)) top d ⌝ }
 {
     let styp = top.styp;
     let prft = top.prft;
@@ -44,22 +47,22 @@ fn outer_ok(t: Track, c: &[u8], top: Top, f: Inner, d: Defaults) -> bool
 }
 
 // Whether every rule holds; the words of the chunk's events are lent.
-pub fn rules_ok(t: Track, c: &[u8], top: Top, f: Inner, events: &[u64]) -> bool
+pub fn rules_ok(t: Track, c: &[u8], top: Top, f: Inner, d: Defaults, events: &[u64]) -> bool
     requires { ⌜ Right t (now c) top f ⌝ }
     requires { ⌜ eventWords * top .events ≤ length (now events) ⌝ }
+    requires { ⌜ (d ≡ defaultsOf t (now c) (f .tfhd)) × Narrow d ⌝ }
     ensures { λ b. ⌜ b
         ≡ rulesOk t (now (c .entry)) top f (eventsOf (now (c .entry)) (now (events .entry)) (top .events)) ⌝ }
 {
-    let tfhd = f.tfhd;
     let trun = f.trun;
     let senc = f.senc;
     let moof = top.moof;
-    let d = defaults::defaults_of(t, c, tfhd);
+    let mdat = top.mdat;
     let r = rows::run_of(c, trun);
-    let outer = outer_ok(t, c, top, f, d) & clocks_ok(events, top.events);
+    let outer = outer_ok(t, c, top, d) & clocks_ok(events, top.events);
     let flags = rows::offset_ok(c, trun, moof)
-        & (samples::flags_ok(t, c, top, f, d, r) & samples::offsets_ok(t, c, top, f, r));
-    let sizes = samples::sizes_ok(t, c, top, f, d, r);
+        & (samples::flags_ok(c, trun, d.flags, r) & samples::offsets_ok(c, r));
+    let sizes = samples::sizes_ok(c, mdat, d.size, r);
     // without a `senc`, the track isn't cenc or there are no samples
     if senc.len == 0 {
         return outer & (flags & (sizes & ((t.protection as u64 != track::CENC) | (r.count == 0))));

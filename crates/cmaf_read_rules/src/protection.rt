@@ -1,13 +1,17 @@
 // The rules on protected samples. Counts keep their maxima by now, so no loop is longer than 64 samples and 256 subsamples.
-// Letters: `t` the track, `c` a chunk's bytes, `f` the boxes inside the `moof`, `r` the rows of the `trun`.
+// Letters: `t` the track, `c` a chunk's bytes, `e` the entries of the `senc`, `f` the boxes inside the `moof`, `r` the rows of the `trun`.
 ghost use mathlib.Core.Path.{_≡_};
 ghost use mathlib.Core.Bool.{true};
 ghost use Prim.Native.Nat.{_+_, _*_, _≤_, _<_, _^_};
 ghost use lib.ListN.{length};
 ghost use Rattle.constants.specs.Maxima.{subsamplesMost};
-ghost use Rattle.cmaf_read_senc.specs.Entries.{pairsAt, lengthAt};
+ghost use Rattle.cmaf_read_shape.specs.Parts.{Inside};
+ghost use Rattle.cmaf_read_trun.specs.Columns.{FewRows};
+ghost use Rattle.cmaf_read_senc.specs.Entries.{pairsAt, lengthAt, FewPairs};
+ghost use Rattle.cmaf_read_senc.specs.Sizes.{saizOk, saizCount};
 ghost use Rattle.cmaf_read_rules.specs.Rules.{pairsSum, entryOk, entriesOk, countsOk, protectedOk, Right};
 ghost use Rattle.cmaf_read_rules.specs.Rules as R;
+use byte_parts::Part;
 use cmaf_read_senc::entries;
 use cmaf_read_senc::entries::Entries;
 use cmaf_read_senc::sizes;
@@ -46,13 +50,12 @@ fn entry_ok(c: &[u8], e: Entries, at: usize, k: usize, size: u64) -> bool
 }
 
 // Each entry's subsamples add up to its sample's size, and the `saiz` has its length.
-fn entries_ok(t: Track, c: &[u8], top: Top, f: Inner, e: Entries, r: Run, default: u64) -> bool
-    requires { ⌜ Right t (now c) top f × (0 < f .senc .len) ⌝ }
-    requires { ⌜ (e ≡ R.entries t (now c) top f) × (r ≡ R.run t (now c) top f) × (default < 2 ^ 32) ⌝ }
-    requires { ⌜ countsOk t (now c) top f ≡ true ⌝ }
-    ensures { λ b. ⌜ b ≡ entriesOk (now (c .entry)) e (f .saiz) r default (r .count) 0 (e .at) ⌝ }
+fn entries_ok(c: &[u8], saiz: Part, e: Entries, r: Run, default: u64) -> bool
+    requires { ⌜ FewRows (now c) r × (default < 2 ^ 32) ⌝ }
+    requires { ⌜ FewPairs (now c) e (r .count) subsamplesMost ⌝ }
+    requires { ⌜ Inside (now c) saiz × (saizOk (now c) saiz ≡ true) × (r .count ≤ saizCount (now c) saiz) ⌝ }
+    ensures { λ b. ⌜ b ≡ entriesOk (now (c .entry)) e saiz r default (r .count) 0 (e .at) ⌝ }
 {
-    let saiz = f.saiz;
     let n = r.count as usize;
     let mut ok = true;
     let mut p = e.at;
@@ -69,12 +72,10 @@ fn entries_ok(t: Track, c: &[u8], top: Top, f: Inner, e: Entries, r: Run, defaul
 }
 
 // A `senc` stands on a protected track with samples, counts them as the `saiz` does, and has IVs or subsamples.
-fn counts_ok(t: Track, c: &[u8], top: Top, f: Inner, e: Entries, r: Run) -> bool
-    requires { ⌜ Right t (now c) top f ⌝ }
-    requires { ⌜ (e ≡ R.entries t (now c) top f) × (r ≡ R.run t (now c) top f) ⌝ }
-    ensures { λ b. ⌜ b ≡ countsOk t (now (c .entry)) top f ⌝ }
+fn counts_ok(t: Track, c: &[u8], saiz: Part, e: Entries, r: Run) -> bool
+    requires { ⌜ Inside (now c) saiz ⌝ }
+    ensures { λ b. ⌜ b ≡ countsOk t (now (c .entry)) saiz e r ⌝ }
 {
-    let saiz = f.saiz;
     ((t.protection as u64 != track::NONE) & (r.count != 0))
         & (((e.count == r.count) & (sizes::saiz_count(c, saiz) == r.count)) & ((e.iv != 0) | e.map))
 }
@@ -87,10 +88,11 @@ pub fn protected_ok(t: Track, c: &[u8], top: Top, f: Inner, r: Run, default: u64
 {
     let moof = top.moof;
     let senc = f.senc;
+    let saiz = f.saiz;
     let saio = f.saio;
     let e = entries::entries_of(t, c, senc);
-    if !counts_ok(t, c, top, f, e, r) {
+    if !counts_ok(t, c, saiz, e, r) {
         return false;
     }
-    sizes::leads_to(c, saio, moof, senc) & entries_ok(t, c, top, f, e, r, default)
+    sizes::leads_to(c, saio, moof, senc) & entries_ok(c, saiz, e, r, default)
 }

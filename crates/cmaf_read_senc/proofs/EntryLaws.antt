@@ -16,7 +16,7 @@ use Rattle.laws.proofs.SliceLaws.{take-slice, drop-slice}
 use Rattle.cmaf_read_senc.specs.declared.entries.Entries.{Entries}
 use Rattle.cmaf_read_senc.specs.declared.entries.Filled.{Filled}
 use Rattle.cmaf_read_senc.specs.declared.entries.Filled.the-variants.{With, Wrong}
-use Rattle.cmaf_read_senc.specs.Entries.{mapLength, pairsOf, pairsAt, lengthOf, lengthAt, more, entriesIn, isWith, withOf}
+use Rattle.cmaf_read_senc.specs.Entries.{mapLength, pairsOf, pairsAt, lengthOf, lengthAt, more, entriesIn, isWith, withOf, FewPairs}
 use Rattle.cmaf_read_tree.specs.Numbers.{u16}
 
 -- ---- an entry, with subsamples and without
@@ -267,6 +267,10 @@ pub record Left (c : List ℕ) (e : Entries) (end n p s : ℕ) : Type 0 where
   pub here : p ≤ end
   pub within : end ≤ length c
   pub rest : entriesIn e n (slice p end c) ≡ With s
+
+-- those that are asked for before the first is read
+pub left-few : {c : List ℕ} {e : Entries} {n most : ℕ} (g : FewPairs c e n most) → Left c e (g .end) n (e .at) (g .pairs)
+left-few g = record { here = g .here; within = g .within; rest = g .filled }
 
 module _ {c : List ℕ} {e : Entries} {end n p s : ℕ} (h : 0 < n) (g : Left c e end n p s) where
   -- the next lies before the end, its IV and the number of its subsamples with it

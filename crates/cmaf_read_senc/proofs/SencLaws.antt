@@ -16,7 +16,7 @@ use Rattle.track.specs.declared.Track.{Track}
 use Rattle.cmaf_read_senc.specs.declared.entries.Entries.{Entries}
 use Rattle.cmaf_read_senc.specs.declared.entries.Filled.{Filled}
 use Rattle.cmaf_read_senc.specs.declared.entries.Filled.the-variants.{With, Wrong}
-use Rattle.cmaf_read_senc.specs.Entries.{entriesOf, entriesIn, sencFilled, isWith, sencOk, sencCount, withOf, subsamples}
+use Rattle.cmaf_read_senc.specs.Entries.{entriesOf, entriesIn, sencFilled, isWith, sencOk, sencCount, withOf, subsamples, FewPairs}
 use Rattle.cmaf_read_tree.specs.Numbers.{u32}
 use Rattle.cmaf_read_senc.proofs.EntryLaws.{gate-inv, plain-full, plain-off, Left}
 
@@ -167,3 +167,10 @@ module _ (t : Track) (c : List ℕ) (b : Part) where
 
       is-with : sencFilled t c b ≡ With (withOf (sencFilled t c b))
       is-with = with-inv (sencFilled t c b) (senc-by h (sencFilled t c b) refl ∙ k)
+
+  -- they can be walked, by what was read of them
+  pub senc-few : Inside c b → sencOk t c b ≡ true → 0 < b .len → {most : ℕ} → subsamples t c b ≤ most
+      → {e : Entries} → e ≡ entriesOf t c b → FewPairs c e (e .count) most
+  senc-few i k h s q =
+      let l = senc-left i (senc-stands k h) k in
+      rw q (record { end = endOf b; pairs = subsamples t c b; here = l .here; within = l .within; filled = l .rest; few = s })

@@ -1,6 +1,6 @@
 -- `senc` as it is read.
--- ==== The rules
-use Prim.Native.Nat.{ℕ, zero, suc, _+_, _*_}
+use Prim.Native.Nat.{ℕ, zero, suc, _+_, _*_, _≤_}
+use mathlib.Core.Path.{_≡_}
 use mathlib.Core.Bool.{Bool, true, false, cond, _||_}
 use mathlib.Core.List.{List}
 use lib.Dec.{eqb, leb, ltb}
@@ -15,6 +15,8 @@ use Rattle.track.specs.declared.Track.{Track}
 use Rattle.cmaf_read_senc.specs.declared.entries.Entries.{Entries}
 use Rattle.cmaf_read_senc.specs.declared.entries.Filled.{Filled}
 use Rattle.cmaf_read_senc.specs.declared.entries.Filled.the-variants.{With, Wrong}
+
+-- ==== The rules
 
 -- the bytes of the box before its first entry: its head, version and flags, and the count
 abbrev pub sencHead : ℕ
@@ -83,3 +85,14 @@ withOf Wrong = 0
 -- and how many subsamples it has
 unfoldable pub subsamples : Track → List ℕ → Part → ℕ
 subsamples t c b = cond (ltb (b .len) sencHead) 0 (withOf (sencFilled t c b))
+
+-- ==== What only mirrors the code
+
+-- n entries, from the first on, fill the chunk up to a place in it, and have at most so many subsamples
+pub record FewPairs (c : List ℕ) (e : Entries) (n most : ℕ) : Type 0 where
+  pub end : ℕ
+  pub pairs : ℕ
+  pub here : e .at ≤ end
+  pub within : end ≤ length c
+  pub filled : entriesIn e n (slice (e .at) end c) ≡ With pairs
+  pub few : pairs ≤ most

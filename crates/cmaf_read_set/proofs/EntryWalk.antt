@@ -2,18 +2,18 @@
 use Prim.Native.Nat.{ℕ, suc, _+_, _-_, _≤_, _<_}
 use native.Mathlib.Nat.{sub-zero}
 use native.Mathlib.Omega.{arith}
-use mathlib.Core.Path.{_≡_, refl, sym, _∙_, ap, subst}
+use mathlib.Core.Path.{_≡_, _∙_, ap}
 use mathlib.Core.Bool.{true}
 use mathlib.Core.List.{List}
 use lib.ListN.{length}
 use Rattle.constants.specs.Maxima.{samplesMost, subsamplesMost}
 use Rattle.track.specs.declared.Track.{Track}
 use Rattle.byte_parts.specs.declared.Part.{Part}
-use Rattle.cmaf_read_shape.specs.Parts.{endOf, Inside}
+use Rattle.cmaf_read_shape.specs.Parts.{Inside}
 use Rattle.field_table.specs.Lines.{setLen}
 use Rattle.cmaf_read_senc.specs.declared.entries.Entries.{Entries}
-use Rattle.cmaf_read_senc.specs.Entries.{pairsAt, lengthAt, mapLength, entriesOf, sencOk, subsamples}
-use Rattle.cmaf_read_senc.proofs.EntryLaws.{Left, left-head, left-pairs, left-next, length-is, left-whole}
+use Rattle.cmaf_read_senc.specs.Entries.{pairsAt, lengthAt, mapLength, entriesOf, sencOk, subsamples, FewPairs}
+use Rattle.cmaf_read_senc.proofs.EntryLaws.{Left, left-few, left-head, left-pairs, left-next, length-is, left-whole}
 use Rattle.cmaf_read_senc.proofs.SencLaws.{senc-left, senc-stands}
 use Rattle.cmaf_read_set.specs.Entries.{allClear}
 use Rattle.cmaf_read_set.specs.Stored.{storedEntry, storedEntries}
@@ -33,24 +33,17 @@ pub record Entering (c : List ℕ) (e : Entries) (x₀ : List ℕ) (x : List ℕ
   pub long : length x ≡ setLen
   pub stored : storedEntries c e (e .count - i) p i j x ≡ storedEntries c e (e .count) (e .at) 0 0 x₀
 
--- the entries of a box that stands and is right
-left-all : (t : Track) (c : List ℕ) (b : Part) (e : Entries) → Inside c b → sencOk t c b ≡ true → 0 < b .len → e ≡ entriesOf t c b
-    → Left c e (endOf b) (e .count) (e .at) (subsamples t c b)
-left-all t c b e i k h q =
-    subst (λ (z : Entries). Left c z (endOf b) (z .count) (z .at) (subsamples t c b)) (sym q) (senc-left t c b i (senc-stands t c b k h) k)
-
-pub walk-start : (t : Track) (c : List ℕ) (b : Part) (e : Entries) (x₀ : List ℕ) → (Inside c b) × (sencOk t c b ≡ true) × (0 < b .len)
-    → (e ≡ entriesOf t c b) × (e .count ≤ samplesMost) × (e .iv ≤ 16) × (subsamples t c b ≤ subsamplesMost) → length x₀ ≡ setLen
-    → Entering c e x₀ x₀ 0 0 (e .at)
-walk-start t c b e x₀ g h l =
+pub walk-start : (c : List ℕ) (e : Entries) (x₀ : List ℕ) → (e .count ≤ samplesMost) × (e .iv ≤ 16) × FewPairs c e (e .count) subsamplesMost
+    → length x₀ ≡ setLen → Entering c e x₀ x₀ 0 0 (e .at)
+walk-start c e x₀ h l =
     record {
-      end = endOf b;
-      all = subsamples t c b;
-      left = rw (sub-zero (e .count), sub-zero (subsamples t c b)) (left-all t c b e (g .0) (g .1) (g .2) (h .0));
+      end = h .2 .end;
+      all = h .2 .pairs;
+      left = rw (sub-zero (e .count), sub-zero (h .2 .pairs)) (left-few (h .2));
       some = omega arith;
-      most = h .3;
-      many = h .1;
-      iv = h .2;
+      most = h .2 .few;
+      many = h .0;
+      iv = h .1;
       begun = l;
       long = l;
       stored = rw sub-zero;
@@ -59,7 +52,7 @@ walk-start t c b e x₀ g h l =
 -- so many subsamples has the box
 pub all-clear : (t : Track) (c : List ℕ) (b : Part) → Inside c b → sencOk t c b ≡ true → 0 < b .len → subsamples t c b ≤ subsamplesMost
     → length (allClear c (entriesOf t c b) (entriesOf t c b .count) (entriesOf t c b .at)) ≤ subsamplesMost
-all-clear t c b i k h s = omega (arith, s, all-clear-length c (entriesOf t c b) (entriesOf t c b .count) (entriesOf t c b .at), counts-sum c (entriesOf t c b) _ _ _ _ (left-all t c b (entriesOf t c b) i k h refl))
+all-clear t c b i k h s = omega (arith, s, all-clear-length c (entriesOf t c b) (entriesOf t c b .count) (entriesOf t c b .at), counts-sum c (entriesOf t c b) _ _ _ _ (senc-left t c b i (senc-stands t c b k h) k))
 
 module _ {c : List ℕ} {e : Entries} {x₀ x : List ℕ} {i j p : ℕ} (g : Entering c e x₀ x i j p) where
   pub walk-end : e .count ≤ i → x ≡ storedEntries c e (e .count) (e .at) 0 0 x₀

@@ -1,14 +1,14 @@
 -- The set of a chunk, stored field by field in the order of the code. Assumes nothing.
-use Prim.Native.Nat.{ℕ, _-_, _≤_}
+use Prim.Native.Nat.{ℕ, _≤_}
 use native.Mathlib.Omega.{arith}
 use mathlib.Core.Path.{_≡_, refl, sym, _∙_, ap}
-use mathlib.Core.Bool.{Bool, not, _&&_}
-use mathlib.Core.List.{List, [], _∷_, map, map-id, append-nil}
+use mathlib.Core.Bool.{Bool, not}
+use mathlib.Core.List.{List, [], _∷_, map-id, append-nil}
 use mathlib.Core.Option.{none}
-use lib.Dec.{eqb, leb}
-use lib.ListN.{length, getD, set, take, replicate}
+use lib.Dec.{eqb}
+use lib.ListN.{length, getD, set, replicate}
 use lib.Seq.{slice, sets, set-comm}
-use Rattle.field_table.specs.Lines.{sizeAt, descriptionAt, durationsAt, durationAt, offsetsAt, flagsAt, defaultFlagsAt, ivsAt, subsamplesAt, firstFlagsAt, clearAt, protectedAt}
+use Rattle.field_table.specs.Lines.{sizesAt, sizeAt, descriptionAt, durationsAt, durationAt, offsetsAt, flagsAt, defaultFlagsAt, ivsAt, subsamplesAt, firstFlagsAt, clearAt, protectedAt}
 use Rattle.media.specs.Flags.{fiveOf}
 use Rattle.track.specs.declared.Track.{Track}
 use Rattle.cmaf_read_shape.specs.declared.inner.Inner.{Inner}
@@ -20,16 +20,17 @@ use Rattle.cmaf_read_trun.specs.declared.rows.Run.{Run}
 use Rattle.cmaf_read_shape.specs.Words.{bitOf}
 use Rattle.cmaf_read_moof.specs.Headers.{bmdtOf}
 use Rattle.cmaf_read_trun.specs.Rows.{hasColumn, durations, offsets, sampleFlags, first, firstFlags}
-use Rattle.cmaf_read_trun.specs.Samples.{columnOf, sizesOf}
+use Rattle.cmaf_read_trun.specs.Samples.{columnOf}
 use Rattle.field_rules.specs.Fields.{Held, wordsOf}
 use Rattle.field_rules.specs.Words.{setWords, noFields, storeAll, regionsOf}
 use Rattle.field_rules.proofs.SetLaws.{AllFit, store-run, words-none, words-bmdt, words-fit}
 use Rattle.cmaf_read_samples.specs.declared.cells.Way.the-variants.{Plain, Raised, Five}
-use Rattle.cmaf_read_samples.specs.Ways.{valueOf}
+use Rattle.cmaf_read_samples.specs.Ways.{columnWords}
 use Rattle.cmaf_read_samples.specs.Held.{heldIf}
+use Rattle.cmaf_read_samples.specs.Sizes.{sizesHeld, sizeHeld}
 use Rattle.cmaf_read_set.specs.Set.{heldFor, fieldOf, chunkSet}
 use Rattle.cmaf_read_set.specs.Set as G
-use Rattle.cmaf_read_set.specs.Stored.{protectionLines}
+use Rattle.cmaf_read_set.specs.Stored.{storedLow, storedHigh, protectionLines}
 use Rattle.cmaf_read_set.specs.Gatherable.{Gatherable}
 use Rattle.cmaf_read_set.proofs.FitLaws.{all-fit}
 use Rattle.cmaf_read_set.proofs.StoreTwice.{sets-past}
@@ -71,45 +72,42 @@ in-order f x h e =
 step : {x y z w v : List ℕ} (p : ℕ) → x ≡ y → z ≡ sets x p w → w ≡ v → z ≡ sets y p v
 step p e h q = h ∙ (λ j. sets (e j) p (q j))
 
-module _ (t : Track) (c : List ℕ) (f : Inner) where
-  -- ids 1 to 8, by what the code has read
-  module _ (d : Defaults) (r : Run) (equal : Bool) (ed : d ≡ G.defaults t c f) (er : r ≡ G.run t c f) (ee : equal ≡ G.equal t c f) (x : List ℕ) where
-    pub low-stored : {x₁ x₂ x₃ x₄ : List ℕ}
-        → x₁ ≡ sets x 2 (wordsOf (heldIf (leb 2 (r .count) && not equal) (take (r .count - 1) (sizesOf c r (d .size)))))
-        → x₂ ≡ sets x₁ descriptionAt (wordsOf (heldIf (not (eqb (d .description) (t .description))) (d .description ∷ [])))
-        → x₃ ≡ sets x₂ durationsAt (wordsOf (heldIf (hasColumn r durations) (map (valueOf Plain) (columnOf c r durations))))
-        → x₄ ≡ sets x₃ durationAt (wordsOf (heldIf (not (eqb (d .duration) (t .duration))) (d .duration ∷ [])))
-        → x₄ ≡ storeAll (fieldOf t c f) (slice 0 4 lines) x
-    unfolding lines storeAll heldFor
-    low-stored h₁ h₂ h₃ h₄ =
-        step durationAt
-        (step durationsAt
-        (step descriptionAt
-        (step 2 refl h₁ (λ j. wordsOf (heldIf (leb 2 (er j .count) && not (ee j)) (take (er j .count - 1) (sizesOf c (er j) (ed j .size))))))
-        h₂ (λ j. wordsOf (heldIf (not (eqb (ed j .description) (t .description))) (ed j .description ∷ []))))
-        h₃ (λ j. wordsOf (heldIf (hasColumn (er j) durations) (map-id (columnOf c (er j) durations) j))))
-        h₄ (λ j. wordsOf (heldIf (not (eqb (ed j .duration) (t .duration))) (ed j .duration ∷ [])))
+-- ids 1 to 8, by what each call stores
+module _ (t : Track) (c : List ℕ) (d : Defaults) (r : Run) (equal : Bool) (x : List ℕ) where
+  pub low-read : {x₁ x₂ x₃ x₄ : List ℕ} → x₁ ≡ sets x sizesAt (wordsOf (sizesHeld c r (d .size) equal))
+      → x₂ ≡ sets x₁ descriptionAt (wordsOf (heldIf (not (eqb (d .description) (t .description))) (d .description ∷ [])))
+      → x₃ ≡ sets x₂ durationsAt (columnWords Plain c r durations)
+      → x₄ ≡ sets x₃ durationAt (wordsOf (heldIf (not (eqb (d .duration) (t .duration))) (d .duration ∷ [])))
+      → x₄ ≡ storedLow t c d r equal x
+  unfolding storedLow
+  low-read h₁ h₂ h₃ h₄ = rw (h₄, h₃, h₂, h₁)
 
-    pub high-stored : {x₁ x₂ x₃ x₄ : List ℕ} (five : ℕ) → five ≡ fiveOf (d .flags)
-        → x₁ ≡ sets x offsetsAt (wordsOf (heldIf (hasColumn r offsets) (map (valueOf Raised) (columnOf c r offsets))))
-        → x₂ ≡ sets x₁ sizeAt
-        (wordsOf (heldIf
-        (leb 2 (r .count) && (equal && not (eqb (getD (sizesOf c r (d .size)) 0 0) (t .size) && not (eqb (getD (sizesOf c r (d .size)) 0 0) 0))))
-        (getD (sizesOf c r (d .size)) 0 0 ∷ [])))
-        → x₃ ≡ sets x₂ flagsAt (wordsOf (heldIf (hasColumn r sampleFlags) (map (valueOf Five) (columnOf c r sampleFlags))))
-        → x₄ ≡ sets x₃ defaultFlagsAt (wordsOf (heldIf (not (eqb five (t .flags))) (five ∷ [])))
-        → x₄ ≡ storeAll (fieldOf t c f) (slice 4 8 lines) x
-    unfolding lines storeAll heldFor
-    high-stored five e h₁ h₂ h₃ h₄ =
-        let q : five ≡ fiveOf (G.defaults t c f .flags) = e ∙ ap (λ (b : Defaults). fiveOf (b .flags)) ed in
-        let s : getD (sizesOf c r (d .size)) 0 0 ≡ G.size t c f = λ j. getD (sizesOf c (er j) (ed j .size)) 0 0 in
-        step defaultFlagsAt
-        (step flagsAt
-        (step sizeAt
-        (step offsetsAt refl h₁ (λ j. wordsOf (heldIf (hasColumn (er j) offsets) (map (valueOf Raised) (columnOf c (er j) offsets)))))
-        h₂ (λ j. wordsOf (heldIf (leb 2 (er j .count) && (ee j && not (eqb (s j) (t .size) && not (eqb (s j) 0)))) (s j ∷ []))))
-        h₃ (λ j. wordsOf (heldIf (hasColumn (er j) sampleFlags) (map (valueOf Five) (columnOf c (er j) sampleFlags)))))
-        h₄ (λ j. wordsOf (heldIf (not (eqb (q j) (t .flags))) (q j ∷ [])))
+  pub high-read : {x₁ x₂ x₃ x₄ : List ℕ} (five : ℕ) → five ≡ fiveOf (d .flags) → x₁ ≡ sets x offsetsAt (columnWords Raised c r offsets)
+      → x₂ ≡ sets x₁ sizeAt (wordsOf (sizeHeld c r (d .size) (t .size) equal))
+      → x₃ ≡ sets x₂ flagsAt (columnWords Five c r sampleFlags)
+      → x₄ ≡ sets x₃ defaultFlagsAt (wordsOf (heldIf (not (eqb five (t .flags))) (five ∷ [])))
+      → x₄ ≡ storedHigh t c d r equal x
+  unfolding storedHigh
+  high-read five e h₁ h₂ h₃ h₄ = rw (h₄, h₃, h₂, h₁, e)
+
+module _ (t : Track) (c : List ℕ) (f : Inner) where
+  -- they are those of the set, if what was read is the chunk's
+  module _ {d : Defaults} {r : Run} {equal : Bool} (ed : d ≡ G.defaults t c f) (er : r ≡ G.run t c f) (ee : equal ≡ G.equal t c f) (x : List ℕ) where
+    low-stored : storedLow t c d r equal x ≡ storeAll (fieldOf t c f) (slice 0 4 lines) x
+    unfolding storedLow lines storeAll heldFor
+    low-stored = λ j.
+        sets
+        (sets
+        (sets (sets x sizesAt (wordsOf (sizesHeld c (er j) (ed j .size) (ee j)))) descriptionAt
+        (wordsOf (heldIf (not (eqb (ed j .description) (t .description))) (ed j .description ∷ []))))
+        durationsAt
+        (wordsOf (heldIf (hasColumn (er j) durations) (map-id (columnOf c (er j) durations) j))))
+        durationAt
+        (wordsOf (heldIf (not (eqb (ed j .duration) (t .duration))) (ed j .duration ∷ [])))
+
+    high-stored : storedHigh t c d r equal x ≡ storeAll (fieldOf t c f) (slice 4 8 lines) x
+    unfolding storedHigh lines storeAll heldFor
+    high-stored = λ j. storedHigh t c (ed j) (er j) (ee j) x
 
   -- the definition of the set says nothing of id 16
   pub no-sixteen : fieldOf t c f (lineFor 16 lines) ≡ none
@@ -125,20 +123,22 @@ module _ (t : Track) (c : List ℕ) (f : Inner) where
       λ j. wordsOf (heldIf (eqb (e j) 1) (ev j ∷ []))
 
   -- all of it
-  pub set-stored : Gatherable t c f → {x x₁ x₂ x₃ x₄ : List ℕ} (b v : ℕ) (r : Run) (bit : ℕ) → x ≡ replicate setLen 0 → b ≡ bmdtOf c (f .tfdt)
-      → r ≡ G.run t c f → bit ≡ bitOf (r .word) first → v ≡ fiveOf (firstFlags c (f .trun))
-      → x₁ ≡ storeAll (fieldOf t c f) (slice 0 4 lines) (set (set x 0 b) 1 (r .count))
-      → x₂ ≡ storeAll (fieldOf t c f) (slice 4 8 lines) x₁
+  pub set-stored : Gatherable t c f → {x x₁ x₂ x₃ x₄ : List ℕ} (b v : ℕ) (d : Defaults) (r : Run) (equal : Bool) (bit : ℕ)
+      → x ≡ replicate setLen 0 → b ≡ bmdtOf c (f .tfdt) → d ≡ G.defaults t c f → r ≡ G.run t c f → equal ≡ G.equal t c f
+      → bit ≡ bitOf (r .word) first → v ≡ fiveOf (firstFlags c (f .trun))
+      → x₁ ≡ storedLow t c d r equal (set (set x 0 b) 1 (r .count))
+      → x₂ ≡ storedHigh t c d r equal x₁
       → x₃ ≡ sets x₂ firstFlagsAt (wordsOf (heldIf (eqb bit 1) (v ∷ [])))
       → x₄ ≡ storeAll (fieldOf t c f) protectionLines x₃
       → x₄ ≡ chunkSet t c f
   unfolding chunkSet
-  set-stored g {x} b v r bit ex eb er ei ev h₁ h₂ h₃ h₄ =
+  set-stored g {x} {x₁} b v d r equal bit ex eb ed er ee ei ev h₁ h₂ h₃ h₄ =
       let F : Line → Held = fieldOf t c f in
       let start : set (set x 0 b) 1 (r .count) ≡ setWords (bmdtOf c (f .tfdt)) (G.run t c f .count) noFields =
       (λ j. set (set (ex j) 0 (eb j)) 1 (er j .count)) ∙ begun (bmdtOf c (f .tfdt)) (G.run t c f .count) in
       let w : wordsOf (heldIf (eqb bit 1) (v ∷ [])) ≡ wordsOf (F (lineFor 12 lines)) = twelve v r bit er ei ev in
+      let low : x₁ ≡ storeAll F (slice 0 4 lines) (set (set x 0 b) 1 (r .count)) = h₁ ∙ low-stored ed er ee _ in
       h₄
-      ∙ ap (storeAll F protectionLines) (step firstFlagsAt (h₂ ∙ ap (storeAll F (slice 4 8 lines)) (h₁ ∙ ap (storeAll F (slice 0 4 lines)) start)) h₃ w)
+      ∙ ap (storeAll F protectionLines) (step firstFlagsAt (h₂ ∙ high-stored ed er ee x₁ ∙ ap (storeAll F (slice 4 8 lines)) (low ∙ ap (storeAll F (slice 0 4 lines)) start)) h₃ w)
       ∙ in-order F _ (all-fit t c f g) no-sixteen
       ∙ stored-all (bmdtOf c (f .tfdt)) (G.run t c f .count) F (all-fit t c f g)

@@ -2,16 +2,14 @@
 -- ==== What only mirrors the code
 use Prim.Native.Nat.{ℕ, _≤_, _<_}
 use mathlib.Core.Path.{_≡_}
-use mathlib.Core.Bool.{Bool, true}
+use mathlib.Core.Bool.{true}
 use mathlib.Core.List.{List}
 use Rattle.constants.specs.Maxima.{samplesMost, subsamplesMost}
 use Rattle.track.specs.declared.Track.{Track}
 use Rattle.cmaf_read_shape.specs.declared.inner.Inner.{Inner}
 use Rattle.cmaf_read_shape.specs.Parts.{Inside}
-use Rattle.cmaf_read_moof.specs.declared.defaults.Defaults.{Defaults}
-use Rattle.cmaf_read_trun.specs.declared.rows.Run.{Run}
 use Rattle.cmaf_read_moof.specs.Headers.{tfdtOk}
-use Rattle.cmaf_read_moof.specs.Defaults.{tfhdOk, Narrow}
+use Rattle.cmaf_read_moof.specs.Defaults.{tfhdOk}
 use Rattle.cmaf_read_trun.specs.Rows.{trunOk, runOf}
 use Rattle.cmaf_read_senc.specs.Entries.{sencOk, subsamples}
 use Rattle.cmaf_read_set.specs.Set as G
@@ -23,10 +21,6 @@ module _ (t : Track) (c : List ℕ) (f : Inner) where
 
   abbrev pub FewSubsamples : Type 0
   FewSubsamples = subsamples t c (f .senc) ≤ subsamplesMost
-
-  -- what was read of a chunk: the defaults, the run, and whether all samples have one size
-  abbrev pub AsRead : Defaults → Run → Bool → Type 0
-  AsRead d r equal = (d ≡ G.defaults t c f) × (r ≡ G.run t c f) × (equal ≡ G.equal t c f) × Narrow d
 
 -- the boxes of a `moof` lie in the chunk and are right, and the samples keep their maxima
 pub record Gatherable (t : Track) (c : List ℕ) (f : Inner) : Type 0 where

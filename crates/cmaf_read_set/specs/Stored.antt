@@ -1,16 +1,49 @@
--- What the code does with the entries of a `senc`: the words x with what they say stored at its place, one entry after another.
+-- What the code does: the words x with what it has read stored at its place, one field after another, and of a `senc` one entry after another.
 -- ==== What only mirrors the code
 use Prim.Native.Nat.{ℕ, zero, suc, _+_, _*_, _/_}
-use mathlib.Core.Bool.{cond}
+use mathlib.Core.Bool.{Bool, cond, not}
 use mathlib.Core.List.{List, [], _∷_}
 use lib.Dec.{eqb}
 use lib.ListN.{set}
 use lib.Seq.{sets}
 use Rattle.field_table.specs.declared.lines.Line.{Line}
+use Rattle.field_table.specs.Lines.{sizesAt, descriptionAt, durationsAt, durationAt, offsetsAt, sizeAt, flagsAt, defaultFlagsAt}
 use Rattle.field_table.specs.Lines.{ivsAt, subsamplesAt, clearAt, protectedAt, lines, lineFor}
+use Rattle.media.specs.Flags.{fiveOf}
+use Rattle.track.specs.declared.Track.{Track}
+use Rattle.field_rules.specs.Fields.{wordsOf}
+use Rattle.cmaf_read_moof.specs.declared.defaults.Defaults.{Defaults}
+use Rattle.cmaf_read_trun.specs.declared.rows.Run.{Run}
+use Rattle.cmaf_read_trun.specs.Rows.{durations, offsets, sampleFlags}
+use Rattle.cmaf_read_samples.specs.declared.cells.Way.the-variants.{Plain, Raised, Five}
+use Rattle.cmaf_read_samples.specs.Held.{heldIf}
+use Rattle.cmaf_read_samples.specs.Ways.{columnWords}
+use Rattle.cmaf_read_samples.specs.Sizes.{sizesHeld, sizeHeld}
 use Rattle.cmaf_read_senc.specs.declared.entries.Entries.{Entries}
 use Rattle.cmaf_read_senc.specs.Entries.{pairsAt, lengthAt}
 use Rattle.cmaf_read_set.specs.Entries.{ivWords, clearBytes, protectedBytes}
+
+-- ---- the fields by what was read: d the defaults of the `tfhd`, r the rows of the `trun`, `equal` whether all samples have one size
+
+module _ (t : Track) (c : List ℕ) (d : Defaults) (r : Run) (equal : Bool) where
+  -- ids 1 to 4
+  unfoldable pub storedLow : List ℕ → List ℕ
+  storedLow x =
+      let sizes = sets x sizesAt (wordsOf (sizesHeld c r (d .size) equal)) in
+      let description = sets sizes descriptionAt (wordsOf (heldIf (not (eqb (d .description) (t .description))) (d .description ∷ []))) in
+      let each = sets description durationsAt (columnWords Plain c r durations) in
+      sets each durationAt (wordsOf (heldIf (not (eqb (d .duration) (t .duration))) (d .duration ∷ [])))
+
+  -- ids 5 to 8
+  unfoldable pub storedHigh : List ℕ → List ℕ
+  storedHigh x =
+      let each = sets x offsetsAt (columnWords Raised c r offsets) in
+      let size = sets each sizeAt (wordsOf (sizeHeld c r (d .size) (t .size) equal)) in
+      let flags = sets size flagsAt (columnWords Five c r sampleFlags) in
+      let five = fiveOf (d .flags) in
+      sets flags defaultFlagsAt (wordsOf (heldIf (not (eqb five (t .flags))) (five ∷ [])))
+
+-- ---- the entries of a `senc`
 
 -- the fields that a `senc` has
 abbrev pub protectionLines : List Line

@@ -1,5 +1,5 @@
 // What the entries of a `senc` say: IVs, and subsamples, though there be none.
-// Letters: `t` the track, `c` a chunk's bytes, `f` the boxes inside the `moof`, `x` the words of the new set.
+// Letters: `t` the track, `c` a chunk's bytes, `e` the entries of the `senc`, `f` the boxes inside the `moof`, `x` the words of the new set.
 ghost use mathlib.Core.Path.{_≡_};
 ghost use mathlib.Core.Bool.{true};
 ghost use Prim.Native.Nat.{_+_, _*_, _/_, _≤_, _<_};
@@ -7,7 +7,7 @@ ghost use lib.ListN.{length};
 ghost use lib.Seq.{sets};
 ghost use Rattle.constants.specs.Maxima.{samplesMost, subsamplesMost};
 ghost use Rattle.cmaf_read_shape.specs.Parts.{Inside};
-ghost use Rattle.cmaf_read_senc.specs.Entries.{pairsAt, lengthAt, sencOk};
+ghost use Rattle.cmaf_read_senc.specs.Entries.{pairsAt, lengthAt, sencOk, FewPairs};
 ghost use Rattle.field_table.specs.Lines.{ivsAt, setLen};
 ghost use Rattle.field_rules.specs.Words.{storeAll};
 ghost use Rattle.cmaf_read_set.specs.Entries.{ivWords};
@@ -77,9 +77,8 @@ fn put_entry(c: &[u8], e: Entries, at: usize, k: usize, x: &mut [u64], i: usize,
 }
 
 // All entries; j is the number of the next subsample.
-fn put_entries(t: Track, c: &[u8], f: Inner, e: Entries, x: &mut [u64])
-    requires { ⌜ Inside (now c) (f .senc) × (sencOk t (now c) (f .senc) ≡ true) × (0 < f .senc .len) ⌝ }
-    requires { ⌜ (e ≡ G.entries t (now c) f) × (e .count ≤ samplesMost) × (e .iv ≤ 16) × FewSubsamples t (now c) f ⌝ }
+fn put_entries(c: &[u8], e: Entries, x: &mut [u64])
+    requires { ⌜ (e .count ≤ samplesMost) × (e .iv ≤ 16) × FewPairs (now c) e (e .count) subsamplesMost ⌝ }
     requires { ⌜ length (now x) ≡ setLen ⌝ }
     ensures { λ u. ⌜ now (x .exit) ≡ storedEntries (now (c .entry)) e (e .count) (e .at) 0 0 (now (x .entry)) ⌝ }
 {
@@ -109,5 +108,5 @@ pub fn put_protection(t: Track, c: &[u8], f: Inner, x: &mut [u64])
     }
     let e = entries::entries_of(t, c, senc);
     put_marks(e, &mut *x);
-    put_entries(t, c, f, e, &mut *x);
+    put_entries(c, e, &mut *x);
 }

@@ -13,8 +13,8 @@ use Rattle.laws.proofs.PartLaws.{joined}
 use Rattle.boxes.specs.Box.{words}
 use Rattle.boxes.proofs.BoxLaws.{length-fullBox, fullBox-head}
 use Rattle.boxes.specs.Box as B
-use Rattle.cmaf_write_emsg.specs.Emsg.{emsgBox, emsgBoxes, emsgMost}
-use Rattle.event_value.specs.Events.{Event, eventAt, eventsFrom, EventFits, eventWords, eventSchemeLen, eventValueLen, eventMessageLen}
+use Rattle.cmaf_write_emsg.specs.Emsg.{emsgBox, emsgBoxes, emsgMost, EventShort, EventsShort}
+use Rattle.event_value.specs.Events.{Event, eventAt, eventsFrom, EventFits, EventsFit, eventWords, eventSchemeLen, eventValueLen, eventMessageLen}
 use Rattle.event_value.proofs.PartLaws.{part-length}
 use Rattle.constants.specs.Maxima.{eventsMost}
 
@@ -34,6 +34,13 @@ unfolding eventAt
 event-length o ws i h =
     emsg-length (eventAt o ws i)
     ∙ omega (arith, part-length o _ _ (h .scheme .within), part-length o _ _ (h .value .within), part-length o _ _ (h .message .within))
+
+-- parts that lie in an object are short
+pub fits-short : {o ws : List ℕ} {i : ℕ} → EventFits o ws i → EventShort ws i
+fits-short h = record { there = h .there; scheme = h .scheme .short; value = h .value .short; message = h .message .short }
+
+pub events-short : {o ws : List ℕ} {k : ℕ} → EventsFit o ws k → EventsShort ws k
+events-short h = record { few = h .few; each = λ i lt. fits-short (h .each i lt) }
 
 abbrev pub emsgParts : Event → ℕ → List (List ℕ)
 emsgParts e size =
@@ -71,25 +78,27 @@ module _ (o ws : List ℕ) (k i : ℕ) where
   unfolding emsgBoxes eventsFrom
   events-next h = let e : k - i ≡ suc (k - (i + 1)) = omega arith in rw (e, add-one)
 
--- what is left of a sum of lengths
-pub record Adding (o ws : List ℕ) (k sum i : ℕ) : Type 0 where
-  pub all : sum + length (emsgBoxes (eventsFrom o ws (k - i) i)) ≡ length (emsgBoxes (eventsFrom o ws k 0))
+-- what is left of a sum of lengths, whatever the bytes are that the words point into
+pub record Adding (ws : List ℕ) (k sum i : ℕ) : Type 0 where
+  pub all : (o : List ℕ) → EventsFit o ws k → sum + length (emsgBoxes (eventsFrom o ws (k - i) i)) ≡ length (emsgBoxes (eventsFrom o ws k 0))
   pub small : sum ≤ emsgMost * i
   pub within : i ≤ k
 
-pub adding-none : (o ws : List ℕ) (k : ℕ) → Adding o ws k 0 0
-adding-none o ws k = record { all = rw (sub-zero, zero-add); small = omega arith; within = omega arith }
+pub adding-none : (ws : List ℕ) (k : ℕ) → Adding ws k 0 0
+adding-none ws k = record { all = λ o f. rw (sub-zero, zero-add); small = omega arith; within = omega arith }
 
-module _ (o ws : List ℕ) (k sum i : ℕ) (h : Adding o ws k sum i) where
-  pub adding-next : (r : ℕ) → i < k → r ≡ length (emsgBox (eventAt o ws i)) → r ≤ emsgMost → Adding o ws k (sum + r) (i + 1)
+module _ (ws : List ℕ) (k sum i : ℕ) (h : Adding ws k sum i) where
+  pub adding-next : (r : ℕ) → i < k → ((o : List ℕ) → EventFits o ws i → r ≡ length (emsgBox (eventAt o ws i))) → r ≤ emsgMost → Adding ws k (sum + r) (i + 1)
   adding-next r lt e le =
       record {
         all =
+            λ o f.
             let p = ap length (events-next o ws k i lt) ∙ length-append (emsgBox (eventAt o ws i)) (emsgBoxes (eventsFrom o ws (k - (i + 1)) (i + 1))) in
-            omega (arith, h .all);
+            omega (arith, h .all o f, e o (f .each i lt));
         small = omega (arith, h .small);
         within = omega arith;
       }
 
-  pub adding-end : k ≤ eventsMost → k ≤ i → (sum ≡ length (emsgBoxes (eventsFrom o ws k 0))) × (sum ≤ emsgMost * eventsMost)
-  adding-end few le = (omega (arith, h .all, ap length (events-end o ws k i le)), omega (arith, h .small, h .within))
+  pub adding-end : k ≤ eventsMost → k ≤ i
+      → ((o : List ℕ) → EventsFit o ws k → sum ≡ length (emsgBoxes (eventsFrom o ws k 0))) × (sum ≤ emsgMost * eventsMost)
+  adding-end few le = ((λ o f. omega (arith, h .all o f, ap length (events-end o ws k i le))), omega (arith, h .small, h .within))

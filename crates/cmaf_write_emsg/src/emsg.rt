@@ -1,13 +1,13 @@
 // The `emsg` of each event, from its words and the bytes that they point into.
 // Letters: `o` an object's bytes, `k` how many.
 ghost use mathlib.Core.Path.{_≡_};
-ghost use mathlib.Core.List.{[], _∷_, _++_};
-ghost use Prim.Native.Nat.{_+_, _*_, _≤_, _<_};
+ghost use mathlib.Core.List.{List, [], _∷_, _++_};
+ghost use Prim.Native.Nat.{ℕ, _+_, _*_, _≤_};
 ghost use lib.ListN.{length};
 ghost use Rattle.laws.specs.Writes.{Wrote};
 ghost use Rattle.constants.specs.Maxima.{eventsMost};
 ghost use Rattle.event_value.specs.Events.{part, eventAt, eventsOf, Inside, EventFits, EventsFit};
-ghost use Rattle.cmaf_write_emsg.specs.Emsg.{emsgBox, emsgBoxes, emsgMost};
+ghost use Rattle.cmaf_write_emsg.specs.Emsg.{emsgBox, emsgBoxes, emsgMost, EventShort, EventsShort};
 use boxes::kinds;
 use boxes::put;
 
@@ -30,72 +30,71 @@ fn put_string(o: &[u8], place: usize, size: usize, out: &mut [u8], at: usize) ->
     put::put_u8(out, a, 0)
 }
 
-// The length of the `emsg` of the event with the number i.
-fn emsg_length(o: &[u8], events: &[u64], i: usize) -> usize
-    requires { ⌜ i < eventsMost ⌝ }
-    requires { ⌜ EventFits (now o) (now events) i ⌝ }
-    ensures { λ r. ⌜ (r ≡ length (emsgBox (eventAt (now (o .entry)) (now (events .entry)) i))) × (r ≤ emsgMost) ⌝ }
+// The length of the event's `emsg`, whatever the bytes are that its words point into. Here and below the words are those of one event, so that
+// they are read at constant places.
+fn emsg_length(event: &[u64]) -> usize
+    requires { ⌜ EventShort (now event) 0 ⌝ }
+    ensures { λ r. ⌜ ((o : List ℕ) → EventFits o (now (event .entry)) 0
+        → r ≡ length (emsgBox (eventAt o (now (event .entry)) 0))) × (r ≤ emsgMost) ⌝ }
 {
-    let p = event_value::WORDS * i;
-    let scheme = events[p + event_value::SCHEME_LENGTH] as usize;
-    let value = events[p + event_value::VALUE_LENGTH] as usize;
-    let message = events[p + event_value::MESSAGE_LENGTH] as usize;
+    let scheme = event[event_value::SCHEME_LENGTH] as usize;
+    let value = event[event_value::VALUE_LENGTH] as usize;
+    let message = event[event_value::MESSAGE_LENGTH] as usize;
     34 + scheme + value + message
 }
 
-fn put_emsg(o: &[u8], events: &[u64], i: usize, out: &mut [u8], at: usize) -> usize
-    requires { ⌜ i < eventsMost ⌝ }
-    requires { ⌜ EventFits (now o) (now events) i ⌝ }
-    requires { ⌜ at + length (emsgBox (eventAt (now o) (now events) i)) ≤ length (now out) ⌝ }
-    ensures { λ r. ⌜ Wrote (now (out .entry)) at (emsgBox (eventAt (now (o .entry)) (now (events .entry)) i))
+fn put_emsg(o: &[u8], event: &[u64], out: &mut [u8], at: usize) -> usize
+    requires { ⌜ EventFits (now o) (now event) 0 ⌝ }
+    requires { ⌜ at + length (emsgBox (eventAt (now o) (now event) 0)) ≤ length (now out) ⌝ }
+    ensures { λ r. ⌜ Wrote (now (out .entry)) at (emsgBox (eventAt (now (o .entry)) (now (event .entry)) 0))
         (now (out .exit)) r ⌝ }
 {
-    let p = event_value::WORDS * i;
-    let time = events[p + event_value::TIME];
+    let time = event[event_value::TIME];
     let head: [u64; 8] = [
-        emsg_length(o, events, i) as u64,
+        emsg_length(event) as u64,
         kinds::EMSG,
         0x100_0000,
-        events[p + event_value::TIMESCALE],
+        event[event_value::TIMESCALE],
         time / 0x1_0000_0000,
         time,
-        events[p + event_value::DURATION],
-        events[p + event_value::ID],
+        event[event_value::DURATION],
+        event[event_value::ID],
     ];
     let a = put::put_words(out, at, &head);
     let b = put_string(
         o,
-        events[p] as usize,
-        events[p + event_value::SCHEME_LENGTH] as usize,
+        event[event_value::SCHEME] as usize,
+        event[event_value::SCHEME_LENGTH] as usize,
         out,
         a,
     );
     let c = put_string(
         o,
-        events[p + event_value::VALUE] as usize,
-        events[p + event_value::VALUE_LENGTH] as usize,
+        event[event_value::VALUE] as usize,
+        event[event_value::VALUE_LENGTH] as usize,
         out,
         b,
     );
     put_part(
         o,
-        events[p + event_value::MESSAGE] as usize,
-        events[p + event_value::MESSAGE_LENGTH] as usize,
+        event[event_value::MESSAGE] as usize,
+        event[event_value::MESSAGE_LENGTH] as usize,
         out,
         c,
     )
 }
 
 // The length of the boxes of k events.
-pub fn emsgs_length(o: &[u8], events: &[u64], k: usize) -> usize
-    requires { ⌜ EventsFit (now o) (now events) k ⌝ }
-    ensures { λ r. ⌜ (r ≡ length (emsgBoxes (eventsOf (now (o .entry)) (now (events .entry)) k)))
-        × (r ≤ emsgMost * eventsMost) ⌝ }
+pub fn emsgs_length(events: &[u64], k: usize) -> usize
+    requires { ⌜ EventsShort (now events) k ⌝ }
+    ensures { λ r. ⌜ ((o : List ℕ) → EventsFit o (now (events .entry)) k
+        → r ≡ length (emsgBoxes (eventsOf o (now (events .entry)) k))) × (r ≤ emsgMost * eventsMost) ⌝ }
 {
     let mut sum = 0;
     let mut i = 0;
     while i < k {
-        sum += emsg_length(o, events, i);
+        let from = event_value::WORDS * i;
+        sum += emsg_length(&events[from..from + event_value::WORDS]);
         i += 1;
     }
     sum
@@ -110,7 +109,8 @@ pub fn put_emsgs(o: &[u8], events: &[u64], k: usize, out: &mut [u8], at: usize) 
     let mut p = at;
     let mut i = 0;
     while i < k {
-        p = put_emsg(o, events, i, out, p);
+        let from = event_value::WORDS * i;
+        p = put_emsg(o, &events[from..from + event_value::WORDS], out, p);
         i += 1;
     }
     p

@@ -15,7 +15,13 @@ use Rattle.event_value.specs.Events.{Event}
 use Rattle.cmaf_write_prelude.specs.Prelude.{stypBox, prftBox}
 use Rattle.cmaf_write_emsg.specs.Emsg.{emsgBoxes}
 use Rattle.cmaf_write_moof.specs.Moof.{moofBox, moofWhole}
+use Rattle.cmaf_write_emsg.proofs.EmsgLaws.{events-short}
 use Rattle.cmaf_write_front.specs.Front.{front}
+use Rattle.cmaf_write_front.specs.Writable.{Writable, Weighable}
+
+-- what can be written can be weighed
+pub weighable : {t : Track} {w : List ℕ} {payload : ℕ} {p : Prft} {o ws : List ℕ} {k : ℕ} {b : List ℕ} → Writable t w payload p o ws k b → Weighable t w ws k b
+weighable h = record { set = h .set; events = events-short (h .events); brands = h .brands }
 
 abbrev pub frontParts : Track → ℕ → List ℕ → ℕ → Prft → List Event → List ℕ → List (List ℕ)
 frontParts t sequence w payload p events brands =

@@ -1,11 +1,12 @@
 // The front of a chunk: all boxes before the payload, from the first byte of the output on.
 // Letters: `t` the track, `w` the words of a set, `o` an object's bytes, `k` how many.
 ghost use mathlib.Core.Path.{_≡_};
-ghost use mathlib.Core.List.{_++_};
+ghost use mathlib.Core.List.{List, _++_};
 ghost use Prim.Native.Nat.{ℕ, _≤_};
 ghost use lib.ListN.{length, drop};
+ghost use Rattle.event_value.specs.Events.{EventsFit};
 ghost use Rattle.cmaf_write_front.specs.Front.{frontOf};
-ghost use Rattle.cmaf_write_front.specs.Writable.{Writable};
+ghost use Rattle.cmaf_write_front.specs.Writable.{Writable, Weighable};
 use boxes::kinds;
 use boxes::put;
 use cmaf_write_emsg::emsg;
@@ -14,24 +15,23 @@ use cmaf_write_prelude::outer;
 use prft_value::Prft;
 use track::Track;
 
-// The length of the front, whatever the sequence number is.
+// The length of the front, whatever the sequence number, the payload and the bytes are that the events' words point into.
 pub fn front_length(
     t: Track,
     w: &[u64],
-    payload: u64,
     prft: Prft,
-    o: &[u8],
     events: &[u64],
     k: usize,
     brands: &[u8],
 ) -> usize
-    requires { ⌜ Writable t (now w) payload prft (now o) (now events) k (now brands) ⌝ }
-    ensures { λ r. ⌜ ((sequence : ℕ) → r ≡ length (frontOf t sequence (now (w .entry)) payload prft
-        (now (o .entry)) (now (events .entry)) k (now (brands .entry)))) ⌝ }
+    requires { ⌜ Weighable t (now w) (now events) k (now brands) ⌝ }
+    ensures { λ r. ⌜ ((sequence payload : ℕ) (o : List ℕ) → EventsFit o (now (events .entry)) k
+        → r ≡ length (frontOf t sequence (now (w .entry)) payload prft o (now (events .entry)) k
+        (now (brands .entry)))) ⌝ }
 {
     outer::styp_length(brands)
-        + (outer::prft_length(t, prft)
-            + (emsg::emsgs_length(o, events, k) + (moof::moof_length(t, w) + 8)))
+        + (outer::prft_length(prft)
+            + (emsg::emsgs_length(events, k) + (moof::moof_length(t, w) + 8)))
 }
 
 pub fn put_front(

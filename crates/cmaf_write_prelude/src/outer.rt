@@ -4,6 +4,7 @@ ghost use mathlib.Core.Path.{_≡_};
 ghost use Prim.Native.Nat.{_+_, _≤_};
 ghost use lib.ListN.{length};
 ghost use Rattle.laws.specs.Writes.{Wrote};
+ghost use Rattle.track.specs.declared.Track.{Track};
 ghost use Rattle.cmaf_write_prelude.specs.Prelude.{stypBox, mediaBytes, prftBox};
 ghost use Rattle.constants.specs.Maxima.{brandBytesMost};
 ghost use Rattle.prft_value.specs.Prft.{Headed};
@@ -44,8 +45,9 @@ pub fn put_styp(brands: &[u8], out: &mut [u8], at: usize) -> usize
 
 // ---- prft
 
-pub fn prft_length(t: Track, p: Prft) -> usize
-    ensures { λ r. ⌜ (r ≡ length (prftBox t p)) × (r ≤ 32) ⌝ }
+// The length of the `prft`, whatever the track is.
+pub fn prft_length(p: Prft) -> usize
+    ensures { λ r. ⌜ ((t : Track) → r ≡ length (prftBox t p)) × (r ≤ 32) ⌝ }
 {
     if !p.stands {
         return 0;
@@ -73,7 +75,7 @@ pub fn put_prft(t: Track, p: Prft, out: &mut [u8], at: usize) -> usize
         return at;
     }
     let head: [u64; 6] = [
-        prft_length(t, p) as u64,
+        prft_length(p) as u64,
         kinds::PRFT,
         p.version * 0x100_0000 + p.flags,
         t.id as u64,

@@ -24,7 +24,7 @@ fn info_size(t: Track, w: &[u64], i: usize) -> u64
     requires { ⌜ i < countIn (now w) ⌝ }
     ensures { λ r. ⌜ (r ≡ infoSize t (now (w .entry)) i) × (r < 256) ⌝ }
 {
-    let k = pairs_of(t, w, i) as u64;
+    let k = pairs_of(w, i) as u64;
     t.iv_size as u64 + with_pairs(w, 2 + 6 * k)
 }
 

@@ -7,8 +7,8 @@ use mathlib.Core.List.{List}
 use lib.ListN.{length}
 use Rattle.laws.proofs.TestLaws.{left}
 use Rattle.track.specs.declared.Track.{Track}
-use Rattle.field_table.specs.Lines.{lines, lineFor, lineNumber, setLen}
-use Rattle.field_set.specs.Lawful.{has, marksOf, lawful, setRules, countIn}
+use Rattle.field_table.specs.Lines.{lines, lineFor, lineNumber, marksOf, setLen}
+use Rattle.field_set.specs.Lawful.{has, lawful, setRules, countIn}
 use Rattle.field_set.proofs.LawfulLaws.{lawful-facts}
 use Rattle.cmaf_write_senc.specs.Protection.{Protectable}
 

@@ -41,24 +41,24 @@ pub fn with_pairs(w: &[u64], v: u64) -> u64
 }
 
 // The subsamples of the sample with the number i.
-pub fn pairs_of(t: Track, w: &[u64], i: usize) -> usize
-    requires { ⌜ Protectable t (now w) ⌝ }
-    requires { ⌜ i < countIn (now w) ⌝ }
-    ensures { λ r. ⌜ (r ≡ flagWhen (has 11 (now (w .entry))) (valueAt 11 i (now (w .entry)))) × (r ≤ 42) ⌝ }
+pub fn pairs_of(w: &[u64], i: usize) -> usize
+    requires { ⌜ (length (now w) ≡ setLen) × (i < samplesMost) ⌝ }
+    ensures { λ r. ⌜ r ≡ flagWhen (has 11 (now (w .entry))) (valueAt 11 i (now (w .entry))) ⌝ }
 {
     with_pairs(w, w[lines::SUBSAMPLES + 1 + i]) as usize
 }
 
 // The subsamples of all samples.
-fn pairs(t: Track, w: &[u64]) -> usize
-    requires { ⌜ Protectable t (now w) ⌝ }
+fn pairs(w: &[u64]) -> usize
+    requires { ⌜ (length (now w) ≡ setLen) × (countIn (now w) ≤ samplesMost) ⌝ }
+    requires { ⌜ sum (valuesOf 11 (countIn (now w)) (now w)) ≤ subsamplesMost ⌝ }
     ensures { λ r. ⌜ r ≡ sum (valuesOf 11 (countIn (now (w .entry))) (now (w .entry))) ⌝ }
 {
     let n = w[lines::COUNT] as usize;
     let mut sum = 0;
     let mut i = 0;
     while i < n {
-        sum += pairs_of(t, w, i);
+        sum += pairs_of(w, i);
         i += 1;
     }
     sum
@@ -126,7 +126,7 @@ fn put_entries(t: Track, w: &[u64], out: &mut [u8], at: usize) -> usize
     let mut j = 0;
     let mut i = 0;
     while i < n {
-        let k = pairs_of(t, w, i);
+        let k = pairs_of(w, i);
         let a = put_iv(w, ivs, i * ivs, out, p);
         p = put_map(w, k, j, out, a);
         j += k;
@@ -142,7 +142,7 @@ pub fn senc_length(t: Track, w: &[u64]) -> usize
 {
     let n = w[lines::COUNT] as usize;
     let head = 8 * iv_words(t, w) + with_pairs(w, 2) as usize;
-    16 + (n * head + 6 * pairs(t, w))
+    16 + (n * head + 6 * pairs(w))
 }
 
 pub fn put_senc(t: Track, w: &[u64], out: &mut [u8], at: usize) -> usize

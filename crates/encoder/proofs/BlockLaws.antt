@@ -1,10 +1,11 @@
 -- The property block of a chunk from its parts: weighed, and written one after another. Assumes nothing.
 use Prim.Native.Nat.{ℕ, _+_, _≤_}
 use native.Mathlib.Omega.{arith}
-use mathlib.Core.Path.{_≡_, ap}
+use mathlib.Core.Path.{_≡_, _∙_, ap}
 use mathlib.Core.Bool.{Bool, true}
 use mathlib.Core.List.{List}
-use lib.ListN.{length, drop}
+use lib.ListN.{length, getD, drop}
+use Rattle.field_table.specs.Lines.{bmdtAt}
 use Rattle.laws.specs.Writes.{Wrote}
 use Rattle.laws.proofs.WriteLaws.{wrote-as}
 use Rattle.wire.specs.declared.form.Row.{Row}
@@ -25,10 +26,11 @@ use Rattle.locmaf_write_block.specs.Fields.{fieldItems, deletionItems, setMost,
 use Rattle.locmaf_write_prft.specs.Prft.{timesItems, versionItems, flagsItems}
 use Rattle.locmaf_write_tuples.proofs.ItemLaws.{weighed-both, weighed-within}
 use Rattle.locmaf_write_tuples.proofs.PutLaws.{Left, left-start, left-first, left-next, put-needs}
+use Rattle.locmaf_write_events.specs.Records.{sentOf}
 use Rattle.locmaf_write_block.proofs.SetLaws.{Sum}
 use Rattle.encoder.specs.Object.{brandItems, eventItems, blockItems}
-use Rattle.encoder.specs.Planned.{Encodable}
-use Rattle.encoder.proofs.GivenLaws.{prft-is, same-sets}
+use Rattle.encoder.specs.Planned.{brandsAt, Encodable}
+use Rattle.encoder.proofs.GivenLaws.{prft-is, brands-are, events-are, same-sets}
 
 -- the parts of the block, and what follows each of them
 module _ (F : List Row) (s c : List ℕ) (delta : Bool) where
@@ -65,14 +67,24 @@ module _ {F : List Row} {t : Track} {s c : List ℕ} {k : Chunk} {ws x : List �
   for-prft : (f : Prft → Items) → f (k .prft) ≡ f (prft c)
   for-prft f = ap f (prft-is h)
 
-  events-is : eventItems F (events t c) ≡ eventItems F (events (trackOf s) c)
-  events-is = ap (λ (u : Track). eventItems F (events u c)) (h .on-share .track-is)
+  -- the items of the brands and of the events, by what was read
+  abbrev brandsRead : Items
+  brandsRead = brandItems delta (brandsAt c (k .brands))
+
+  abbrev eventsRead : Items
+  eventsRead = eventItems F (sentOf t (getD x bmdtAt 0) c ws (k .events))
+
+  brands-is : brandsRead ≡ brandItems delta (brands c)
+  brands-is = ap (brandItems delta) (brands-are h)
+
+  events-is : eventsRead ≡ eventItems F (events (trackOf s) c)
+  events-is = ap (eventItems F) (events-are h) ∙ ap (λ (u : Track). eventItems F (events u c)) (h .on-share .track-is)
 
   -- all were weighed
   pub block-weighed : {p q r n f a g : Weight} → WeighedAs F (fieldItems F t (b .delta) (lent s) x) setMost p
       → WeighedAs F (timesItems F delta s (k .prft)) (pairMost + pairMost) q → WeighedAs F (versionItems F delta s (k .prft)) pairMost r
-      → WeighedAs F (brandItems delta (brands c)) (pairMost + brandBytesMost) n → WeighedAs F (flagsItems F delta s (k .prft)) pairMost f
-      → WeighedAs F (eventItems F (events t c)) (pairMost + eventBytesMost) a → WeighedAs F (deletionItems F t (b .delta) (lent s) x) goneMost g
+      → WeighedAs F brandsRead (pairMost + brandBytesMost) n → WeighedAs F (flagsItems F delta s (k .prft)) pairMost f
+      → WeighedAs F eventsRead (pairMost + eventBytesMost) a → WeighedAs F (deletionItems F t (b .delta) (lent s) x) goneMost g
       → (u v w y z o : Weight) → Sum a g u → Sum f u v → Sum n v w → Sum r w y → Sum q y z → Sum p z o
       → WeighedAs F (blockItems F s c delta) weightMost o
   unfolding blockItems
@@ -80,10 +92,11 @@ module _ {F : List Row} {t : Track} {s c : List ℕ} {k : Chunk} {ws x : List �
       let p : WeighedAs F (setPart F s c delta) setMost _ = rw set-is at wp in
       let q : WeighedAs F (timesItems F delta s (prft c)) (pairMost + pairMost) _ = rw (prft-is h) at wq in
       let r : WeighedAs F (versionItems F delta s (prft c)) pairMost _ = rw (prft-is h) at wr in
+      let n : WeighedAs F (brandItems delta (brands c)) (pairMost + brandBytesMost) _ = rw brands-is at wn in
       let f : WeighedAs F (flagsItems F delta s (prft c)) pairMost _ = rw (prft-is h) at wf in
       let a : WeighedAs F (eventItems F (events (trackOf s) c)) (pairMost + eventBytesMost) _ = rw events-is at wa in
       let g : WeighedAs F (gonePart F s c delta) goneMost _ = rw gone-is at wg in
-      let late = weighed-both r (weighed-both wn (weighed-both f (weighed-both a g i₁) i₂) i₃) i₄ in
+      let late = weighed-both r (weighed-both n (weighed-both f (weighed-both a g i₁) i₂) i₃) i₄ in
       weighed-within (omega arith) (weighed-both p (weighed-both q late i₅) i₆)
 
   -- all are left to be written; then all but the set, and so on: what each part needs, where those before it are written
@@ -123,12 +136,12 @@ module _ {F : List Row} {t : Track} {s c : List ℕ} {k : Chunk} {ws x : List �
           left-brands : BlockLeft (afterVersion F s c delta) m₃ p₃
           left-brands = left-next _ _ _ _ _ _ _ _ left-version _ _ (wrote-as (ap (bytesOf F) (for-prft (versionItems F delta s))) w₃)
 
-          pub brands-room : p₃ + length (bytesOf F (brandItems delta (brands c))) ≤ length m₃
-          brands-room = left-first _ _ _ _ _ _ _ _ left-brands .1
+          pub brands-room : p₃ + length (bytesOf F brandsRead) ≤ length m₃
+          brands-room = let n = left-first _ _ _ _ _ _ _ _ left-brands in put-needs F brands-is p₃ (length m₃) (n .0) (n .1) .1
 
-          module _ {m₄ : List ℕ} {p₄ : ℕ} (w₄ : Wrote m₃ p₃ (bytesOf F (brandItems delta (brands c))) m₄ p₄) where
+          module _ {m₄ : List ℕ} {p₄ : ℕ} (w₄ : Wrote m₃ p₃ (bytesOf F brandsRead) m₄ p₄) where
             left-flags : BlockLeft (afterBrands F s c delta) m₄ p₄
-            left-flags = left-next _ _ _ _ _ _ _ _ left-brands _ _ w₄
+            left-flags = left-next _ _ _ _ _ _ _ _ left-brands _ _ (wrote-as (ap (bytesOf F) brands-is) w₄)
 
             pub flags-needs : (isSome (flagsItems F delta s (k .prft)) ≡ true)
                 × (p₄ + length (bytesOf F (flagsItems F delta s (k .prft))) ≤ length m₄)
@@ -140,10 +153,10 @@ module _ {F : List Row} {t : Track} {s c : List ℕ} {k : Chunk} {ws x : List �
               left-events : BlockLeft (afterFlags F s c delta) m₅ p₅
               left-events = left-next _ _ _ _ _ _ _ _ left-flags _ _ (wrote-as (ap (bytesOf F) (for-prft (flagsItems F delta s))) w₅)
 
-              pub events-needs : (isSome (eventItems F (events t c)) ≡ true) × (p₅ + length (bytesOf F (eventItems F (events t c))) ≤ length m₅)
+              pub events-needs : (isSome eventsRead ≡ true) × (p₅ + length (bytesOf F eventsRead) ≤ length m₅)
               events-needs = let n = left-first _ _ _ _ _ _ _ _ left-events in put-needs F events-is p₅ (length m₅) (n .0) (n .1)
 
-              module _ {m₆ : List ℕ} {p₆ : ℕ} (w₆ : Wrote m₅ p₅ (bytesOf F (eventItems F (events t c))) m₆ p₆) where
+              module _ {m₆ : List ℕ} {p₆ : ℕ} (w₆ : Wrote m₅ p₅ (bytesOf F eventsRead) m₆ p₆) where
                 left-gone : BlockLeft (gonePart F s c delta) m₆ p₆
                 left-gone = left-next _ _ _ _ _ _ _ _ left-events _ _ (wrote-as (ap (bytesOf F) events-is) w₆)
 

@@ -50,6 +50,22 @@ use Rattle.encoder.specs.Object.{brandItems, eventItems}
 abbrev pub Most : List Row → ℕ → Items → Type 0
 Most F n is = length (bytesOf F is) ≤ n
 
+-- the most bytes of the lines below BMDT's id and below the count's, by their rooms; and of the fields, with all that follows each part
+abbrev lowMost : ℕ
+lowMost = 3240
+
+abbrev middleMost : ℕ
+middleMost = 2616
+
+abbrev afterMiddle : ℕ
+afterMiddle = pairMost + lineMost
+
+abbrev afterLow : ℕ
+afterLow = pairMost + (middleMost + afterMiddle)
+
+abbrev pub fieldsMost : ℕ
+fieldsMost = lowMost + afterLow
+
 module _ (F : List Row) (eight : longest F ≤ 8) where
   varint-most : (v : ℕ) → length (encode F v) ≤ 8
   varint-most v = omega (arith, encode-size F v, size-longest F v)
@@ -196,12 +212,12 @@ module _ (F : List Row) (eight : longest F ≤ 8) where
       unfolding lines wanted
       high = let k = sums in (omega (arith, k), tt)
 
-      pub fields-most : Most F 7952 (fieldItems F t delta r x)
+      pub fields-most : Most F fieldsMost (fieldItems F t delta r x)
       unfolding fieldItems bmdtItems countItems lines
       fields-most =
-          before-most 3240 4712 _ _ (lines-most (slice 0 beforeBmdt lines) low)
-          (before-most pairMost 4696 _ _ (if-most pairMost _ _ (number-most 10 _))
-          (before-most 2616 2080 _ _ (lines-most (slice beforeBmdt beforeCount lines) middle)
+          before-most lowMost afterLow _ _ (lines-most (slice 0 beforeBmdt lines) low)
+          (before-most pairMost (middleMost + afterMiddle) _ _ (if-most pairMost _ _ (number-most 10 _))
+          (before-most middleMost afterMiddle _ _ (lines-most (slice beforeBmdt beforeCount lines) middle)
           (before-most pairMost lineMost _ _ (if-most pairMost _ _ (number-most 14 _)) (lines-most (slice beforeCount chunkLines lines) high))))
 
     pub deletions-most : Most F goneMost (deletionItems F t delta r x)

@@ -1,4 +1,4 @@
--- Id 23: the brands of a chunk's `styp`, weighed and written from their part of the chunk. Assumes nothing.
+-- Id 23: brands, weighed by their length and written from their part of a chunk. Assumes nothing.
 use Prim.Native.Nat.{ℕ, _+_, _-_, _≤_, _<_}
 use native.Mathlib.Omega.{arith}
 use mathlib.Core.Path.{_≡_, refl, sym, _∙_, ap, ap₂}
@@ -19,16 +19,14 @@ use Rattle.wire.specs.Form.{rows, limit}
 use Rattle.wire.specs.Varint.{encode, sizeOf}
 use Rattle.wire.proofs.SizeLaws.{limit-62}
 use Rattle.block_items.specs.Items.{run}
-use Rattle.track.specs.declared.Track.{Track}
 use Rattle.byte_parts.specs.declared.Part.{Part}
-use Rattle.cmaf_read_chunk.specs.declared.read.Chunk.{Chunk}
-use Rattle.cmaf_read_chunk.specs.Accepted.{bytesAt, brandsOf, brands}
+use Rattle.cmaf_read_shape.specs.Parts.{endOf}
+use Rattle.cmaf_read_chunk.specs.Accepted.{brandsOf}
 use Rattle.locmaf_write_tuples.specs.declared.tuples.Weight.{Weight}
 use Rattle.locmaf_write_tuples.specs.Items.{nothing, itemsIf, bytesOf, pairMost, WeighedAs}
 use Rattle.locmaf_write_tuples.proofs.ItemLaws.{run-parts, block-one, run-length}
 use Rattle.encoder.specs.Object.{brandItems}
-use Rattle.encoder.specs.Planned.{Encodable}
-use Rattle.encoder.proofs.GivenLaws.{brands-is, brands-inside}
+use Rattle.encoder.specs.Planned.{BrandBytes, brandsAt}
 
 -- ---- the items, by the brands
 
@@ -55,76 +53,76 @@ abbrev pub brandParts : List Row → List ℕ → ℕ → ℕ → List (List ℕ
 brandParts F c from n =
     (encode F 23 ++ encode F (n - 4)) ∷ take (from + 4 - from) (drop from c) ∷ take (from + n - (from + 8)) (drop (from + 8) c) ∷ []
 
-module _ (form : Form) {t : Track} {s c : List ℕ} {k : Chunk} {ws x : List ℕ} (h : Encodable (rows form) t s c k ws x) where
-  abbrev from : ℕ
-  from = k .brands .at
+-- some stand
+pub brands-long : {n : ℕ} → BrandBytes n → (delta : Bool) → (delta || eqb n 0) ≡ false → 8 ≤ n
+brands-long {n} h delta e = h .long (neither delta n e .1)
 
-  abbrev n : ℕ
-  n = k .brands .len
-
-  names-are : brands c ≡ brandsOf (bytesAt c (k .brands))
-  unfolding brands
-  names-are = ap (λ (p : Part). brandsOf (bytesAt c p)) (sym (brands-is h))
-
+-- names of a `styp` with a body of n bytes
+module _ (form : Form) {n : ℕ} (h : BrandBytes n) (names : List ℕ) (are : length names ≡ n - 4) (delta : Bool) where
   -- none stand
-  names-none : n ≡ 0 → length (brands c) ≡ 0
-  unfolding brandsOf
-  names-none e = ap length names-are ∙ ap (λ (b : List ℕ). length (brandsOf b)) (slice-none from (from + n) c (omega (arith, e)))
-
-  pub brands-none : (delta : Bool) → (delta || eqb n 0) ≡ true → brandItems delta (brands c) ≡ nothing
-  brands-none delta e = go (either delta n e)
+  pub brands-none : (delta || eqb n 0) ≡ true → brandItems delta names ≡ nothing
+  brands-none e = go (either delta n e)
     where
-      go : (delta ≡ true) ⊎ (n ≡ 0) → brandItems delta (brands c) ≡ nothing
-      go (inl d) = no-items delta (brands c) (inl d)
-      go (inr z) = no-items delta (brands c) (inr (names-none z))
+      go : (delta ≡ true) ⊎ (n ≡ 0) → brandItems delta names ≡ nothing
+      go (inl d) = no-items delta names (inl d)
+      go (inr z) = no-items delta names (inr (omega (arith, are, z)))
 
-  -- some stand
-  module _ (delta : Bool) (e : (delta || eqb n 0) ≡ false) where
-    pub brands-long : 8 ≤ n
-    brands-long = h .brands-long (neither delta n e .1)
-
-    names-split : brands c ≡ slice from (from + 4) c ++ slice (from + 8) (from + n) c
-    unfolding brandsOf
-    names-split =
-        names-are
-        ∙ ap₂ (λ (a b : List ℕ). a ++ b) (take-slice from (from + n) 4 c (omega (arith, brands-long)) (brands-inside h))
-        (drop-slice from (from + n) 8 c)
-
-    names-length : length (brands c) ≡ n - 4
-    names-length =
-        let i : from + n ≤ length c = brands-inside h in
-        let l : 8 ≤ n = brands-long in
-        ap length names-split
-        ∙ omega (
-          arith,
-          length-append (slice from (from + 4) c) (slice (from + 8) (from + n) c),
-          length-slice from (from + 4) c (omega arith),
-          length-slice (from + 8) (from + n) c i,
-        )
-
-    brands-some : brandItems delta (brands c) ≡ some (run 23 (brands c) ∷ [])
-    brands-some = some-items delta (brands c) (neither delta n e .0) (λ z. omega (arith, names-length, brands-long, z))
+  module _ (e : (delta || eqb n 0) ≡ false) where
+    brands-some : brandItems delta names ≡ some (run 23 names ∷ [])
+    brands-some = some-items delta names (neither delta n e .0) (λ z. omega (arith, are, brands-long h delta e, z))
 
     -- their weight
     pub brands-weighed : {m : ℕ} {w : Weight} → (m ≡ sizeOf (rows form) 23 + (sizeOf (rows form) (n - 4) + (n - 4))) × (m ≤ 16 + (n - 4))
-        → (w .fits ≡ true) × (w .bytes ≡ m) → WeighedAs (rows form) (brandItems delta (brands c)) (pairMost + brandBytesMost) w
+        → (w .fits ≡ true) × (w .bytes ≡ m) → WeighedAs (rows form) (brandItems delta names) (pairMost + brandBytesMost) w
     brands-weighed {m} {w} f g =
         let p : 23 < limit (rows form) = omega (arith, limit-62 form) in
-        let q : length (brands c) < limit (rows form) = omega (arith, limit-62 form, names-length, h .brands-few) in
-        let b : length (bytesOf (rows form) (some (run 23 (brands c) ∷ []))) ≡ sizeOf (rows form) 23 + (sizeOf (rows form) (n - 4) + (n - 4)) =
-        ap length (block-one (rows form) (run 23 (brands c)))
-        ∙ run-length (rows form) 23 (brands c) p q
-        ∙ ap (λ (i : ℕ). sizeOf (rows form) 23 + (sizeOf (rows form) i + i)) names-length in
-        rw brands-some (record { fits = g .0; bytes = λ z. g .1 ∙ f .0 ∙ sym b; small = omega (arith, g .1, f .1, h .brands-few) })
+        let q : length names < limit (rows form) = omega (arith, limit-62 form, are, h .few) in
+        let b : length (bytesOf (rows form) (some (run 23 names ∷ []))) ≡ sizeOf (rows form) 23 + (sizeOf (rows form) (n - 4) + (n - 4)) =
+        ap length (block-one (rows form) (run 23 names))
+        ∙ run-length (rows form) 23 names p q
+        ∙ ap (λ (i : ℕ). sizeOf (rows form) 23 + (sizeOf (rows form) i + i)) are in
+        rw brands-some (record { fits = g .0; bytes = λ z. g .1 ∙ f .0 ∙ sym b; small = omega (arith, g .1, f .1, h .few) })
 
-    -- their bytes as they are lent
-    pub brand-parts : joined (brandParts (rows form) c from n) ≡ bytesOf (rows form) (brandItems delta (brands c))
-    brand-parts =
-        let i : from + n ≤ length c = brands-inside h in
-        let l : 8 ≤ n = brands-long in
-        ap₂ (λ (a b : List ℕ). (encode (rows form) 23 ++ encode (rows form) (n - 4)) ++ (a ++ b))
-        (slice-lent from (from + 4) c (omega arith) (omega arith))
-        (slice-lent (from + 8) (from + n) c (omega arith) i)
-        ∙ ap₂ (λ (i : ℕ) (b : List ℕ). (encode (rows form) 23 ++ encode (rows form) i) ++ b) (sym names-length) (sym names-split)
-        ∙ run-parts (rows form) 23 (brands c)
-        ∙ ap (bytesOf (rows form)) (sym brands-some)
+-- names in their part of a chunk
+module _ (c : List ℕ) (p : Part) (h : BrandBytes (p .len)) (i : endOf p ≤ length c) where
+  abbrev from : ℕ
+  from = p .at
+
+  abbrev n : ℕ
+  n = p .len
+
+  names-split : 8 ≤ n → brandsAt c p ≡ slice from (from + 4) c ++ slice (from + 8) (from + n) c
+  unfolding brandsOf
+  names-split l =
+      ap₂ (λ (a b : List ℕ). a ++ b) (take-slice from (from + n) 4 c (omega (arith, l)) i)
+      (drop-slice from (from + n) 8 c)
+
+  pub names-length : length (brandsAt c p) ≡ n - 4
+  unfolding brandsOf
+  names-length = go (eqb n 0) refl
+    where
+      go : (z : Bool) → eqb n 0 ≡ z → length (brandsAt c p) ≡ n - 4
+      go true e =
+          let z : n ≡ 0 = eqb-true n 0 e in
+          ap (λ (b : List ℕ). length (brandsOf b)) (slice-none from (from + n) c (omega (arith, z))) ∙ omega (arith, z)
+      go false e =
+          let l : 8 ≤ n = h .long (eqb-false n 0 e) in
+          ap length (names-split l)
+          ∙ omega (
+            arith,
+            length-append (slice from (from + 4) c) (slice (from + 8) (from + n) c),
+            length-slice from (from + 4) c (omega arith),
+            length-slice (from + 8) (from + n) c i,
+          )
+
+  -- their bytes as they are lent
+  pub brand-parts : (form : Form) (delta : Bool) → (delta || eqb n 0) ≡ false
+      → joined (brandParts (rows form) c from n) ≡ bytesOf (rows form) (brandItems delta (brandsAt c p))
+  brand-parts form delta e =
+      let l : 8 ≤ n = brands-long h delta e in
+      ap₂ (λ (a b : List ℕ). (encode (rows form) 23 ++ encode (rows form) (n - 4)) ++ (a ++ b))
+      (slice-lent from (from + 4) c (omega arith) (omega arith))
+      (slice-lent (from + 8) (from + n) c (omega arith) i)
+      ∙ ap₂ (λ (i : ℕ) (b : List ℕ). (encode (rows form) 23 ++ encode (rows form) i) ++ b) (sym names-length) (sym (names-split l))
+      ∙ run-parts (rows form) 23 (brandsAt c p)
+      ∙ ap (bytesOf (rows form)) (sym (brands-some form h (brandsAt c p) names-length delta e))

@@ -7,26 +7,24 @@ use mathlib.Core.Bool.{Bool, true, false}
 use mathlib.Core.List.{List}
 use borrow.Author.Tests.{eqb-true, eqb-false, eq-eqb}
 use lib.Dec.{eqb}
-use lib.ListN.{take, drop}
-use Rattle.constants.specs.Maxima.{brandBytesMost}
+use Rattle.constants.specs.Maxima.{numberMost}
 use Rattle.laws.specs.Tests.{allLe}
 use Rattle.laws.specs.Ladder.{Hold}
 use Rattle.laws.proofs.LadderLaws.{Numbered}
-use Rattle.laws.proofs.SliceLaws.{slice-lent}
 use Rattle.laws.proofs.BytesLaws.{bytes-are}
 use Rattle.wire.specs.declared.form.Row.{Row}
 use Rattle.track.specs.declared.Track.{Track}
 use Rattle.byte_parts.specs.declared.Part.{Part}
-use Rattle.cmaf_read_shape.specs.Parts.{bodyOf, endOf}
+use Rattle.cmaf_read_shape.specs.Parts.{bodyOf}
 use Rattle.prft_value.specs.declared.Prft.{Prft}
 use Rattle.cmaf_read_prelude.specs.Prft.{prftOf}
 use Rattle.cmaf_read_prelude.proofs.PrftLaws.{prft-headed, prft-lacks, prft-ranges}
 use Rattle.prft_value.specs.Prft.{InRange}
-use Rattle.cmaf_read_chunk.specs.Accepted.{top, prft, payload, lateRungs, acceptRungs}
+use Rattle.cmaf_read_chunk.specs.Accepted.{top, prft, lateRungs, acceptRungs}
 use Rattle.cmaf_read_boxes.proofs.BoxLaws.{boxes-in}
 use Rattle.cmaf_read_chunk.proofs.BrandLaws.{StypBytes, styp-body}
 use Rattle.cmaf_read_chunk.proofs.LawfulSet.{boxes-held, counts-held}
-use Rattle.cmaf_read_chunk.proofs.ChunkFacts.{payload-in}
+use Rattle.encoder.specs.Planned.{BrandBytes}
 
 -- none of the rungs refuses with 0
 pub accept-numbered : (F : List Row) (t : Track) (c : List ℕ) → Numbered (acceptRungs F t c)
@@ -42,16 +40,16 @@ version-or v m h k = go (eqb v 0) refl
     go false q = let n : v ≡ 0 → ⊥ = eqb-false v 0 q in inl (omega arith)
 
 module _ (F : List Row) (t : Track) (c : List ℕ) (h : Hold (acceptRungs F t c)) where
-  -- what stands in its `styp`: nothing, or a brand and a version at least, and at most 16 brands and a version
-  pub brands-sized : ((bodyOf (top c .styp) .len ≡ 0 → ⊥) → 8 ≤ bodyOf (top c .styp) .len) × (bodyOf (top c .styp) .len ≤ brandBytesMost + 4)
+  -- what stands in its `styp`
+  pub brands-sized : BrandBytes (bodyOf (top c .styp) .len)
   brands-sized = go (styp-body (top c .styp) (boxes-held F t c h .styp-ok) (counts-held F t c h .brands))
     where
-      go : {n : ℕ} → StypBytes n → ((n ≡ 0 → ⊥) → 8 ≤ n) × (n ≤ brandBytesMost + 4)
-      go (inl e) = ((λ z. absurd (z e)), omega arith)
-      go (inr (a, (l, m))) = ((λ z. a), l)
+      go : {n : ℕ} → StypBytes n → BrandBytes n
+      go (inl e) = record { long = λ z. absurd (z e); few = omega arith }
+      go (inr (a, (l, m))) = record { long = λ z. a; few = l }
 
   -- its `prft` keeps its ranges, where its times fit
-  pub prft-ranged : allLe 255 c ≡ true → (prft c .stands ≡ true → (prft c .ntp .0 ≤ 2 ^ 62 - 1) × (prft c .media .0 ≤ 2 ^ 62 - 1)) → InRange (prft c)
+  pub prft-ranged : allLe 255 c ≡ true → (prft c .stands ≡ true → (prft c .ntp .0 ≤ numberMost) × (prft c .media .0 ≤ numberMost)) → InRange (prft c)
   unfolding prft
   prft-ranged low fit =
       let b : Part = top c .prft in
@@ -61,8 +59,3 @@ module _ (F : List Row) (t : Track) (c : List ℕ) (h : Hold (acceptRungs F t c)
       λ z. subst (λ (p : Prft). (p .ntp .0 ≡ 0) × (p .media .0 ≡ 0) × (p .version ≡ 0) × (p .flags ≡ 0)) (prft-lacks c b z) (refl, refl, refl, refl) in
       let short : prftOf c b .version ≡ 0 → prftOf c b .media .0 ≤ 0xffff_ffff = λ e. rw (eq-eqb _ 0 e) at (r .2) in
       (none, (λ z. (r .0, version-or (prftOf c b .version) (prftOf c b .media .0) (r .0) short, prft-headed c b ok .flags, fit z .0, fit z .1)))
-
--- its payload, as it is lent
-pub payload-lent : (c : List ℕ) → take (endOf (bodyOf (top c .mdat)) - bodyOf (top c .mdat) .at) (drop (bodyOf (top c .mdat) .at) c) ≡ payload c
-unfolding payload
-payload-lent c = slice-lent (bodyOf (top c .mdat) .at) (endOf (bodyOf (top c .mdat))) c (omega arith) (payload-in c)

@@ -28,7 +28,7 @@ use Rattle.cmaf_read_chunk.specs.Chunks.{ReadAs, Accepted}
 use Rattle.cmaf_read_chunk.proofs.LawfulSet.{chunk-lawful}
 use Rattle.encoder.specs.Object.{fitsOk}
 use Rattle.encoder.specs.Encode.{refusing, lastRungs, chunkRungs, encodeRungs, done, encoding, onOpen, onAccepted}
-use Rattle.encoder.specs.Planned.{OnShare, Encodable}
+use Rattle.encoder.specs.Planned.{BrandBytes, OnShare, Encodable}
 use Rattle.cmaf_read_chunk.proofs.ChunkFacts.{fields-long, fields-bmdt}
 use Rattle.encoder.proofs.ChunkLaws.{accept-numbered, brands-sized}
 
@@ -91,15 +91,13 @@ module _ (F : List Row) (wish : Bool) (c output s : List ℕ) where
         encodable b h =
             let a : Accepted F t c k ws x = r .taken z in
             let q = ap (λ (y : Chunk). y .brands .len) (a .chunk-is) in
-            let g = brands-sized F t c holds in
             let m : bmdt c ≤ numberMost = subst (λ (n : ℕ). n ≤ numberMost) first-is h in
             record {
               on-share = o;
               accepted = a;
               set-long = ap length (a .set-is) ∙ fields-long F t c holds iv-small;
               lawful-set = ap (lawfulSet t) (a .set-is) ∙ chunk-lawful F t c b iv-fits holds m;
-              brands-long = λ n. omega (arith, q, g .0 (λ e. n (q ∙ e)));
-              brands-few = omega (arith, q, g .1);
+              brand-bytes = subst BrandBytes (sym q) (brands-sized F t c holds);
             }
 
   -- ---- a chunk on a share

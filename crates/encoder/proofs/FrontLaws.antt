@@ -7,6 +7,7 @@ use mathlib.Core.List.{List, [], _∷_}
 use borrow.Author.Tests.{eqb-false, not-true}
 use lib.Dec.{eqb, leb}
 use lib.ListN.{length, getD, length-append}
+use Rattle.constants.specs.Maxima.{numberMost}
 use Rattle.laws.specs.Tests.{_and_}
 use Rattle.laws.proofs.TestLaws.{left, and-left, and-right}
 use Rattle.laws.proofs.PartLaws.{joined}
@@ -18,18 +19,22 @@ use Rattle.wire.proofs.VarintLaws.{length-encode}
 use Rattle.wire.proofs.SizeLaws.{limit-62}
 use Rattle.laws.specs.Options.{isSome}
 use Rattle.share_words.specs.Share.{heldAt}
-use Rattle.cmaf_read_chunk.specs.Accepted.{bmdt}
+use Rattle.track.specs.declared.Track.{Track}
+use Rattle.prft_value.specs.declared.Prft.{Prft}
+use Rattle.cmaf_read_chunk.specs.declared.read.Chunk.{Chunk}
+use Rattle.cmaf_read_chunk.specs.Accepted.{bmdt, prft}
 use Rattle.locmaf_write_tuples.specs.declared.tuples.Weight.{Weight}
 use Rattle.locmaf_write_tuples.specs.Items.{bytesOf, weightMost, WeighedAs}
 use Rattle.encoder.specs.declared.front.Plan.{Plan}
 use Rattle.encoder.specs.Object.{headerOf, blockItems, objectOf, mayDelta, givesDelta, fitsOk, front}
-use Rattle.encoder.specs.Planned.{Held, PlannedAs}
+use Rattle.encoder.specs.Planned.{Encodable, Held, frontBytes, Sendable, PlannedAs}
+use Rattle.encoder.proofs.GivenLaws.{prft-is}
 
 -- ---- the kind of object
 
 module _ (F : List Row) (s c : List ℕ) (wish : Bool) where
   -- a delta may be tried only where a reference is held
-  pub may-held : mayDelta F s c wish ≡ true → getD s heldAt 0 ≡ 0 → ⊥
+  pub may-held : mayDelta s (prft c) wish ≡ true → getD s heldAt 0 ≡ 0 → ⊥
   unfolding mayDelta
   may-held m = eqb-false _ _ (not-true _ (and-left (not (eqb (getD s heldAt 0) 0)) _ (and-right wish _ m)))
 
@@ -38,30 +43,30 @@ module _ (F : List Row) (s c : List ℕ) (wish : Bool) where
   gives-held g = may-held (left _ _ g)
 
   -- a delta is given where it may and can be
-  gives : mayDelta F s c wish ≡ true → isSome (blockItems F s c true) ≡ true → givesDelta F s c wish ≡ true
+  gives : mayDelta s (prft c) wish ≡ true → isSome (blockItems F s c true) ≡ true → givesDelta F s c wish ≡ true
   unfolding givesDelta _and_
   gives m f = rw (m, f)
 
   -- and not where it may not, or can't
-  pub gives-not-may : mayDelta F s c wish ≡ false → givesDelta F s c wish ≡ false
+  pub gives-not-may : mayDelta s (prft c) wish ≡ false → givesDelta F s c wish ≡ false
   unfolding givesDelta _and_
   gives-not-may m = rw m
 
   pub gives-not-can : {d : Weight} → WeighedAs F (blockItems F s c true) weightMost d → d .fits ≡ false → givesDelta F s c wish ≡ false
   unfolding givesDelta _and_
-  gives-not-can w f = let n : isSome (blockItems F s c true) ≡ false = sym (w .fits) ∙ f in go (mayDelta F s c wish) n
+  gives-not-can w f = let n : isSome (blockItems F s c true) ≡ false = sym (w .fits) ∙ f in go (mayDelta s (prft c) wish) n
     where
       go : (m : Bool) → isSome (blockItems F s c true) ≡ false → (m and isSome (blockItems F s c true)) ≡ false
       go true n = n
       go false n = refl
 
-  module _ (small : leb (bmdt c) (2 ^ 62 - 1) ≡ true) where
+  module _ (small : leb (bmdt c) numberMost ≡ true) where
     fits-is : fitsOk F s c wish ≡ (givesDelta F s c wish || isSome (blockItems F s c false))
     unfolding fitsOk _and_
     fits-is = rw small
 
     -- the plan for a delta
-    pub planned-delta : {d : Weight} → mayDelta F s c wish ≡ true → WeighedAs F (blockItems F s c true) weightMost d → d .fits ≡ true
+    pub planned-delta : {d : Weight} → mayDelta s (prft c) wish ≡ true → WeighedAs F (blockItems F s c true) weightMost d → d .fits ≡ true
         → PlannedAs F s c wish (record { fits = true; delta = true; block = d .bytes })
     planned-delta m w f =
         let e : isSome (blockItems F s c true) ≡ true = sym (w .fits) ∙ f in
@@ -86,6 +91,11 @@ module _ (F : List Row) (s c : List ℕ) (wish : Bool) where
           small = omega (arith, w .small);
         }
 
+-- the test by what was read of a chunk is the one by the chunk
+pub may-so : {F : List Row} {t : Track} {s c : List ℕ} {k : Chunk} {ws x : List ℕ} {b : Bool} (wish : Bool) → Encodable F t s c k ws x
+    → b ≡ mayDelta s (k .prft) wish → mayDelta s (prft c) wish ≡ b
+may-so {s = s} wish h e = ap (λ (p : Prft). mayDelta s p wish) (sym (prft-is h)) ∙ sym e
+
 -- ---- all before the payload
 
 -- a header, the block's length, and the block
@@ -97,31 +107,40 @@ unfolding headerOf
 header-small true = omega arith
 header-small false = omega arith
 
-module _ {F : List Row} {s c : List ℕ} {wish : Bool} {a : Plan} (p : PlannedAs F s c wish a) (f : a .fits ≡ true) where
-  -- a reference is held for a delta
-  pub planned-held : Held (a .delta) s
-  planned-held d = gives-held F s c wish (sym (p .kind f) ∙ d)
+module _ {F : List Row} {s c : List ℕ} {a : Plan} (p : Sendable F s c a) where
+  pub front-parts : (h : ℕ) → h ≡ headerOf (a .delta) → joined (frontParts F s c a h) ≡ objectOf F s c (a .delta)
+  unfolding objectOf
+  front-parts h e = rw (e, ← p .block)
 
-  pub front-parts : (h : ℕ) → h ≡ headerOf (a .delta) → joined (frontParts F s c a h) ≡ front F s c wish
-  unfolding front objectOf
-  front-parts h e = rw (e, ← p .kind f, ← p .block f)
-
-  front-bytes : length (front F s c wish)
-      ≡ length (encode F (headerOf (a .delta))) + (length (encode F (a .block)) + a .block)
-  front-bytes =
+  object-bytes : length (objectOf F s c (a .delta)) ≡ length (encode F (headerOf (a .delta))) + (length (encode F (a .block)) + a .block)
+  object-bytes =
       sym (ap length (front-parts _ refl))
       ∙ omega (
         arith,
-        p .block f,
+        p .block,
         length-append (encode F (headerOf (a .delta))) (joined (encode F (a .block) ∷ bytesOf F (blockItems F s c (a .delta)) ∷ [])),
         length-append (encode F (a .block)) (bytesOf F (blockItems F s c (a .delta))),
       )
 
 module _ (form : Form) {s c : List ℕ} {wish : Bool} {a : Plan} (p : PlannedAs (rows form) s c wish a) (f : a .fits ≡ true) where
+  abbrev F : List Row
+  F = rows form
+
+  -- what was planned can be written
+  pub planned-sendable : Sendable F s c a
+  planned-sendable =
+      record { held = λ d. gives-held F s c wish (sym (p .kind f) ∙ d); all-fit = p .all-fit f; block = p .block f }
+
+  -- and is the front
+  pub planned-front : objectOf F s c (a .delta) ≡ front F s c wish
+  unfolding front
+  planned-front = ap (objectOf F s c) (p .kind f)
+
   -- its length
-  pub front-length : {h : ℕ} → h ≡ headerOf (a .delta)
-      → sizeOf (rows form) h + (sizeOf (rows form) (a .block) + a .block) ≡ length (front (rows form) s c wish)
-  front-length {h} e =
-      let i : headerOf (a .delta) < limit (rows form) = omega (arith, limit-62 form, header-small (a .delta)) in
-      let j : a .block < limit (rows form) = omega (arith, limit-62 form, p .small) in
-      rw e (omega (arith, front-bytes p f, length-encode (rows form) (headerOf (a .delta)) i, length-encode (rows form) (a .block) j))
+  pub front-length : frontBytes F a ≡ length (front F s c wish)
+  unfolding frontBytes
+  front-length =
+      let i : headerOf (a .delta) < limit F = omega (arith, limit-62 form, header-small (a .delta)) in
+      let j : a .block < limit F = omega (arith, limit-62 form, p .small) in
+      omega (arith, object-bytes planned-sendable, length-encode F (headerOf (a .delta)) i, length-encode F (a .block) j)
+      ∙ ap length planned-front

@@ -1,13 +1,15 @@
 -- What is known of a chunk that can be encoded: what was handed on of it, and its set and the reference as they are lent. Assumes nothing.
 use Prim.Native.Nat.{ℕ, _-_, _^_, _≤_}
 use native.Mathlib.Omega.{arith}
-use mathlib.Core.Path.{_≡_, sym, _∙_, ap, subst}
+use mathlib.Core.Path.{_≡_, sym, _∙_, ap, ap₂, subst}
 use mathlib.Core.Bool.{Bool, true}
 use mathlib.Core.List.{List}
 use borrow.Author.Tests.{ne-eqb}
 use borrow.Rule.Slice.PartAt.{part-to-end}
 use lib.Dec.{leb}
 use lib.ListN.{length, getD, drop}
+use Rattle.constants.specs.Maxima.{numberMost}
+use Rattle.field_table.specs.Lines.{bmdtAt}
 use Rattle.laws.proofs.TestLaws.{left, right}
 use Rattle.wire.specs.declared.form.Row.{Row}
 use Rattle.track.specs.declared.Track.{Track}
@@ -21,20 +23,22 @@ use Rattle.reference.proofs.OpenLaws.{Opened, opened-facts, held-facts, lent, r
 use Rattle.cmaf_read_shape.specs.Parts.{bodyOf, endOf}
 use Rattle.cmaf_read_shape.proofs.PartLaws.{body-in}
 use Rattle.cmaf_read_shape.proofs.TopLaws.{top-in, styp-inside}
+use Rattle.event_value.specs.Events.{eventsOf}
+use Rattle.locmaf_write_events.specs.Records.{allSent, sentOf, listBytes}
 use Rattle.cmaf_read_set.specs.Set.{chunkSet}
 use Rattle.cmaf_read_chunk.specs.declared.read.Chunk.{Chunk}
-use Rattle.cmaf_read_chunk.specs.Accepted.{top, bmdt, prft, fields}
+use Rattle.cmaf_read_chunk.specs.Accepted.{top, bmdt, prft, brands, events, fields}
 use Rattle.locmaf_write_block.specs.declared.cells.Basis.{Basis}
 use Rattle.locmaf_write_block.specs.Changes.{basisOf, Writable}
-use Rattle.encoder.specs.Planned.{Encodable, Held}
+use Rattle.encoder.specs.Planned.{brandsAt, Recorded, Encodable, Held}
 
 -- the set has BMDT
-start-is : (t : Track) (c : List ℕ) → getD (fields t c) 0 0 ≡ bmdt c
+start-is : (t : Track) (c : List ℕ) → getD (fields t c) bmdtAt 0 ≡ bmdt c
 unfolding fields chunkSet bmdt
 start-is t c = words-start _ _ _
 
 -- a lawful set keeps its maximum
-start-small : (t : Track) (x : List ℕ) → lawful t x ≡ true → leb (getD x 0 0) (2 ^ 62 - 1) ≡ true
+start-small : (t : Track) (x : List ℕ) → lawful t x ≡ true → leb (getD x bmdtAt 0) numberMost ≡ true
 unfolding lawful
 start-small t x h = left _ _ (right _ _ (right _ _ h))
 
@@ -51,22 +55,42 @@ module _ {F : List Row} {t : Track} {s c : List ℕ} {k : Chunk} {ws x : List �
   pub prft-is : k .prft ≡ prft c
   prft-is = ap (λ (q : Chunk). q .prft) (h .accepted .chunk-is)
 
-  pub events-is : k .events ≡ top c .events
+  events-is : k .events ≡ top c .events
   events-is = ap (λ (q : Chunk). q .events) (h .accepted .chunk-is)
 
-  pub brands-is : k .brands ≡ bodyOf (top c .styp)
+  brands-is : k .brands ≡ bodyOf (top c .styp)
   brands-is = ap (λ (q : Chunk). q .brands) (h .accepted .chunk-is)
 
   -- what stands in the `styp` lies in the chunk
   pub brands-inside : endOf (k .brands) ≤ length c
   brands-inside = rw brands-is (omega (arith, body-in (top c .styp) .ends, styp-inside (top-in c) .within))
 
-  -- BMDT
-  pub bmdt-is : getD x 0 0 ≡ bmdt c
-  bmdt-is = ap (λ (w : List ℕ). getD w 0 0) (h .accepted .set-is) ∙ start-is t c
+  -- the brands are those in it
+  pub brands-are : brandsAt c (k .brands) ≡ brands c
+  unfolding brands
+  brands-are = ap (brandsAt c) brands-is
 
-  pub bmdt-small : leb (bmdt c) (2 ^ 62 - 1) ≡ true
-  bmdt-small = ap (λ (n : ℕ). leb n (2 ^ 62 - 1)) (sym bmdt-is) ∙ start-small t x (h .lawful-set)
+  -- BMDT
+  pub bmdt-is : getD x bmdtAt 0 ≡ bmdt c
+  bmdt-is = ap (λ (w : List ℕ). getD w bmdtAt 0) (h .accepted .set-is) ∙ start-is t c
+
+  pub bmdt-small : leb (bmdt c) numberMost ≡ true
+  bmdt-small = ap (λ (n : ℕ). leb n numberMost) (sym bmdt-is) ∙ start-small t x (h .lawful-set)
+
+  -- the events are those that their words say
+  pub events-are : sentOf t (getD x bmdtAt 0) c ws (k .events) ≡ events t c
+  unfolding events
+  events-are = ap₂ (allSent t) bmdt-is (ap (eventsOf c ws) events-is ∙ h .accepted .listed .boxes-are)
+
+  pub recorded : Recorded F t (getD x bmdtAt 0) c ws (k .events) (k .list)
+  recorded =
+      let l = h .accepted .listed in
+      record {
+        words = rw events-is (l .words);
+        inside = rw events-is (l .inside);
+        list-is = l .list-is ∙ ap (listBytes F) (sym events-are);
+        short = l .short;
+      }
 
   -- the share
   facts : Opened Encoder s

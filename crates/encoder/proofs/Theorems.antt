@@ -9,6 +9,7 @@ use borrow.Author.Tests.{leb-true, not-true}
 use lib.Dec.{eqb}
 use lib.ListN.{length, getD, take, drop}
 use lib.Seq.{take-append-seam, drop-length}
+use Rattle.constants.specs.Maxima.{brandBytesMost, eventBytesMost, numberMost}
 use Rattle.laws.specs.Tests.{_and_, allLe}
 use Rattle.laws.specs.Ladder.{Rung, ladder, Given, Hold}
 use Rattle.laws.proofs.LadderLaws.{Numbered, numberOf, given, given-one, ladder-append, ladder-seen, all-hold, climbed, climbs-all, hold-front, hold-back, nonzero, numbered}
@@ -42,7 +43,9 @@ use Rattle.cmaf_read_chunk.proofs.ChunkFacts.{brands-few, list-few, fields-long
 use Rattle.encoder.proofs.ChunkLaws.{prft-ranged}
 use Rattle.encoder.proofs.EncodeLaws.{iv-right}
 use Rattle.encoder.proofs.FitLaws.{full-small}
-use Rattle.encoder.proofs.BlockSizes.{Most, before-most, fields-most, deletions-most, times-most, version-most, flags-most, brands-most, events-most}
+use Rattle.locmaf_write_tuples.specs.Items.{pairMost}
+use Rattle.locmaf_write_block.specs.Fields.{goneMost}
+use Rattle.encoder.proofs.BlockSizes.{Most, fieldsMost, before-most, fields-most, deletions-most, times-most, version-most, flags-most, brands-most, events-most}
 
 -- ---- numbers
 
@@ -128,7 +131,7 @@ delta-held F s c wish h =
     not-true _ (and-left (not (eqb (getD s heldAt 0) 0)) (not (prft c .stands) || not (eqb (getD s prftAt 0) 0))
     (and-right wish (not (eqb (getD s heldAt 0) 0) && (not (prft c .stands) || not (eqb (getD s prftAt 0) 0))) e))
 
-pub bmdt-small : (F : List Row) (s c : List ℕ) (wish : Bool) → fitsOk F s c wish ≡ true → bmdt c ≤ 2 ^ 62 - 1
+pub bmdt-small : (F : List Row) (s c : List ℕ) (wish : Bool) → fitsOk F s c wish ≡ true → bmdt c ≤ numberMost
 unfolding fitsOk
 bmdt-small F s c wish h = leb-true _ _ (left _ _ h)
 
@@ -236,6 +239,28 @@ encode-makes F wish c output s e =
       rest = ap (λ (a : Out Took). a .answer .payload) q;
     }
 
+-- the most bytes of each part of a block, and of all that follow it
+abbrev eventsBytes : ℕ
+eventsBytes = pairMost + eventBytesMost
+
+abbrev afterFlags : ℕ
+afterFlags = eventsBytes + goneMost
+
+abbrev brandsBytes : ℕ
+brandsBytes = pairMost + (brandBytesMost + 4)
+
+abbrev afterBrands : ℕ
+afterBrands = pairMost + afterFlags
+
+abbrev afterVersion : ℕ
+afterVersion = brandsBytes + afterBrands
+
+abbrev afterTimes : ℕ
+afterTimes = pairMost + afterVersion
+
+abbrev afterFields : ℕ
+afterFields = (pairMost + pairMost) + afterTimes
+
 -- a block has at most 12,340 bytes
 block-most : (F : List Row) (wish : Bool) (c output s : List ℕ) → longest F ≤ 8 → allLe 255 c ≡ true → length s ≡ shareLen → Passed F wish c output s
     → (delta : Bool) → Most F 12340 (blockItems F s c delta)
@@ -244,14 +269,14 @@ block-most F wish c output s w b l h delta =
     let o = opened F wish c output s l h in
     let t = trackOf s in
     let x = fields t c in
-    before-most F w 7952 4388 _ _
+    before-most F w fieldsMost afterFields _ _
     (fields-most F w t delta (drop setAt s) x
     (chunk-lawful F t c b (iv-right s (o .track)) (h .accepted) (bmdt-small F s c wish (h .fits))) (ranges (askedOf s) (o .track) .iv-size))
-    (before-most F w 32 4356 _ _ (times-most F w delta s (prft c))
-    (before-most F w 16 4340 _ _ (version-most F w delta s (prft c))
-    (before-most F w 84 4256 _ _ (brands-most F w 68 delta (brands c) (omega (arith, brands-few F t c (h .accepted) .0)))
-    (before-most F w 16 4240 _ _ (flags-most F w delta s (prft c))
-    (before-most F w 4112 128 _ _ (events-most F w 4096 (events t c) (list-few F t c (h .accepted)))
+    (before-most F w (pairMost + pairMost) afterTimes _ _ (times-most F w delta s (prft c))
+    (before-most F w pairMost afterVersion _ _ (version-most F w delta s (prft c))
+    (before-most F w brandsBytes afterBrands _ _ (brands-most F w (brandBytesMost + 4) delta (brands c) (omega (arith, brands-few F t c (h .accepted) .0)))
+    (before-most F w pairMost afterFlags _ _ (flags-most F w delta s (prft c))
+    (before-most F w eventsBytes goneMost _ _ (events-most F w eventBytesMost (events t c) (list-few F t c (h .accepted)))
     (deletions-most F w t delta (drop setAt s) x))))))
 
 pub block-fits : BlockFits

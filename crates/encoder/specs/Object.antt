@@ -15,6 +15,7 @@ use Rattle.laws.specs.Options.{isSome}
 use Rattle.block_items.specs.Events.{Event, encEvents}
 use Rattle.block_items.specs.Items.{run}
 use Rattle.track.specs.declared.Track.{Track}
+use Rattle.prft_value.specs.declared.Prft.{Prft}
 use Rattle.share_words.specs.Share.{heldAt, prftAt, setAt}
 use Rattle.slots.specs.Share.{trackOf}
 use Rattle.locmaf_write_events.specs.Records.{timesFit}
@@ -35,6 +36,10 @@ eventItems F (e ∷ es) = cond (timesFit F (e ∷ es)) (some (run 25 (encEvents 
 -- 01: "Full objects (23)", "Delta objects (25)"
 unfoldable pub headerOf : Bool → ℕ
 headerOf delta = cond delta deltaId fullId
+
+-- 01: "A wish for delta gives a delta exactly when a reference is held, a `prft` has one in that full object, .." (D62)
+unfoldable pub mayDelta : List ℕ → Prft → Bool → Bool
+mayDelta s p wish = wish && (not (eqb (getD s heldAt 0) 0) && (not (p .stands) || not (eqb (getD s prftAt 0) 0)))
 
 -- the chunk c on the share s
 module _ (F : List Row) (s c : List ℕ) where
@@ -62,14 +67,9 @@ module _ (F : List Row) (s c : List ℕ) where
       let block = bytesOf F (blockItems delta) in
       encode F (headerOf delta) ++ (encode F (length block) ++ block)
 
-  -- 01: "A wish for delta gives a delta exactly when a reference is held, a `prft` has one in that full object, and every number in it fits; otherwise a full
-  -- object." (D62)
-  unfoldable pub mayDelta : Bool → Bool
-  mayDelta wish = wish && (not (eqb (getD s heldAt 0) 0) && (not (prft c .stands) || not (eqb (getD s prftAt 0) 0)))
-
-  -- any number that is too wide in the delta makes it a full object (D60)
+  -- ".. and every number in it fits; otherwise a full object": any number that is too wide in the delta makes it a full object (D60)
   unfoldable pub givesDelta : Bool → Bool
-  givesDelta wish = mayDelta wish and isSome (blockItems true)
+  givesDelta wish = mayDelta s (prft c) wish and isSome (blockItems true)
 
   -- 9: "chunk: BMDT past its maximum, whatever the wish; or, where no delta is given, a number too wide in the full object" (D56, D58)
   unfoldable pub fitsOk : Bool → Bool

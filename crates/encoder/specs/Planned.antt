@@ -5,8 +5,9 @@ use mathlib.Core.Path.{_≡_}
 use mathlib.Core.Bool.{Bool, true}
 use mathlib.Core.List.{List}
 use lib.ListN.{length, getD}
-use Rattle.constants.specs.Maxima.{brandBytesMost}
+use Rattle.constants.specs.Maxima.{brandBytesMost, eventBytesMost}
 use Rattle.wire.specs.declared.form.Row.{Row}
+use Rattle.wire.specs.Varint.{sizeOf}
 use Rattle.laws.specs.Options.{isSome}
 use Rattle.field_table.specs.Lines.{setLen}
 use Rattle.field_set.specs.Lawful.{lawful}
@@ -14,11 +15,30 @@ use Rattle.slots.specs.declared.lawful.Side.the-variants.{Encoder}
 use Rattle.share_words.specs.Share.{shareLen, heldAt}
 use Rattle.slots.specs.Share.{isOpen, lawful as lawfulShare}
 use Rattle.track.specs.declared.Track.{Track}
+use Rattle.byte_parts.specs.declared.Part.{Part}
 use Rattle.cmaf_read_chunk.specs.declared.read.Chunk.{Chunk}
+use Rattle.cmaf_read_chunk.specs.Accepted.{bytesAt, brandsOf}
 use Rattle.cmaf_read_chunk.specs.Chunks.{Accepted}
 use Rattle.locmaf_write_tuples.specs.Items.{bytesOf, weightMost}
+use Rattle.locmaf_write_events.specs.Records.{AllWords, AllIn, sentOf, listBytes}
 use Rattle.encoder.specs.declared.front.Plan.{Plan}
-use Rattle.encoder.specs.Object.{track, blockItems, givesDelta, fitsOk}
+use Rattle.encoder.specs.Object.{track, headerOf, blockItems, givesDelta, fitsOk}
+
+-- what stands in a `styp`: nothing, or n bytes with a brand and a version at least, at most 16 brands and a version
+pub record BrandBytes (n : ℕ) : Type 0 where
+  pub long : (n ≡ 0 → ⊥) → 8 ≤ n
+  pub few : n ≤ brandBytesMost + 4
+
+-- the brands from a `styp` whose body is the part p
+abbrev pub brandsAt : List ℕ → Part → List ℕ
+brandsAt c p = brandsOf (bytesAt c p)
+
+-- k events of c as words, whose records have so many bytes
+pub record Recorded (F : List Row) (t : Track) (bmdt : ℕ) (c ws : List ℕ) (k list : ℕ) : Type 0 where
+  pub words : AllWords ws k
+  pub inside : AllIn c ws k
+  pub list-is : list ≡ listBytes F (sentOf t bmdt c ws k)
+  pub short : list ≤ eventBytesMost
 
 -- a chunk on a lawful share that is open
 pub record OnShare (F : List Row) (t : Track) (s c : List ℕ) : Type 0 where
@@ -33,12 +53,28 @@ pub record Encodable (F : List Row) (t : Track) (s c : List ℕ) (k : Chunk) (ws
   pub accepted : Accepted F t c k ws x
   pub set-long : length x ≡ setLen
   pub lawful-set : lawful t x ≡ true
-  pub brands-long : (k .brands .len ≡ 0 → ⊥) → 8 ≤ k .brands .len
-  pub brands-few : k .brands .len ≤ brandBytesMost + 4
+  pub brand-bytes : BrandBytes (k .brands .len)
+
+-- what was read is that of some chunk; whatever is said of it holds of each that it was read from
+abbrev pub ReadOfOne : List Row → Track → List ℕ → Chunk → List ℕ → List ℕ → Type 0
+ReadOfOne F t s k ws x = (c : List ℕ) × Encodable F t s c k ws x
+
+abbrev pub OfEach : List Row → Track → List ℕ → Chunk → List ℕ → List ℕ → (List ℕ → Type 0) → Type 0
+OfEach F t s k ws x P = (c : List ℕ) → Encodable F t s c k ws x → P c
 
 -- a delta has a reference to go by
 abbrev pub Held : Bool → List ℕ → Type 0
 Held delta s = delta ≡ true → (getD s heldAt 0 ≡ 0 → ⊥)
+
+-- the bytes before the payload, by the plan
+unfoldable pub frontBytes : List Row → Plan → ℕ
+frontBytes F a = sizeOf F (headerOf (a .delta)) + (sizeOf F (a .block) + a .block)
+
+-- an object of the planned kind can be written, with a block of the planned length
+pub record Sendable (F : List Row) (s c : List ℕ) (a : Plan) : Type 0 where
+  pub held : Held (a .delta) s
+  pub all-fit : isSome (blockItems F s c (a .delta)) ≡ true
+  pub block : a .block ≡ length (bytesOf F (blockItems F s c (a .delta)))
 
 -- the plan: 0 and the kind of object with its block's length, or 9
 pub record PlannedAs (F : List Row) (s c : List ℕ) (wish : Bool) (a : Plan) : Type 0 where

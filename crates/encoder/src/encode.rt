@@ -1,15 +1,16 @@
 // The call: one chunk.
 ghost use mathlib.Core.Path.{_≡_};
-ghost use mathlib.Core.List.{[]};
 ghost use lib.ListN.{length};
 ghost use Rattle.wire.specs.Form.{rows};
 ghost use Rattle.wire.specs.declared.form.Form.the-variants.{Rfc9000};
 ghost use Rattle.share_words.specs.Share.{shareLen};
 ghost use Rattle.slots.specs.Table.{out, onTable};
-ghost use Rattle.answers.specs.Took.{took, refused};
-ghost use Rattle.encoder.specs.Encode.{wished, encoding, onOpen, onAccepted};
+ghost use Rattle.answers.specs.Took.{took};
+ghost use Rattle.answers.specs.Took as T;
+ghost use Rattle.encoder.specs.Encode.{wished, encoding, onOpen, onAccepted, refusedWith, AnsweredAs};
 ghost use Rattle.encoder.specs.Planned.{Encodable, OnShare};
 use crate::front;
+use byte_parts::Part;
 use cmaf_read_chunk::read::Chunk;
 use constants::maxima;
 use field_table::lines;
@@ -21,100 +22,115 @@ use slots::lawful::Side;
 use track::Track;
 use wire::form::Form;
 
+// What a chunk is answered with: the number, the front's length, and where the payload stands in the chunk.
+struct Answer {
+    number: u64,
+    front: u64,
+    payload: Part,
+}
+
 // A refusal changes nothing, neither the output nor the share.
-fn refuse<'a>(c: &'a [u8], k: u64, number: &mut u64, front: &mut u64) -> &'a [u8]
-    ensures { λ r. ⌜ (now (number .exit) ≡ k) × (now (front .exit) ≡ 0) × (now r ≡ []) ⌝ }
+fn refused(number: u64) -> Answer
+    ensures { λ a. ⌜ a ≡ refusedWith number ⌝ }
 {
-    *number = k;
-    *front = 0;
-    &c[..0]
+    Answer {
+        number,
+        front: 0,
+        payload: Part { at: 0, len: 0 },
+    }
 }
 
 // The front into the output, if there is one and there is room for it, and the reference into the share.
-fn write<'a>(
+fn write(
     form: Form,
     t: Track,
     wish: bool,
-    c: &'a [u8],
+    c: &[u8],
     s: &mut [u64],
     k: Chunk,
     events: &[u64],
     x: &[u64],
     output: &mut [u8],
-    number: &mut u64,
-    front: &mut u64,
-) -> &'a [u8]
+) -> Answer
     requires { ⌜ Encodable (rows form) t (now s) (now c) k (now events) (now x) ⌝ }
-    ensures { λ r. ⌜ out (took (now (number .exit)) (now (front .exit)) (now r) (now (output .exit))) (now (s .exit))
-        ≡ onAccepted (rows form) wish (now (c .entry)) (now (output .entry)) (now (s .entry)) ⌝ }
+    ensures { λ a. ⌜ AnsweredAs (onAccepted (rows form) wish (now (c .entry)) (now (output .entry)) (now (s .entry)))
+        (now (c .entry)) a (now (output .exit)) (now (s .exit)) ⌝ }
 {
-    let a = front::choose(form, t, wish, s, c, k, events, x);
+    let a = front::choose(form, t, wish, s, k, events, x);
     if !a.fits {
-        return refuse(c, 9, number, front);
+        return refused(9);
     }
-    if output.len() < front::front_length(form, t, wish, a, s, c, k, events, x) {
-        return refuse(c, 17, number, front);
+    if output.len() < front::front_length(form, a) {
+        return refused(17);
     }
-    let n = front::put_front(form, t, wish, a, s, c, k, events, x, &mut *output);
+    let n = front::put_front(form, t, a, s, c, k, events, x, &mut *output);
     let prft = k.prft;
+    let payload = k.payload;
     let sequence = s[share::ACCEPTED];
     reference::keep::keep(s, a.delta, prft, sequence, x);
-    *number = 0;
-    *front = n as u64;
-    let from = k.payload.at;
-    let end = from + k.payload.len;
-    &c[from..end]
+    Answer {
+        number: 0,
+        front: n as u64,
+        payload,
+    }
 }
 
 // A chunk on an open share: number first, then act. No reference has a BMDT past its maximum, so it is asked whatever the wish.
-fn take_chunk<'a>(
+fn take_chunk(
     form: Form,
     t: Track,
     wish: bool,
-    c: &'a [u8],
+    c: &[u8],
     s: &mut [u64],
     output: &mut [u8],
-    number: &mut u64,
-    front: &mut u64,
-) -> &'a [u8]
+) -> Answer
     requires { ⌜ OnShare (rows form) t (now s) (now c) ⌝ }
-    ensures { λ r. ⌜ out (took (now (number .exit)) (now (front .exit)) (now r) (now (output .exit))) (now (s .exit))
-        ≡ onOpen (rows form) wish (now (c .entry)) (now (output .entry)) (now (s .entry)) ⌝ }
+    ensures { λ a. ⌜ AnsweredAs (onOpen (rows form) wish (now (c .entry)) (now (output .entry)) (now (s .entry)))
+        (now (c .entry)) a (now (output .exit)) (now (s .exit)) ⌝ }
 {
     let mut events = [0u64; event_value::ALL_WORDS];
     let mut x = [0u64; lines::SET];
     let k = cmaf_read_chunk::read::read_chunk(form, t, c, &mut events, &mut x);
     if k.number != 0 {
-        return refuse(c, k.number, number, front);
+        return refused(k.number);
     }
     if maxima::NUMBER < x[lines::BMDT] {
-        return refuse(c, 9, number, front);
+        return refused(9);
     }
-    write(form, t, wish, c, s, k, &events, &x, output, number, front)
+    write(form, t, wish, c, s, k, &events, &x, output)
 }
 
 // A chunk on a share.
-fn take_share<'a>(
-    form: Form,
-    wish: bool,
-    c: &'a [u8],
-    s: &mut [u64],
-    output: &mut [u8],
-    number: &mut u64,
-    front: &mut u64,
-) -> &'a [u8]
+fn take_share(form: Form, wish: bool, c: &[u8], s: &mut [u64], output: &mut [u8]) -> Answer
     requires { ⌜ length (now s) ≡ shareLen ⌝ }
-    ensures { λ r. ⌜ out (took (now (number .exit)) (now (front .exit)) (now r) (now (output .exit))) (now (s .exit))
-        ≡ encoding (rows form) wish (now (c .entry)) (now (output .entry)) (now (s .entry)) ⌝ }
+    ensures { λ a. ⌜ AnsweredAs (encoding (rows form) wish (now (c .entry)) (now (output .entry)) (now (s .entry)))
+        (now (c .entry)) a (now (output .exit)) (now (s .exit)) ⌝ }
 {
     if !lawful::is_lawful(Side::Encoder, s) {
-        return refuse(c, 18, number, front);
+        return refused(18);
     }
     if s[share::TRACK] == 0 {
-        return refuse(c, 2, number, front);
+        return refused(2);
     }
     let t = lawful::track_of(s);
-    take_chunk(form, t, wish, c, s, output, number, front)
+    take_chunk(form, t, wish, c, s, output)
+}
+
+// A chunk on a table.
+fn take_table(table: &mut [u64], slot: u64, wish: bool, c: &[u8], output: &mut [u8]) -> Answer
+    ensures { λ a. ⌜ AnsweredAs
+        (onTable (T.refused (now (output .entry)))
+        (encoding (rows Rfc9000) wish (now (c .entry)) (now (output .entry))) (now (table .entry)) slot)
+        (now (c .entry)) a (now (output .exit)) (now (table .exit)) ⌝ }
+{
+    if table.len() != TABLE {
+        return refused(18);
+    }
+    if 7 < slot {
+        return refused(1);
+    }
+    let at = share::start_of(slot);
+    take_share(Form::Rfc9000, wish, c, &mut table[at..at + SHARE], output)
 }
 
 // One chunk into the front of an object: the number, the front's length, and the payload as the part of the chunk that it is. The wish 0 is for
@@ -128,25 +144,16 @@ pub fn encode<'a>(
     number: &mut u64,
     front: &mut u64,
 ) -> &'a [u8]
-    ensures { λ r. ⌜ out (took (now (number .exit)) (now (front .exit)) (now r) (now (output .exit))) (now (table .exit))
-        ≡ onTable (refused (now (output .entry)))
+    ensures { λ r. ⌜ out (took (now (number .exit)) (now (front .exit)) (now r) (now (output .exit)))
+        (now (table .exit))
+        ≡ onTable (T.refused (now (output .entry)))
         (encoding (rows Rfc9000) (wished wish) (now (chunk .entry)) (now (output .entry)))
         (now (table .entry)) slot ⌝ }
 {
-    if table.len() != TABLE {
-        return refuse(chunk, 18, number, front);
-    }
-    if 7 < slot {
-        return refuse(chunk, 1, number, front);
-    }
-    let at = share::start_of(slot);
-    take_share(
-        Form::Rfc9000,
-        wish != 0,
-        chunk,
-        &mut table[at..at + SHARE],
-        output,
-        number,
-        front,
-    )
+    let a = take_table(table, slot, wish != 0, chunk, output);
+    *number = a.number;
+    *front = a.front;
+    let from = a.payload.at;
+    let end = from + a.payload.len;
+    &chunk[from..end]
 }

@@ -1,17 +1,19 @@
 // The object of a chunk: full or delta, or why there is none; and all of it before the payload, written.
 // Letters: `t` the track, `s` the words of a share, `c` a chunk's bytes, `k` what was read of a chunk, `x` the words of the new set, `a` what is
-//   planned.
+//   planned, `p` a prft.
 ghost use mathlib.Core.Path.{_≡_};
-ghost use mathlib.Core.Bool.{true};
-ghost use Prim.Native.Nat.{_+_, _≤_};
+ghost use Prim.Native.Nat.{_≤_};
 ghost use lib.ListN.{length};
 ghost use Rattle.laws.specs.Writes.{Wrote};
 ghost use Rattle.wire.specs.Form.{rows};
-ghost use Rattle.encoder.specs.Object.{headerOf, mayDelta, front};
-ghost use Rattle.encoder.specs.Planned.{Encodable, PlannedAs};
+ghost use Rattle.share_words.specs.Share.{shareLen};
+ghost use Rattle.locmaf_write_tuples.specs.Items.{weightMost};
+ghost use Rattle.encoder.specs.Object.{headerOf, mayDelta, objectOf};
+ghost use Rattle.encoder.specs.Planned.{Encodable, ReadOfOne, OfEach, frontBytes, Sendable, PlannedAs};
 use crate::properties;
 use cmaf_read_chunk::read::Chunk;
 use constants::ids;
+use prft_value::Prft;
 use share_words::share;
 use track::Track;
 use wire::form::Form;
@@ -24,39 +26,22 @@ pub struct Plan {
 }
 
 // Whether a delta may be tried: one is wished for, a reference is held, and a prft has one in the current full object.
-fn may_delta(
-    form: Form,
-    t: Track,
-    wish: bool,
-    s: &[u64],
-    c: &[u8],
-    k: Chunk,
-    ws: &[u64],
-    x: &[u64],
-) -> bool
-    requires { ⌜ Encodable (rows form) t (now s) (now c) k (now ws) (now x) ⌝ }
-    ensures { λ b. ⌜ b ≡ mayDelta (rows form) (now (s .entry)) (now (c .entry)) wish ⌝ }
+fn may_delta(wish: bool, s: &[u64], p: Prft) -> bool
+    requires { ⌜ length (now s) ≡ shareLen ⌝ }
+    ensures { λ b. ⌜ b ≡ mayDelta (now (s .entry)) p wish ⌝ }
 {
-    let p = k.prft;
     wish & ((s[share::HELD] != 0) & (!p.stands | (s[share::PRFT] != 0)))
 }
 
 // A delta where one is wished for and possible, else a full object, else none.
-pub fn choose(
-    form: Form,
-    t: Track,
-    wish: bool,
-    s: &[u64],
-    c: &[u8],
-    k: Chunk,
-    ws: &[u64],
-    x: &[u64],
-) -> Plan
-    requires { ⌜ Encodable (rows form) t (now s) (now c) k (now ws) (now x) ⌝ }
-    ensures { λ a. ⌜ PlannedAs (rows form) (now (s .entry)) (now (c .entry)) wish a ⌝ }
+pub fn choose(form: Form, t: Track, wish: bool, s: &[u64], k: Chunk, ws: &[u64], x: &[u64]) -> Plan
+    requires { ⌜ ReadOfOne (rows form) t (now s) k (now ws) (now x) ⌝ }
+    ensures { λ a. ⌜ OfEach (rows form) t (now (s .entry)) k (now (ws .entry)) (now (x .entry))
+        (λ c. PlannedAs (rows form) (now (s .entry)) c wish a) ⌝ }
 {
-    if may_delta(form, t, wish, s, c, k, ws, x) {
-        let d = properties::block_size(form, t, true, s, c, k, ws, x);
+    let p = k.prft;
+    if may_delta(wish, s, p) {
+        let d = properties::block_size(form, t, true, s, k, ws, x);
         if d.fits {
             return Plan {
                 fits: true,
@@ -65,7 +50,7 @@ pub fn choose(
             };
         }
     }
-    let f = properties::block_size(form, t, false, s, c, k, ws, x);
+    let f = properties::block_size(form, t, false, s, k, ws, x);
     Plan {
         fits: f.fits,
         delta: false,
@@ -83,20 +68,9 @@ fn header_of(delta: bool) -> u64
 }
 
 // The bytes before the payload.
-pub fn front_length(
-    form: Form,
-    t: Track,
-    wish: bool,
-    a: Plan,
-    s: &[u64],
-    c: &[u8],
-    k: Chunk,
-    ws: &[u64],
-    x: &[u64],
-) -> usize
-    requires { ⌜ Encodable (rows form) t (now s) (now c) k (now ws) (now x) ⌝ }
-    requires { ⌜ PlannedAs (rows form) (now s) (now c) wish a × (a .fits ≡ true) ⌝ }
-    ensures { λ n. ⌜ n ≡ length (front (rows form) (now (s .entry)) (now (c .entry)) wish) ⌝ }
+pub fn front_length(form: Form, a: Plan) -> usize
+    requires { ⌜ a .block ≤ weightMost ⌝ }
+    ensures { λ n. ⌜ n ≡ frontBytes (rows form) a ⌝ }
 {
     wire::varint::size(form, header_of(a.delta))
         + (wire::varint::size(form, a.block as u64) + a.block)
@@ -106,7 +80,6 @@ pub fn front_length(
 pub fn put_front(
     form: Form,
     t: Track,
-    wish: bool,
     a: Plan,
     s: &[u64],
     c: &[u8],
@@ -116,9 +89,9 @@ pub fn put_front(
     out: &mut [u8],
 ) -> usize
     requires { ⌜ Encodable (rows form) t (now s) (now c) k (now ws) (now x) ⌝ }
-    requires { ⌜ PlannedAs (rows form) (now s) (now c) wish a × (a .fits ≡ true) ⌝ }
-    requires { ⌜ length (front (rows form) (now s) (now c) wish) ≤ length (now out) ⌝ }
-    ensures { λ n. ⌜ Wrote (now (out .entry)) 0 (front (rows form) (now (s .entry)) (now (c .entry)) wish)
+    requires { ⌜ Sendable (rows form) (now s) (now c) a ⌝ }
+    requires { ⌜ length (objectOf (rows form) (now s) (now c) (a .delta)) ≤ length (now out) ⌝ }
+    ensures { λ n. ⌜ Wrote (now (out .entry)) 0 (objectOf (rows form) (now (s .entry)) (now (c .entry)) (a .delta))
         (now (out .exit)) n ⌝ }
 {
     let h = wire::varint::put(form, out, 0, header_of(a.delta));

@@ -2,14 +2,18 @@
 // Letters: `t` the track, `s` the words of a share, `c` a chunk's bytes, `k` what was read of a chunk, `x` the words of the new set.
 ghost use mathlib.Core.Path.{_≡_};
 ghost use mathlib.Core.Bool.{true};
-ghost use Prim.Native.Nat.{_+_};
+ghost use mathlib.Core.List.{List};
+ghost use Prim.Native.Nat.{ℕ, _+_, _-_, _≤_};
+ghost use lib.ListN.{length};
 ghost use Rattle.wire.specs.Form.{rows};
 ghost use Rattle.laws.specs.Options.{isSome};
 ghost use Rattle.constants.specs.Maxima.{brandBytesMost, eventBytesMost};
-ghost use Rattle.cmaf_read_chunk.specs.Accepted.{brands, events};
+ghost use Rattle.cmaf_read_shape.specs.Parts.{endOf};
+ghost use Rattle.locmaf_write_events.specs.Records.{AllWords, sentOf};
 ghost use Rattle.locmaf_write_tuples.specs.Items.{pairMost, weightMost, WeighedAs, RoomFor, WroteItems};
 ghost use Rattle.encoder.specs.Object.{brandItems, eventItems, blockItems};
-ghost use Rattle.encoder.specs.Planned.{Encodable, Held};
+ghost use Rattle.encoder.specs.Planned.{BrandBytes, brandsAt, Recorded, Encodable, ReadOfOne, OfEach, Held};
+use byte_parts::Part;
 use cmaf_read_chunk::read::Chunk;
 use constants::ids;
 use field_table::lines;
@@ -25,46 +29,26 @@ use wire::form::Form;
 
 // ---- id 23: the brands of a styp without its minor version
 
-fn brands_size(
-    form: Form,
-    t: Track,
-    delta: bool,
-    s: &[u64],
-    c: &[u8],
-    k: Chunk,
-    ws: &[u64],
-    x: &[u64],
-) -> Weight
-    requires { ⌜ Encodable (rows form) t (now s) (now c) k (now ws) (now x) ⌝ }
-    ensures { λ w. ⌜ WeighedAs (rows form) (brandItems delta (brands (now (c .entry))))
-        (pairMost + brandBytesMost) w ⌝ }
+// What brands of a `styp` with a body of n bytes take, whichever they are.
+fn brands_size(form: Form, delta: bool, n: usize) -> Weight
+    requires { ⌜ BrandBytes n ⌝ }
+    ensures { λ w. ⌜ ((names : List ℕ) → length names ≡ n - 4
+        → WeighedAs (rows form) (brandItems delta names) (pairMost + brandBytesMost) w) ⌝ }
 {
-    let n = k.brands.len;
     if delta | (n == 0) {
         return tuples::whole(0);
     }
     tuples::whole(tuples::body_size(form, ids::BRANDS, n - 4))
 }
 
-fn put_brands(
-    form: Form,
-    t: Track,
-    delta: bool,
-    s: &[u64],
-    c: &[u8],
-    k: Chunk,
-    ws: &[u64],
-    x: &[u64],
-    out: &mut [u8],
-    at: usize,
-) -> usize
-    requires { ⌜ Encodable (rows form) t (now s) (now c) k (now ws) (now x) ⌝ }
-    requires { ⌜ RoomFor (rows form) (brandItems delta (brands (now c))) (now out) at ⌝ }
-    ensures { λ r. ⌜ WroteItems (rows form) (brandItems delta (brands (now (c .entry))))
+fn put_brands(form: Form, delta: bool, c: &[u8], body: Part, out: &mut [u8], at: usize) -> usize
+    requires { ⌜ BrandBytes (body .len) × (endOf body ≤ length (now c)) ⌝ }
+    requires { ⌜ RoomFor (rows form) (brandItems delta (brandsAt (now c) body)) (now out) at ⌝ }
+    ensures { λ r. ⌜ WroteItems (rows form) (brandItems delta (brandsAt (now (c .entry)) body))
         (now (out .entry)) at (now (out .exit)) r ⌝ }
 {
-    let from = k.brands.at;
-    let n = k.brands.len;
+    let from = body.at;
+    let n = body.len;
     if delta | (n == 0) {
         return at;
     }
@@ -75,57 +59,53 @@ fn put_brands(
 
 // ---- id 25: the events, whole in a delta too
 
-fn events_size(form: Form, t: Track, s: &[u64], c: &[u8], k: Chunk, ws: &[u64], x: &[u64]) -> Weight
-    requires { ⌜ Encodable (rows form) t (now s) (now c) k (now ws) (now x) ⌝ }
-    ensures { λ w. ⌜ WeighedAs (rows form) (eventItems (rows form) (events t (now (c .entry))))
-        (pairMost + eventBytesMost) w ⌝ }
+// What events with a list of so many bytes take, whatever their texts are.
+fn events_size(
+    form: Form,
+    t: Track,
+    bmdt: TrackTicks,
+    ws: &[u64],
+    count: usize,
+    list: usize,
+) -> Weight
+    requires { ⌜ AllWords (now ws) count × (list ≤ eventBytesMost) ⌝ }
+    ensures { λ w. ⌜ ((c : List ℕ) → Recorded (rows form) t (bmdt .0) c (now (ws .entry)) count list
+        → WeighedAs (rows form) (eventItems (rows form) (sentOf t (bmdt .0) c (now (ws .entry)) count))
+        (pairMost + eventBytesMost) w) ⌝ }
 {
-    if k.events == 0 {
+    if count == 0 {
         return tuples::whole(0);
     }
     Weight {
-        fits: locmaf_write_events::records::times_fit(
-            form,
-            t,
-            TrackTicks(x[lines::BMDT]),
-            ws,
-            k.events,
-        ),
-        bytes: tuples::body_size(form, ids::EVENTS, k.list),
+        fits: locmaf_write_events::records::times_fit(form, t, bmdt, ws, count),
+        bytes: tuples::body_size(form, ids::EVENTS, list),
     }
 }
 
 fn put_events(
     form: Form,
     t: Track,
-    s: &[u64],
+    bmdt: TrackTicks,
     c: &[u8],
-    k: Chunk,
     ws: &[u64],
-    x: &[u64],
+    count: usize,
+    list: usize,
     out: &mut [u8],
     at: usize,
 ) -> usize
-    requires { ⌜ Encodable (rows form) t (now s) (now c) k (now ws) (now x) ⌝ }
-    requires { ⌜ isSome (eventItems (rows form) (events t (now c))) ≡ true ⌝ }
-    requires { ⌜ RoomFor (rows form) (eventItems (rows form) (events t (now c))) (now out) at ⌝ }
-    ensures { λ r. ⌜ WroteItems (rows form) (eventItems (rows form) (events t (now (c .entry))))
+    requires { ⌜ Recorded (rows form) t (bmdt .0) (now c) (now ws) count list ⌝ }
+    requires { ⌜ isSome (eventItems (rows form) (sentOf t (bmdt .0) (now c) (now ws) count)) ≡ true ⌝ }
+    requires { ⌜ RoomFor (rows form) (eventItems (rows form) (sentOf t (bmdt .0) (now c) (now ws) count))
+        (now out) at ⌝ }
+    ensures { λ r. ⌜ WroteItems (rows form)
+        (eventItems (rows form) (sentOf t (bmdt .0) (now (c .entry)) (now (ws .entry)) count))
         (now (out .entry)) at (now (out .exit)) r ⌝ }
 {
-    if k.events == 0 {
+    if count == 0 {
         return at;
     }
-    let a = tuples::put_head(form, ids::EVENTS, k.list, out, at);
-    locmaf_write_events::records::put_records(
-        form,
-        t,
-        TrackTicks(x[lines::BMDT]),
-        c,
-        ws,
-        k.events,
-        out,
-        a,
-    )
+    let a = tuples::put_head(form, ids::EVENTS, list, out, at);
+    locmaf_write_events::records::put_records(form, t, bmdt, c, ws, count, out, a)
 }
 
 // ---- all of them
@@ -135,15 +115,14 @@ pub fn block_size(
     t: Track,
     delta: bool,
     s: &[u64],
-    c: &[u8],
     k: Chunk,
     ws: &[u64],
     x: &[u64],
 ) -> Weight
-    requires { ⌜ Encodable (rows form) t (now s) (now c) k (now ws) (now x) ⌝ }
+    requires { ⌜ ReadOfOne (rows form) t (now s) k (now ws) (now x) ⌝ }
     requires { ⌜ Held delta (now s) ⌝ }
-    ensures { λ w. ⌜ WeighedAs (rows form) (blockItems (rows form) (now (s .entry)) (now (c .entry)) delta)
-        weightMost w ⌝ }
+    ensures { λ w. ⌜ OfEach (rows form) t (now (s .entry)) k (now (ws .entry)) (now (x .entry))
+        (λ c. WeighedAs (rows form) (blockItems (rows form) (now (s .entry)) c delta) weightMost w) ⌝ }
 {
     let r = &s[share::SET..];
     let p = k.prft;
@@ -151,10 +130,10 @@ pub fn block_size(
     let fields = set::set_size(form, t, b, r, x);
     let times = prft::times_size(form, delta, p, s);
     let version = prft::version_size(form, delta, p, s);
-    let names = brands_size(form, t, delta, s, c, k, ws, x);
+    let names = brands_size(form, delta, k.brands.len);
     let flags = prft::flags_size(form, delta, p, s);
-    let happened = events_size(form, t, s, c, k, ws, x);
-    let gone = deletions::deletions_size(form, t, b, r, x);
+    let happened = events_size(form, t, TrackTicks(x[lines::BMDT]), ws, k.events, k.list);
+    let gone = deletions::deletions_size(form, b, r, x);
     let last = tuples::both(flags, tuples::both(happened, gone));
     tuples::both(
         fields,
@@ -187,8 +166,18 @@ pub fn put_block(
     let u = set::put_set(form, t, b, r, x, out, at);
     let v = prft::put_times(form, delta, p, s, out, u);
     let w = prft::put_version(form, delta, p, s, out, v);
-    let y = put_brands(form, t, delta, s, c, k, ws, x, out, w);
+    let y = put_brands(form, delta, c, k.brands, out, w);
     let z = prft::put_flags(form, delta, p, s, out, y);
-    let e = put_events(form, t, s, c, k, ws, x, out, z);
-    deletions::put_deletions(form, t, b, r, x, out, e)
+    let e = put_events(
+        form,
+        t,
+        TrackTicks(x[lines::BMDT]),
+        c,
+        ws,
+        k.events,
+        k.list,
+        out,
+        z,
+    );
+    deletions::put_deletions(form, b, r, x, out, e)
 }

@@ -124,7 +124,7 @@ module _ (C : Codec) (m : DemandTwoFresh C) where
 
   -- the encoder's share has the parameters still, and a reference
   rest : List ℕ
-  rest = drop 8 (kept F true (example 0x77 1) (first 1 .room) s₀)
+  rest = drop acceptedAt (kept F true (example 0x77 1) (first 1 .room) s₀)
 
   after-words : s₁ ≡ with rest
   unfolding kept keptWords rest

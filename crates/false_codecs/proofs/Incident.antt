@@ -14,8 +14,8 @@ use Rattle.wire.specs.Varint.{readF}
 use Rattle.wire.specs.Zigzag.{reached, ranged, unzigzag}
 use Rattle.media.specs.Flags.{wideOf}
 use Rattle.track.specs.Track.{lawful}
-use Rattle.field_set.specs.Lawful.{inUse, has, valuesOf, sameIvSize, lawful as lawfulSet, regionsOk, marksOf, regionOk, saizOk, setRules}
-use Rattle.field_table.specs.Lines.{lineFor, lineNumber, absentValue, wanted, lines, every}
+use Rattle.field_set.specs.Lawful.{inUse, has, valuesOf, sameIvSize, lawful as lawfulSet, regionsOk, regionOk, saizOk, setRules}
+use Rattle.field_table.specs.Lines.{lineFor, lineNumber, absentValue, wanted, lines, marksOf, every}
 use Rattle.told_sizes.specs.Told.{mayHave, sizesAgree, samplesAgree, toldSum}
 use Rattle.share_words.specs.Share.{shareLen, heldAt, dropped}
 use Rattle.slots.specs.Share.{askedOf, openOk, lawful as lawfulShare, setOk, referenceOk, prftOk, opened, isOpen}

@@ -14,6 +14,12 @@ use Rattle.field_rules.specs.Fields.{codingOf, isIvs}
 pub absent-is : (a : Absent) {b : Absent} (t : Track) → b ≡ a → absentValue t a ≡ absentValue t b
 absent-is a t e = rw e
 
+pub ivs-is : (v : Want) {w : Want} → w ≡ v → isIvs v ≡ isIvs w
+ivs-is v e = rw e
+
+pub coding-is : (coding : Coding) (v : Absent) {a : Absent} → a ≡ v → codingOf coding v ≡ codingOf coding a
+coding-is coding v e = rw e
+
 -- ---- what is none of some variants
 pub ivs-not : (w : Want) → (w ≡ Ivs → ⊥) → false ≡ isIvs w
 ivs-not One n = refl

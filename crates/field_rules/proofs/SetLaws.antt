@@ -17,8 +17,8 @@ use Rattle.laws.proofs.SliceLaws.{slice-between}
 use Rattle.laws.proofs.TestLaws.{left, right, both, allZero-zeros}
 use Rattle.field_table.specs.declared.lines.Line.{Line}
 use Rattle.field_table.specs.declared.lines.Measure.{Measure}
-use Rattle.field_table.specs.Lines.{lines, spare, lineFor, lineNumber, setLen, wanted, sizesAt, subsamplesAt, firstFlagsAt, lineCount, subsamplesLine}
-use Rattle.field_set.specs.Lawful.{has, inUse, valuesOf, marksOf, regionOk, regionsOk}
+use Rattle.field_table.specs.Lines.{lines, spare, lineFor, lineNumber, marksOf, setLen, wanted, sizesAt, subsamplesAt, firstFlagsAt, lineCount, subsamplesLine}
+use Rattle.field_set.specs.Lawful.{has, inUse, valuesOf, regionOk, regionsOk}
 use Rattle.field_table.proofs.LineLaws.{tiles, tiled, line-count}
 use Rattle.field_set.proofs.RegionLaws.{unused, used}
 use Rattle.laws.specs.Options.{isSome}

@@ -16,8 +16,8 @@ use Rattle.track.specs.declared.Track.{Track}
 use Rattle.field_table.specs.declared.lines.Line.{Line}
 use Rattle.field_table.specs.declared.lines.Measure.{Measure}
 use Rattle.field_set.specs.declared.lawful.Tally.{Tally}
-use Rattle.field_table.specs.Lines.{every, lines, spare, lineFor, wanted, bmdtAt, countAt, subsamplesAt, ivSizeAt, lineCount}
-use Rattle.field_set.specs.Lawful.{has, inUse, valuesOf, marksOf, regionOk, regionsOk, saizOk, setRules, sameIvSize, measureOf, lawful, TallyOf}
+use Rattle.field_table.specs.Lines.{every, lines, marksOf, spare, lineFor, wanted, bmdtAt, countAt, subsamplesAt, ivSizeAt, lineCount}
+use Rattle.field_set.specs.Lawful.{has, inUse, valuesOf, regionOk, regionsOk, saizOk, setRules, sameIvSize, measureOf, lawful, TallyOf}
 use Rattle.field_table.proofs.LineLaws.{line-count, every-at}
 use Rattle.field_set.proofs.TallyLaws.{saiz-is}
 
@@ -48,15 +48,11 @@ module _ (t : Track) (w : List ℕ) where
   unfolding lawful _and_
   many-samples h = rw (lt-leb (getD w countAt 0) samplesMost h)
 
-  module _ (few : getD w countAt 0 ≤ samplesMost) (iv : t .«iv_size» ≤ 16) (u : ℕ) (eu : u ≡ inUse (getD w subsamplesAt 0) (getD w countAt 0))
-      (c : Tally) (ec : TallyOf c ((entryMost - 2 - t .«iv_size») / 6) (slice (subsamplesAt + 1) ((subsamplesAt + 1) + u) w)) where
-    -- the tallied words are the subsample counts
-    counted : slice (subsamplesAt + 1) ((subsamplesAt + 1) + u) w ≡ valuesOf 11 (getD w countAt 0) w
-    counted = rw eu (sym (counts-are (getD w countAt 0) w))
-
-    -- their tally tests what `saiz` asks
+  module _ (few : getD w countAt 0 ≤ samplesMost) (iv : t .«iv_size» ≤ 16) (c : Tally)
+      (ec : TallyOf c ((entryMost - 2 - t .«iv_size») / 6) (valuesOf 11 (getD w countAt 0) w)) where
+    -- the tally of the subsample counts tests what `saiz` asks
     tested : c .ok ≡ saizOk (t .«iv_size») (valuesOf 11 (getD w countAt 0) w)
-    tested = ec .within ∙ rw counted (sym (saiz-is (t .«iv_size») (valuesOf 11 (getD w countAt 0) w) (omega arith)))
+    tested = ec .within ∙ sym (saiz-is (t .«iv_size») (valuesOf 11 (getD w countAt 0) w) (omega arith))
 
     -- too many subsamples in one sample
     pub many-subsamples : not (c .ok) ≡ true → false ≡ lawful t w
@@ -71,7 +67,7 @@ module _ (t : Track) (w : List ℕ) where
         → (leb (getD w bmdtAt 0) numberMost && (leb (c .sum) subsamplesMost && ((a && z) && b))) ≡ lawful t w
     unfolding lawful _and_
     lawful-rest h a z b ea ez eb =
-        let n : c .sum ≡ sum (valuesOf 11 (getD w countAt 0) w) = ec .total (held refl h) ∙ ap sum counted in
+        let n : c .sum ≡ sum (valuesOf 11 (getD w countAt 0) w) = ec .total (held refl h) in
         rw (ea, ez, eb, n, le-leb (getD w countAt 0) samplesMost few, held tested h)
         (ap (λ (x : Bool). leb (getD w bmdtAt 0) numberMost && (leb (sum (valuesOf 11 (getD w countAt 0) w)) subsamplesMost && x))
         (last-two (regionsOk (measureOf t w) lines w) (sameIvSize t w) (setRules t (getD w countAt 0) (marksOf w))))

@@ -9,8 +9,8 @@ use lib.ListN.{getD}
 use Rattle.laws.proofs.TestLaws.{left, right, neither}
 use Rattle.track.specs.declared.Track.{Track}
 use Rattle.track.specs.Track.{none}
-use Rattle.field_table.specs.Lines.{lines, lineFor, lineNumber, countAt}
-use Rattle.field_set.specs.Lawful.{has, marksOf, setRules, lawful}
+use Rattle.field_table.specs.Lines.{lines, lineFor, lineNumber, marksOf, countAt}
+use Rattle.field_set.specs.Lawful.{has, setRules, lawful}
 use Rattle.field_set.proofs.LawfulLaws.{lawful-facts}
 
 implied : (a b : Bool) → (not a || not b) ≡ true → a ≡ true → b ≡ false

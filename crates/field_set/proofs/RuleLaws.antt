@@ -9,8 +9,8 @@ use lib.ListN.{getD}
 use Rattle.laws.proofs.TestLaws.{left, right, alike}
 use Rattle.track.specs.declared.Track.{Track}
 use Rattle.track.specs.Track.{cenc}
-use Rattle.field_table.specs.Lines.{lines, lineFor, lineNumber, countAt}
-use Rattle.field_set.specs.Lawful.{has, marksOf, lawful, setRules}
+use Rattle.field_table.specs.Lines.{lines, lineFor, lineNumber, marksOf, countAt}
+use Rattle.field_set.specs.Lawful.{has, lawful, setRules}
 use Rattle.field_set.proofs.LawfulLaws.{lawful-facts}
 
 -- which fields stand in a set of n samples

@@ -2,7 +2,7 @@
 use Prim.Native.Nat.{ℕ, _+_, _*_, _/_, _≤_, _<_}
 use mathlib.Core.Path.{_≡_}
 use mathlib.Core.Bool.{Bool, true, cond, not, _&&_, _||_, Bool·beq}
-use mathlib.Core.List.{List, [], _∷_, map}
+use mathlib.Core.List.{List, [], _∷_}
 use lib.Dec.{eqb, leb}
 use lib.ListN.{getD}
 use lib.Seq.{slice}
@@ -13,7 +13,7 @@ use Rattle.track.specs.Track.{none, cenc}
 use Rattle.field_table.specs.declared.lines.Line.{Line}
 use Rattle.field_table.specs.declared.lines.Measure.{Measure}
 use Rattle.field_set.specs.declared.lawful.Tally.{Tally}
-use Rattle.field_table.specs.Lines.{lines, placeOf, lineFor, lineNumber, wanted, bmdtAt, countAt, lineCount}
+use Rattle.field_table.specs.Lines.{lines, placeOf, lineFor, lineNumber, marksOf, wanted, bmdtAt, countAt, lineCount}
 
 -- ==== The rules
 
@@ -57,10 +57,6 @@ module _ (m : Measure) where
 unfoldable pub saizOk : ℕ → List ℕ → Bool
 saizOk iv [] = true
 saizOk iv (c ∷ cs) = leb (iv + (2 + 6 * c)) entryMost and saizOk iv cs
-
--- the marks of the fields, in the order of the table
-unfoldable pub marksOf : List ℕ → List ℕ
-marksOf w = map (λ l. getD w (l .place) 0) lines
 
 -- 01: "Resulting set, full or delta: with no samples no lists, 9 or 12; with one, neither 1 nor 6; never 1 with 6 or 7 with 12; 11, 13 and
 -- 15 together, only on protected tracks; 9 exactly on cenc with samples; with several and neither 1 nor 6, trex size not 0." (D97, D99, D100, D101, D106)

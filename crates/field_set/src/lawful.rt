@@ -8,10 +8,11 @@ ghost use lib.ListN.{length, getD};
 ghost use lib.Seq.{slice};
 ghost use Rattle.constants.specs.Maxima.{samplesMost, entryMost};
 ghost use Rattle.field_table.specs.Lines.{lines, setLen, lineCount, subsamplesAt, Small};
-ghost use Rattle.field_set.specs.Lawful.{TallyOf, marksOf, regionsOk, setRules, sameIvSize, valuesOf, measureOf, inUse, lawful};
+ghost use Rattle.field_set.specs.Lawful.{TallyOf, regionsOk, setRules, sameIvSize, valuesOf, measureOf, inUse, lawful};
 use constants::maxima;
 use field_table::lines;
 use field_table::lines::Measure;
+use field_table::marks::marks_of;
 use field_table::order;
 use track::Track;
 use word_spans::scan;
@@ -47,29 +48,6 @@ fn in_use(mark: u64, k: usize) -> usize
     ensures { λ r. ⌜ (r ≡ inUse mark k) × (r ≤ k) ⌝ }
 {
     if mark == 0 { 0 } else { k }
-}
-
-// The marks of the fields, in the order of the lines.
-pub fn marks_of(w: &[u64]) -> [u64; lines::LINES]
-    requires { ⌜ length (now w) ≡ setLen ⌝ }
-    ensures { λ r. ⌜ r ≡ marksOf (now (w .entry)) ⌝ }
-{
-    [
-        w[lines::SIZES],
-        w[lines::DESCRIPTION],
-        w[lines::DURATIONS],
-        w[lines::DURATION],
-        w[lines::OFFSETS],
-        w[lines::SIZE],
-        w[lines::FLAGS],
-        w[lines::DEFAULT_FLAGS],
-        w[lines::IVS],
-        w[lines::SUBSAMPLES],
-        w[lines::FIRST_FLAGS],
-        w[lines::CLEAR],
-        w[lines::PROTECTED],
-        w[lines::IV_SIZE],
-    ]
 }
 
 // Whether the regions of all lines are lawful. A field that doesn't stand has no word in use, so the words between two fields that stand are one
@@ -180,17 +158,14 @@ pub fn is_lawful(t: Track, w: &[u64]) -> bool
     if n > maxima::SAMPLES as u64 {
         return false;
     }
-    let iv = t.iv_size as u64;
     let count = n as usize;
-    let counted = in_use(w[lines::SUBSAMPLES], count);
-    let from = lines::SUBSAMPLES + 1;
-    let c = tallied(w, from, from + counted, (PAIRS - iv) / 6);
+    let c = tally_of(t, w, w[lines::SUBSAMPLES], count);
     if !c.ok {
         return false;
     }
     let m = Measure {
         count,
-        ivs: (iv / 8) as usize,
+        ivs: (t.iv_size / 8) as usize,
         sum: c.sum,
     };
     (w[lines::BMDT] <= maxima::NUMBER)

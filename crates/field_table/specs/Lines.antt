@@ -124,6 +124,10 @@ unfoldable pub lineNumber : ℕ → List Line → ℕ
 lineNumber id [] = 0
 lineNumber id (l ∷ ls) = cond (eqb (l .id) id) 0 (suc (lineNumber id ls))
 
+-- the marks of the fields in the words of a set, in the order of the table
+unfoldable pub marksOf : List ℕ → List ℕ
+marksOf w = map (λ l. getD w (l .place) 0) lines
+
 -- a test that every line of a run of the table passes
 unfoldable pub every : (Line → Bool) → List Line → Bool
 every p [] = true

@@ -10,6 +10,7 @@ use borrow.Author.Tests.{eq-eqb, ne-eqb}
 use lib.Dec.{eqb, leb}
 use lib.ListN.{length, getD, set, take, drop, take-append-drop, length-drop, length-append}
 use lib.Seq.{slice, slice-cons, sets, length-sets, length-take-le, getD-drop, getD-take, getD-set-other, take-at, drop-at}
+use borrow.Rule.Slice.PartMut.{midOf, putMid, mid-len}
 use Rattle.laws.specs.Tests.{_and_, noZero}
 use Rattle.laws.proofs.SliceLaws.{slice-none, take-slice, slice-to-end}
 use Rattle.laws.proofs.StoreLaws.{sets-after, sets-before}
@@ -20,7 +21,7 @@ use Rattle.media.specs.declared.clocks.TrackTicks.{TrackTicks}
 use Rattle.media.specs.declared.clocks.TrackTime.{TrackTime}
 use Rattle.media.specs.declared.clocks.TrackTime.the-variants.{At, Outside}
 use Rattle.media.specs.Clocks.{onTrack}
-use Rattle.event_value.specs.Events.{part, Inside, EventFits, EventsFit, eventsLen, eventSchemeLen, eventValue, eventValueLen, eventTimescale, eventTime, eventDuration, eventId}
+use Rattle.event_value.specs.Events.{part, Inside, EventFits, EventsFit, eventWords, eventsLen, eventScheme, eventSchemeLen, eventValue, eventValueLen, eventTimescale, eventTime, eventDuration, eventId}
 use Rattle.locmaf_read_events.specs.Events.{fromBmdt, onClock, rebuilt, timed, eventOk, eventsOk, allRebuilt, EventRead, EventsRead}
 
 -- ---- bytes that are not 0
@@ -46,39 +47,35 @@ module _ (o : List ℕ) (from to : ℕ) where
     unfolding noZero
     look-end le = let s : slice i to o ≡ [] = slice-none i to o le in sym (and-end ok) ∙ rw s at (h .rest)
 
--- ---- one event, whose words stand from the place p on
+-- ---- one event, by its words
+
+module _ (t : Track) (bmdt : ℕ) (e : List ℕ) where
+  -- on its own clock it stays
+  pub own-clock : (getD e eventTimescale 0 ≡ 0 → ⊥) → (true ≡ timed bmdt e) × (e ≡ rebuilt t bmdt e)
+  unfolding timed rebuilt onClock
+  own-clock h = (rw (ne-eqb _ _ h), rw (ne-eqb _ _ h))
+
+  module _ (zero : getD e eventTimescale 0 ≡ 0) where
+    -- its time is below 0
+    pub time-outside : Outside ≡ fromBmdt bmdt (getD e eventTime 0) → (false ≡ timed bmdt e) × (e ≡ rebuilt t bmdt e)
+    unfolding timed rebuilt onClock
+    time-outside q = (rw (eq-eqb _ _ zero, ← q), rw (eq-eqb _ _ zero, ← q))
+
+    -- its time is on the track's clock
+    pub time-at : (x : TrackTicks) → At x ≡ fromBmdt bmdt (getD e eventTime 0)
+        → (true ≡ timed bmdt e) × (set (set e eventTimescale (t .timescale)) eventTime (x .0) ≡ rebuilt t bmdt e)
+    unfolding timed rebuilt onClock
+    time-at x q = (rw (eq-eqb _ _ zero, ← q), rw (eq-eqb _ _ zero, ← q))
+
+-- ---- among the words of all events, from the place p on
 
 module _ (t : Track) (bmdt : ℕ) (ws : List ℕ) (p : ℕ) where
-  here : {A : Type 0} (track : TrackTicks → A) (outside own : A)
-      → onClock bmdt (drop p ws) track outside own ≡ cond (eqb (getD ws (p + eventTimescale) 0) 0) (onTrack (fromBmdt bmdt (getD ws (p + eventTime) 0)) track outside) own
-  unfolding onClock
-  here track outside own = rw (getD-drop p ws eventTimescale 0, getD-drop p ws eventTime 0)
-
   -- words stored from its timescale on
   put-at : (vs : List ℕ) → p ≤ length ws → sets ws (p + 4) vs ≡ take p ws ++ sets (drop p ws) 4 vs
   put-at vs h =
       ap (λ (l : List ℕ). sets l (p + 4) vs) (sym (take-append-drop p ws))
       ∙ ap (λ (n : ℕ). sets (take p ws ++ drop p ws) (n + 4) vs) (sym (length-take-le p ws h))
       ∙ sets-after vs (take p ws) (drop p ws) 4
-
-  -- on its own clock it stays
-  pub own-clock : (getD ws (p + eventTimescale) 0 ≡ 0 → ⊥) → (true ≡ timed bmdt (drop p ws)) × (ws ≡ take p ws ++ rebuilt t bmdt (drop p ws))
-  unfolding timed rebuilt
-  own-clock h = (rw (here, ne-eqb _ _ h), rw (here, ne-eqb _ _ h) (sym (take-append-drop p ws)))
-
-  module _ (zero : getD ws (p + eventTimescale) 0 ≡ 0) where
-    -- its time is below 0
-    pub time-outside : Outside ≡ fromBmdt bmdt (getD ws (p + eventTime) 0) → (false ≡ timed bmdt (drop p ws)) × (ws ≡ take p ws ++ rebuilt t bmdt (drop p ws))
-    unfolding timed rebuilt
-    time-outside e = (rw (here, eq-eqb _ _ zero, ← e), rw (here, eq-eqb _ _ zero, ← e) (sym (take-append-drop p ws)))
-
-    -- its time is on the track's clock
-    pub time-at : (x : TrackTicks) → At x ≡ fromBmdt bmdt (getD ws (p + eventTime) 0) → p + 10 ≤ length ws
-        → (true ≡ timed bmdt (drop p ws)) × (set (set ws (p + 4) (t .timescale)) (p + 5) (x .0) ≡ take p ws ++ rebuilt t bmdt (drop p ws))
-    unfolding timed rebuilt
-    time-at x e h =
-        let q : p + 5 ≡ suc (p + 4) = omega arith in
-        (rw (here, eq-eqb _ _ zero, ← e), rw (here, eq-eqb _ _ zero, ← e, q) (put-at (t .timescale ∷ x .0 ∷ []) (omega arith)))
 
   -- every other word stays
   kept : p ≤ length ws → (j : ℕ) → (j ≡ p + 4 → ⊥) → (j ≡ p + 5 → ⊥) → getD (take p ws ++ rebuilt t bmdt (drop p ws)) j 0 ≡ getD ws j 0
@@ -99,40 +96,25 @@ text-is : (o : List ℕ) (a n : ℕ) → Inside o a n → slice a (a + n) o ≡ 
 text-is o a n h =
     sym (ap (take n) (sym (slice-to-end a (length o) o refl)) ∙ take-slice a (length o) n o (h .within) (omega arith))
 
-module _ (bmdt : ℕ) (o ws : List ℕ) (p : ℕ) where
+module _ (bmdt : ℕ) (o e : List ℕ) where
   -- its tests, as code makes them
-  pub event-is : (timely scheme value : Bool) → timely ≡ timed bmdt (drop p ws)
-      → scheme ≡ noZero (slice (getD ws p 0) (getD ws p 0 + getD ws (p + eventSchemeLen) 0) o)
-      → value ≡ noZero (slice (getD ws (p + eventValue) 0) (getD ws (p + eventValue) 0 + getD ws (p + eventValueLen) 0) o)
-      → Inside o (getD ws p 0) (getD ws (p + eventSchemeLen) 0) → Inside o (getD ws (p + eventValue) 0) (getD ws (p + eventValueLen) 0)
-      → (timely && ((scheme && value) && (leb (getD ws (p + eventTimescale) 0) u32 && (leb (getD ws (p + eventDuration) 0) u32 && leb (getD ws (p + eventId) 0) u32))))
-      ≡ eventOk bmdt o (drop p ws)
+  pub event-is : (timely scheme value : Bool) → timely ≡ timed bmdt e
+      → scheme ≡ noZero (slice (getD e eventScheme 0) (getD e eventScheme 0 + getD e eventSchemeLen 0) o)
+      → value ≡ noZero (slice (getD e eventValue 0) (getD e eventValue 0 + getD e eventValueLen 0) o)
+      → Inside o (getD e eventScheme 0) (getD e eventSchemeLen 0) → Inside o (getD e eventValue 0) (getD e eventValueLen 0)
+      → (timely && ((scheme && value) && (leb (getD e eventTimescale 0) u32 && (leb (getD e eventDuration 0) u32 && leb (getD e eventId 0) u32))))
+      ≡ eventOk bmdt o e
   unfolding eventOk _and_
   event-is timely scheme value a b c i j =
-      let z : getD (drop p ws) 0 0 ≡ getD ws p 0 = getD-drop p ws 0 0 ∙ ap (λ (n : ℕ). getD ws n 0) (add-zero p) in
-      let b′ : scheme ≡ noZero (part o (getD ws p 0) (getD ws (p + eventSchemeLen) 0)) = b ∙ ap noZero (text-is o _ _ i) in
-      let c′ : value ≡ noZero (part o (getD ws (p + eventValue) 0) (getD ws (p + eventValueLen) 0)) = c ∙ ap noZero (text-is o _ _ j) in
-      rw (a, b′, c′, z, getD-drop p ws eventSchemeLen 0, getD-drop p ws eventValue 0, getD-drop p ws eventValueLen 0, getD-drop p ws eventTimescale 0, getD-drop p ws eventDuration 0, getD-drop p ws eventId 0)
+      let b′ : scheme ≡ noZero (part o (getD e eventScheme 0) (getD e eventSchemeLen 0)) = b ∙ ap noZero (text-is o _ _ i) in
+      let c′ : value ≡ noZero (part o (getD e eventValue 0) (getD e eventValueLen 0)) = c ∙ ap noZero (text-is o _ _ j) in
+      rw (a, b′, c′)
 
 -- ---- an event is its first ten words
 
 module _ (bmdt n : ℕ) (e : List ℕ) (h : 8 ≤ n) where
   cut-at : (i : ℕ) → i < 8 → getD (take n e) i 0 ≡ getD e i 0
   cut-at i lt = getD-take n e i 0 (omega arith)
-
-  cut-ok : (o : List ℕ) → eventOk bmdt o (take n e) ≡ eventOk bmdt o e
-  unfolding eventOk timed onClock
-  cut-ok o =
-      rw (
-        cut-at 0 (omega arith),
-        cut-at eventSchemeLen (omega arith),
-        cut-at eventValue (omega arith),
-        cut-at eventValueLen (omega arith),
-        cut-at eventTimescale (omega arith),
-        cut-at eventTime (omega arith),
-        cut-at eventDuration (omega arith),
-        cut-at eventId (omega arith),
-      )
 
   module _ (t : Track) where
     pub length-rebuilt : length (rebuilt t bmdt e) ≡ length e
@@ -190,6 +172,28 @@ after-one t bmdt n ws p after h l e =
       long = omega (arith, ap length w, length-append (take p ws ++ R) D, length-drop n (drop p ws), length-drop p ws);
     }
 
+-- ---- the words of one event as they are lent
+
+module _ (o ws : List ℕ) (i : ℕ) (f : EventFits o ws i) where
+  abbrev lent : List ℕ
+  lent = midOf (eventWords * i) (eventWords * i + eventWords - eventWords * i) ws
+
+  word : (j : ℕ) → j < eventWords → getD lent j 0 ≡ getD ws (eventWords * i + j) 0
+  word j lt =
+      getD-take (eventWords * i + eventWords - eventWords * i) (drop (eventWords * i) ws) j 0 (omega arith) ∙ getD-drop (eventWords * i) ws j 0
+
+  first : getD lent 0 0 ≡ getD ws (eventWords * i) 0
+  first = word 0 (omega arith) ∙ ap (λ (n : ℕ). getD ws n 0) (add-zero (eventWords * i))
+
+  pub lent-long : eventWords ≤ length lent
+  lent-long = omega (arith, mid-len (eventWords * i) (eventWords * i + eventWords) ws (f .there))
+
+  pub lent-scheme : Inside o (getD lent eventScheme 0) (getD lent eventSchemeLen 0)
+  lent-scheme = rw (first, word eventSchemeLen (omega arith)) (f .scheme)
+
+  pub lent-value : Inside o (getD lent eventValue 0) (getD lent eventValueLen 0)
+  lent-value = rw (word eventValue (omega arith), word eventValueLen (omega arith)) (f .value)
+
 -- strings and messages stand where they did
 fits-kept : (t : Track) (bmdt : ℕ) (o ws after : List ℕ) (k i : ℕ) → EventsFit o ws k → 10 * i ≤ length ws
     → after ≡ take (10 * i) ws ++ rebuilt t bmdt (drop (10 * i) ws) → length after ≡ length ws → EventsFit o after k
@@ -223,18 +227,24 @@ module _ (t : Track) (bmdt : ℕ) (o ws₀ : List ℕ) (k : ℕ) where
       record { place = omega arith; long = l; fits = f; tests = rw z; words = rw z }
 
   module _ (ws : List ℕ) (ok : Bool) (i : ℕ) (h : Reading t bmdt o ws₀ k ws ok i) where
-    pub read-next : i < k → (r : Bool) (after : List ℕ) → EventRead t bmdt o ws (10 * i) r after → Reading t bmdt o ws₀ k after (ok && r) (i + 1)
+    pub read-next : i < k → (r : Bool) (event : List ℕ) → EventRead t bmdt o (midOf (10 * i) (10 * i + 10 - 10 * i) ws) r event
+        → Reading t bmdt o ws₀ k (putMid (10 * i) (10 * i + 10 - 10 * i) ws event) (ok && r) (i + 1)
     unfolding eventsOk allRebuilt
-    read-next lt r after e =
+    read-next lt r event e =
         let n : k - i ≡ suc (k - (i + 1)) = omega arith in
         let p : 10 * (i + 1) ≡ 10 * i + 10 = omega arith in
+        let q : 10 * i + 10 - 10 * i ≡ 10 = omega arith in
         let l : 10 * i + 10 ≤ length ws = omega (arith, h .long, h .fits .few) in
-        let a = after-one t bmdt 10 ws (10 * i) after (omega arith) l (e .stored) in
-        let c : r ≡ eventOk bmdt o (take 10 (drop (10 * i) ws)) = e .answered ∙ sym (cut-ok bmdt 10 (drop (10 * i) ws) (omega arith) o) in
+        let after : List ℕ = putMid (10 * i) (10 * i + 10 - 10 * i) ws event in
+        let c : r ≡ eventOk bmdt o (take 10 (drop (10 * i) ws)) = rw q at (e .answered) in
+        let w : event ≡ rebuilt t bmdt (take 10 (drop (10 * i) ws)) = rw q at (e .stored) in
+        let s : after ≡ take (10 * i) ws ++ rebuilt t bmdt (drop (10 * i) ws) =
+        rw (q, w, cut-rebuilt bmdt 10 (drop (10 * i) ws) (omega arith) t (omega (arith, length-drop (10 * i) ws))) in
+        let a = after-one t bmdt 10 ws (10 * i) after (omega arith) l s in
         record {
           place = omega arith;
           long = a .long ∙ h .long;
-          fits = fits-kept t bmdt o ws after k i (h .fits) (omega arith) (e .stored) (a .long);
+          fits = fits-kept t bmdt o ws after k i (h .fits) (omega arith) s (a .long);
           tests = and-next ok r _ ∙ rw (c, p, a .rest) (rw n at (h .tests));
           words =
               rw (p, a .done, a .rest)

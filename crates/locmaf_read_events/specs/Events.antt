@@ -56,10 +56,10 @@ unfoldable pub allRebuilt : Track → ℕ → ℕ → List ℕ → List ℕ
 allRebuilt t bmdt zero ws = ws
 allRebuilt t bmdt (suc k) ws = rebuilt t bmdt (take eventWords ws) ++ allRebuilt t bmdt k (drop eventWords ws)
 
--- the event whose words stand from the place p on was answered r and rebuilt
-pub record EventRead (t : Track) (bmdt : ℕ) (o before : List ℕ) (p : ℕ) (r : Bool) (after : List ℕ) : Type 0 where
-  pub answered : r ≡ eventOk bmdt o (drop p before)
-  pub stored : after ≡ take p before ++ rebuilt t bmdt (drop p before)
+-- the event with these words was answered r and rebuilt
+pub record EventRead (t : Track) (bmdt : ℕ) (o before : List ℕ) (r : Bool) (after : List ℕ) : Type 0 where
+  pub answered : r ≡ eventOk bmdt o before
+  pub stored : after ≡ rebuilt t bmdt before
 
 -- the first k events were answered r and rebuilt; their strings and messages stand where they did
 pub record EventsRead (t : Track) (bmdt : ℕ) (o before : List ℕ) (k : ℕ) (r : Bool) (after : List ℕ) : Type 0 where

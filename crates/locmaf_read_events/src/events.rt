@@ -1,11 +1,10 @@
 // The values of the events: a time on the track's clock is a distance from BMDT, one on the event's own clock is carried.
 // Letters: `t` the track, `o` an object's bytes, `k` how many.
 ghost use mathlib.Core.Path.{_≡_};
-ghost use mathlib.Core.List.{_++_};
-ghost use Prim.Native.Nat.{_+_, _≤_};
-ghost use lib.ListN.{length, getD, take, drop};
+ghost use Prim.Native.Nat.{_≤_};
+ghost use lib.ListN.{length, getD};
 ghost use lib.Seq.{slice};
-ghost use Rattle.event_value.specs.Events.{eventWords, eventsLen, eventSchemeLen, eventValue, eventValueLen, Inside, EventsFit};
+ghost use Rattle.event_value.specs.Events.{eventWords, eventsLen, eventScheme, eventSchemeLen, eventValue, eventValueLen, Inside, EventsFit};
 ghost use Rattle.locmaf_read_events.specs.Events.{rebuilt, timed, noZero, EventRead, EventsRead};
 use media::clocks::TrackTicks;
 use media::clocks::TrackTime;
@@ -30,39 +29,39 @@ fn no_zero(o: &[u8], from: usize, to: usize) -> bool
     ok
 }
 
-// The event whose words start at the place p: its timescale and time become those of its box.
-fn rebuild(t: Track, bmdt: TrackTicks, events: &mut [u64], p: usize) -> bool
-    requires { ⌜ p + eventWords ≤ length (now events) ⌝ }
-    ensures { λ r. ⌜ r ≡ timed (bmdt .0) (drop p (now (events .entry))) ⌝ }
-    ensures { λ _. ⌜ now (events .exit)
-        ≡ take p (now (events .entry)) ++ rebuilt t (bmdt .0) (drop p (now (events .entry))) ⌝ }
+// The event's timescale and time become those of its box. Here and below the words are those of one event, so that they are read at constant
+// places.
+fn rebuild(t: Track, bmdt: TrackTicks, event: &mut [u64]) -> bool
+    requires { ⌜ eventWords ≤ length (now event) ⌝ }
+    ensures { λ r. ⌜ r ≡ timed (bmdt .0) (now (event .entry)) ⌝ }
+    ensures { λ _. ⌜ now (event .exit) ≡ rebuilt t (bmdt .0) (now (event .entry)) ⌝ }
 {
-    if events[p + event_value::TIMESCALE] != 0 {
+    if event[event_value::TIMESCALE] != 0 {
         return true;
     }
-    let at = bmdt.reach(Coding::Delta, U64, events[p + event_value::TIME]);
+    let at = bmdt.reach(Coding::Delta, U64, event[event_value::TIME]);
     let TrackTime::At(time) = at else {
         return false;
     };
-    events[p + event_value::TIMESCALE] = t.timescale as u64;
-    events[p + event_value::TIME] = time.0;
+    event[event_value::TIMESCALE] = t.timescale as u64;
+    event[event_value::TIME] = time.0;
     true
 }
 
-// Whether the values of the event whose words start at the place p are in range; it is rebuilt.
-fn event_ok(t: Track, bmdt: TrackTicks, o: &[u8], events: &mut [u64], p: usize) -> bool
-    requires { ⌜ p + eventWords ≤ length (now events) ⌝ }
-    requires { ⌜ Inside (now o) (getD (now events) p 0) (getD (now events) (p + eventSchemeLen) 0) ⌝ }
-    requires { ⌜ Inside (now o) (getD (now events) (p + eventValue) 0) (getD (now events) (p + eventValueLen) 0) ⌝ }
-    ensures { λ r. ⌜ EventRead t (bmdt .0) (now (o .entry)) (now (events .entry)) p r (now (events .exit)) ⌝ }
+// Whether the event's values are in range; it is rebuilt.
+fn event_ok(t: Track, bmdt: TrackTicks, o: &[u8], event: &mut [u64]) -> bool
+    requires { ⌜ eventWords ≤ length (now event) ⌝ }
+    requires { ⌜ Inside (now o) (getD (now event) eventScheme 0) (getD (now event) eventSchemeLen 0) ⌝ }
+    requires { ⌜ Inside (now o) (getD (now event) eventValue 0) (getD (now event) eventValueLen 0) ⌝ }
+    ensures { λ r. ⌜ EventRead t (bmdt .0) (now (o .entry)) (now (event .entry)) r (now (event .exit)) ⌝ }
 {
-    let a = events[p] as usize;
-    let b = events[p + event_value::VALUE] as usize;
-    let strings = no_zero(o, a, a + events[p + event_value::SCHEME_LENGTH] as usize)
-        & no_zero(o, b, b + events[p + event_value::VALUE_LENGTH] as usize);
-    let numbers = (events[p + event_value::TIMESCALE] <= U32)
-        & ((events[p + event_value::DURATION] <= U32) & (events[p + event_value::ID] <= U32));
-    rebuild(t, bmdt, &mut *events, p) & (strings & numbers)
+    let a = event[event_value::SCHEME] as usize;
+    let b = event[event_value::VALUE] as usize;
+    let strings = no_zero(o, a, a + event[event_value::SCHEME_LENGTH] as usize)
+        & no_zero(o, b, b + event[event_value::VALUE_LENGTH] as usize);
+    let numbers = (event[event_value::TIMESCALE] <= U32)
+        & ((event[event_value::DURATION] <= U32) & (event[event_value::ID] <= U32));
+    rebuild(t, bmdt, &mut *event) & (strings & numbers)
 }
 
 // Whether the first k events' values are in range; each is rebuilt.
@@ -74,7 +73,8 @@ pub fn events_ok(t: Track, bmdt: TrackTicks, o: &[u8], events: &mut [u64], k: us
     let mut ok = true;
     let mut i = 0;
     while i < k {
-        ok = ok & event_ok(t, bmdt, o, &mut *events, event_value::WORDS * i);
+        let p = event_value::WORDS * i;
+        ok = ok & event_ok(t, bmdt, o, &mut events[p..p + event_value::WORDS]);
         i += 1;
     }
     ok

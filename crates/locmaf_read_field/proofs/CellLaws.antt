@@ -5,7 +5,7 @@ use native.Mathlib.Numerals.{add-one}
 use mathlib.Core.Path.{_≡_, refl, sym, _∙_, ap}
 use mathlib.Core.Bool.{Bool, true, false, false≢true, _&&_}
 use mathlib.Core.List.{List, []}
-use borrow.Author.Tests.{eq-eqb, ne-eqb}
+use borrow.Author.Tests.{eqb-true, eq-eqb, ne-eqb}
 use lib.ListN.{length, set, length-set}
 use lib.Seq.{slice, sets, length-sets, length-slice}
 use Rattle.wire.specs.declared.form.Row.{Row}
@@ -23,6 +23,7 @@ use Rattle.field_table.specs.declared.lines.Want.the-variants.{One, LessOne, Co
 use Rattle.locmaf_read_said.specs.declared.said.Span.{Span}
 use Rattle.locmaf_read_field.specs.declared.cells.Cell.{Cell}
 use Rattle.locmaf_read_field.specs.Cells.{Came, TakenAs, Listed, told, right, misfitOf, outOfRange, missing, filledAs, carried, sentOne, sentIvs, sentList, spanBytes, listIn}
+use Rattle.field_rules.specs.Carried.{carriedBy}
 use Rattle.field_rules.specs.Fields.{isIvs, packed}
 
 pub misfit-is : (v : Want) {w : Want} → w ≡ v → misfitOf v ≡ misfitOf w
@@ -67,19 +68,20 @@ module _ (want : Want) (j k place : ℕ) (r x : List ℕ) {c : Cell} where
   unfolding carried
   carry-ivs i q olds = rw i (refused q refl refl)
 
-  pub carry-long : isIvs want ≡ false → (j ≡ k → ⊥) → c ≡ misfitOf want → (olds : List ℕ) → TakenAs (carried want j k olds) place x c x
+  pub carry-long : isIvs want ≡ false → carriedBy j k ≡ false → c ≡ misfitOf want → (olds : List ℕ) → TakenAs (carried want j k olds) place x c x
   unfolding carried
-  carry-long i n q olds = rw (i, ne-eqb j k n) (refused q (misfit-broken want) refl)
+  carry-long i n q olds = rw (i, n) (refused q (misfit-broken want) refl)
 
-  pub carry-same : isIvs want ≡ false → j ≡ k → c ≡ right → (after : List ℕ)
+  pub carry-same : isIvs want ≡ false → carriedBy j k ≡ true → c ≡ right → (after : List ℕ)
       → after ≡ sets (set x place 1) (place + 1) (slice (place + 1) (place + 1 + k) r)
       → TakenAs (carried want j k (slice (place + 1) (place + 1 + j) r)) place x c after
   unfolding carried
   carry-same i e q after w =
-      rw (i, eq-eqb j k e)
+      let same : j ≡ k = eqb-true j k e in
+      rw (i, e)
       (record {
         answered = q;
-        stored = λ _ _ _. w ∙ rw (e, add-one);
+        stored = λ _ _ _. w ∙ rw (same, add-one);
         long = ap length w ∙ simp (length-sets, length-set);
       })
 

@@ -25,6 +25,7 @@ use Rattle.locmaf_read_said.specs.declared.said.Word.{Word}
 use Rattle.locmaf_read_said.specs.declared.said.Word.the-variants.{Omitted, Deleted, Sent}
 use Rattle.locmaf_read_field.specs.declared.cells.Cell.{Cell}
 use Rattle.locmaf_read_said.specs.Said.{Saying, omitted, deleted, sent}
+use Rattle.field_rules.specs.Carried.{carriedBy}
 use Rattle.field_rules.specs.Fields.{Held, numbers, codingOf, isIvs, packed, stood, oldValues, wordsOf}
 
 -- ==== The rules
@@ -77,7 +78,7 @@ filledAs Outside vs = beyond
 -- 01: "An omitted list is carried only if its required length is unchanged, else 14." "Id 9, where the track is cenc and there are samples,
 -- always stands in the object; else 14." (D92, D102)
 unfoldable pub carried : Want → ℕ → ℕ → List ℕ → Came
-carried want j k olds = cond (isIvs want) (came missing none) (cond (eqb j k) (well (some olds)) (misfit want))
+carried want j k olds = cond (isIvs want) (came missing none) (cond (carriedBy j k) (well (some olds)) (misfit want))
 
 -- a single value against the old one
 unfoldable pub sentOne : Coding → ℕ → ℕ → ℕ → Came

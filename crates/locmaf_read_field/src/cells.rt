@@ -10,6 +10,7 @@ ghost use Rattle.laws.specs.Bytes.{de};
 ghost use Rattle.wire.specs.Form.{rows};
 ghost use Rattle.locmaf_read_field.specs.Cells.{right, misfitOf, outOfRange, missing, filledAs, carried, sentOne, sentIvs, valuesAt, spanBytes, listSent, said, cellOf, TakenAs, Listable, Spans, Takeable};
 ghost use Rattle.field_rules.specs.Fields.{packed};
+use field_rules::carried::carries;
 use field_rules::rules::absent_value;
 use field_rules::rules::coding_of;
 use field_rules::rules::is_ivs;
@@ -115,7 +116,7 @@ fn pack(o: &[u8], at: usize, k: usize, x: &mut [u64], to: usize)
     }
 }
 
-// A field that is carried on if its required length is unchanged.
+// A field of which the object says nothing: it had j values, and is to have k.
 fn carry(r: &[u64], l: Line, j: usize, k: usize, x: &mut [u64]) -> Cell
     requires { ⌜ (l .place + 1 + k ≤ length (now r)) × (l .place + 1 + k ≤ length (now x)) ⌝ }
     ensures { λ c. ⌜ TakenAs (carried (l .want) j k (valuesAt (now (r .entry)) l j))
@@ -126,7 +127,7 @@ fn carry(r: &[u64], l: Line, j: usize, k: usize, x: &mut [u64]) -> Cell
     if is_ivs(want) {
         return lacking();
     }
-    if j != k {
+    if !carries(j, k) {
         return misfit(want);
     }
     x[place] = 1;

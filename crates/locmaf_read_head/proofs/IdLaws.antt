@@ -30,6 +30,10 @@ pub ids-says : (delta kept : Bool) (at at′ : ℕ → Bool)
 unfolding idsOk
 ids-says delta kept at at′ a b c d e f g h = rw (a, b, c, d, e, f, g, h)
 
+-- the index's number, by what it came to
+pub number-is : (v : Indexed) {i : Indexed} → i ≡ v → indexNumber v ≡ indexNumber i
+number-is v e = rw e
+
 -- the number of a block: where the index gives one, that, and else by whether the ids may stand together
 pub number-given : (i : Indexed) (ok : Bool) (k : ℕ) → k ≡ indexNumber i → (k ≡ 0 → ⊥) → k ≡ blockNumber i ok
 number-given Cut ok k e n = e

@@ -21,8 +21,8 @@ use Rattle.track.specs.declared.Track.{Track}
 use Rattle.field_table.specs.declared.lines.Want.the-variants.{Sum}
 use Rattle.field_table.specs.declared.lines.Line.{Line}
 use Rattle.field_table.specs.declared.lines.Measure.{Measure}
-use Rattle.field_table.specs.Lines.{lines, spare, lineFor, setLen, wanted, Small, lineCount}
-use Rattle.field_set.specs.Lawful.{has, valuesOf, marksOf, saizOk, setRules, sameIvSize, measureOf, lawful}
+use Rattle.field_table.specs.Lines.{lines, marksOf, spare, lineFor, setLen, wanted, Small, lineCount}
+use Rattle.field_set.specs.Lawful.{has, valuesOf, saizOk, setRules, sameIvSize, measureOf, lawful}
 use Rattle.field_table.proofs.LineLaws.{every-at, line-count}
 use Rattle.field_set.proofs.LawfulLaws.{Lawful, lawful-facts, lawful-all}
 use Rattle.locmaf_read_said.specs.Said.{Says}

@@ -16,7 +16,7 @@ use Rattle.track.specs.declared.Track.{Track}
 use Rattle.field_table.specs.declared.lines.Want.the-variants.{One}
 use Rattle.field_table.specs.declared.lines.Line.{Line}
 use Rattle.field_table.specs.declared.lines.Measure.{Measure}
-use Rattle.field_table.specs.Lines.{lines, spare, lineCount, every, wanted, Small}
+use Rattle.field_table.specs.Lines.{lines, spare, lineCount, setLen, every, wanted, Small}
 use Rattle.constants.specs.Ids.{idCount}
 use Rattle.constants.specs.Maxima.{subsamplesMost}
 use Rattle.field_set.specs.Lawful.{measureOf, lawful}
@@ -26,7 +26,7 @@ use Rattle.field_rules.specs.Fields.{stood, oldValues}
 use Rattle.field_rules.specs.Words.{wasOf}
 use Rattle.field_rules.proofs.RoomLaws.{wanted-room}
 use Rattle.locmaf_write_block.specs.declared.cells.Basis.{Basis}
-use Rattle.locmaf_write_block.specs.Changes.{chunkLines, olds, Based}
+use Rattle.locmaf_write_block.specs.Changes.{Based, ChunkLine, Measured}
 
 -- every line has a low id and room for at most as many values as there are subsamples
 unfoldable short : Line → Bool
@@ -36,21 +36,42 @@ all-short : every short lines ≡ true
 unfolding every short lines _and_
 all-short = refl
 
--- lengths that are those of a lawful set
-record Kept (m : Measure) : Type 0 where
-  small : Small m
-  sum : m .sum ≤ subsamplesMost
-
--- of the new set, and of the old one where there is one
-kept-new : (t : Track) (x : List ℕ) → t .«iv_size» ≤ 16 → lawful t x ≡ true → Kept (measureOf t x)
-kept-new t x iv e =
+-- the lengths of a lawful set: of the new one, and of the old one where there is one
+lawful-new : (t : Track) (x : List ℕ) → length x ≡ setLen → t .«iv_size» ≤ 16 → lawful t x ≡ true → Measured (measureOf t x) x
+lawful-new t x long iv e =
     let f = lawful-facts t x e in
-    record { small = record { count = f .count; ivs = omega arith; sum = omega (arith, f .subsamples) }; sum = f .subsamples }
+    record { long = long; small = record { count = f .count; ivs = omega arith; sum = omega (arith, f .subsamples) }; sum = f .subsamples }
 
-kept-old : (t : Track) (delta : Bool) (r : List ℕ) → t .«iv_size» ≤ 16 → (delta ≡ true → lawful t r ≡ true) → Kept (wasOf t delta r)
-kept-old t true r iv h = kept-new t r iv (h refl)
-kept-old t false r iv h =
-    record { small = record { count = omega arith; ivs = omega arith; sum = omega arith }; sum = omega arith }
+lawful-old : (t : Track) (delta : Bool) (r : List ℕ) → length r ≡ setLen → t .«iv_size» ≤ 16 → (delta ≡ true → lawful t r ≡ true) → Measured (wasOf t delta r) r
+lawful-old t true r long iv h = lawful-new t r long iv (h refl)
+lawful-old t false r long iv h =
+    record { long = long; small = record { count = omega arith; ivs = omega arith; sum = omega arith }; sum = omega arith }
+
+module _ {t : Track} {b : Basis} {r x : List ℕ} (h : Based t b r x) where
+  was-is : b .was ≡ wasOf t (b .delta) r
+  was-is = ap (λ (z : Basis). z .was) (h .1)
+
+  now-is : b .now ≡ measureOf t x
+  now-is = ap (λ (z : Basis). z .now) (h .1)
+
+  pub measured-old : Measured (b .was) r
+  measured-old = rw was-is (lawful-old t (b .delta) r (h .0 .old-words) (h .0 .iv) (h .0 .old))
+
+  measured-new : Measured (b .now) x
+  measured-new = rw now-is (lawful-new t x (h .0 .new-words) (h .0 .iv) (h .0 .new))
+
+-- the values of a line lie in a set's words
+pub record Within (l : Line) (m : Measure) (w : List ℕ) : Type 0 where
+  pub region : l .place + 1 + l .room ≤ length w
+  pub small : Small m
+  pub room : wanted (l .want) m ≤ l .room
+
+within-at : (i : ℕ) → i < lineCount → (m : Measure) (w : List ℕ) → Measured m w → Within (getD lines i spare) m w
+within-at i lt m w h =
+    record { region = omega (arith, shaped i lt .inside, h .long); small = h .small; room = wanted-room i lt m (h .small) (h .sum) }
+
+pub within : {l : Line} {m : Measure} {w : List ℕ} → ChunkLine l → Measured m w → Within l m w
+within {l} {m} {w} k h = rw (k .found) (within-at (k .number) (omega (arith, k .below)) m w h)
 
 -- a field of the table, in both sets
 pub record Field (t : Track) (b : Basis) (r x : List ℕ) (l : Line) : Type 0 where
@@ -72,33 +93,27 @@ pub field-of : (t : Track) (b : Basis) (r x : List ℕ) (i : ℕ) (l : Line)
 unfolding short
 field-of t b r x i l h k =
     let lt : i < lineCount = k .0 in
-    let w = h .0 in
-    let q : Line = getD lines i spare in
-    let f = shaped i lt in
     let s = every-at short lines i spare all-short (omega (arith, line-count)) in
-    let was : b .was ≡ wasOf t (b .delta) r = ap (λ (z : Basis). z .was) (h .1) in
-    let now : b .now ≡ measureOf t x = ap (λ (z : Basis). z .now) (h .1) in
-    let ko : Kept (b .was) = rw was (kept-old t (b .delta) r (w .iv) (w .old)) in
-    let kn : Kept (b .now) = rw now (kept-new t x (w .iv) (w .new)) in
+    let o = within-at i lt (b .was) r (measured-old h) in
+    let n = within-at i lt (b .now) x (measured-new h) in
     rw (k .1)
     (record {
-      there = omega (arith, f .inside, w .old-words);
-      here = omega (arith, f .inside, w .new-words);
-      old = ko .small;
-      new = kn .small;
-      was-is = was;
-      now-is = now;
-      old-room = wanted-room i lt (b .was) (ko .small) (ko .sum);
-      new-room = wanted-room i lt (b .now) (kn .small) (kn .sum);
-      single = f .single;
+      there = o .region;
+      here = n .region;
+      old = o .small;
+      new = n .small;
+      was-is = was-is h;
+      now-is = now-is h;
+      old-room = o .room;
+      new-room = n .room;
+      single = shaped i lt .single;
       few = leb-true _ _ (right _ _ s);
       low = ltb-true _ _ (left _ _ s);
     })
 
 -- of the lines that a chunk has
-pub chunk-field : (t : Track) (b : Basis) (r x : List ℕ) (i : ℕ) (l : Line)
-    → Based t b r x → (i < chunkLines) × (l ≡ getD lines i spare) → Field t b r x l
-chunk-field t b r x i l h k = field-of t b r x i l h (omega (arith, k .0), k .1)
+pub chunk-field : (t : Track) (b : Basis) (r x : List ℕ) (l : Line) → Based t b r x → ChunkLine l → Field t b r x l
+chunk-field t b r x l h k = field-of t b r x (k .number) l h (omega (arith, k .below), k .found)
 
 -- ---- old values
 
@@ -124,18 +139,15 @@ module _ (held : Bool) (r : List ℕ) (was : Measure) (l : Line) where
     pub first-none : stood held r l ≡ false → base ≡ first base (oldValues held r was l)
     first-none e = rw (old-none e)
 
-module _ {t : Track} {b : Basis} {r x : List ℕ} {l : Line} (f : Field t b r x l) where
+module _ {l : Line} {was : Measure} {r : List ℕ} (f : Within l was r) (held : Bool) where
   -- how many there are to go by: as many as there were, or none
-  pub olds-some : (n : ℕ) → n ≡ wanted (l .want) (b .was) → stood (b .delta) r l ≡ true
-      → (l .place + 1 + n ≤ length r) × (olds t (b .delta) r x l ≡ slice (l .place + 1) (l .place + 1 + n) r)
-  olds-some n e s = (
-    omega (arith, f .there, f .old-room),
-    ap (λ (m : Measure). oldValues (b .delta) r m l) (sym (f .was-is)) ∙ old-some (b .delta) r (b .was) l s ∙ rw e,
-  )
+  pub olds-some : (n : ℕ) → n ≡ wanted (l .want) was → stood held r l ≡ true
+      → (l .place + 1 + n ≤ length r) × (oldValues held r was l ≡ slice (l .place + 1) (l .place + 1 + n) r)
+  olds-some n e s = (omega (arith, f .region, f .room), old-some held r was l s ∙ rw e)
 
-  pub olds-none : stood (b .delta) r l ≡ false
-      → (l .place + 1 + 0 ≤ length r) × (olds t (b .delta) r x l ≡ slice (l .place + 1) (l .place + 1 + 0) r)
+  pub olds-none : stood held r l ≡ false
+      → (l .place + 1 + 0 ≤ length r) × (oldValues held r was l ≡ slice (l .place + 1) (l .place + 1 + 0) r)
   olds-none s = (
-    omega (arith, f .there),
-    old-none (b .delta) r (wasOf t (b .delta) r) l s ∙ sym (slice-none (l .place + 1) (l .place + 1 + 0) r (omega arith)),
+    omega (arith, f .region),
+    old-none held r was l s ∙ sym (slice-none (l .place + 1) (l .place + 1 + 0) r (omega arith)),
   )

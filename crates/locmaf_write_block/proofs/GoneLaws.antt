@@ -50,75 +50,83 @@ module _ (t : Track) (delta : Bool) (r x : List ℕ) where
   gone-full d [] = refl
   gone-full d (l ∷ ls) = let no : isDeleted (changeOf t delta r x l) ≡ false = sym (deleted-by l) ∙ rw d in rw no (gone-full d ls)
 
+module _ (delta : Bool) (r x : List ℕ) where
   pub collect-full : delta ≡ false → (ids : List ℕ) → length ids ≡ lineCount
-      → Collected (goneOf t delta r x lines) ids 0
-  collect-full d ids e = (ap length (sym (gone-full d lines)), omega arith, sym (gone-full d lines), e)
+      → Collected (λ t. goneOf t delta r x lines) ids 0
+  collect-full d ids e =
+      record { few = omega arith; long = e; all = λ t. (ap length (sym (gone-full t delta r x d lines)), sym (gone-full t delta r x d lines)) }
 
   -- the ids of the lines before the one at i are collected, n of them
   pub record Collecting (ids : List ℕ) (n i : ℕ) : Type 0 where
     pub long : length ids ≡ lineCount
     pub few : n ≤ i
     pub high : i ≤ lineCount
-    pub rest : take n ids ++ goneOf t delta r x (drop i lines) ≡ goneOf t delta r x lines
+    pub rest : (t : Track) → take n ids ++ goneOf t delta r x (drop i lines) ≡ goneOf t delta r x lines
 
   pub collect-start : (ids : List ℕ) → length ids ≡ lineCount → Collecting ids 0 0
-  collect-start ids e = record { long = e; few = omega arith; high = omega arith; rest = refl }
+  collect-start ids e = record { long = e; few = omega arith; high = omega arith; rest = λ t. refl }
 
   module _ (ids : List ℕ) (n i : ℕ) (h : Collecting ids n i) where
     -- all are
     pub collect-end : lineCount ≤ i
-        → Collected (goneOf t delta r x lines) ids n
+        → Collected (λ t. goneOf t delta r x lines) ids n
     unfolding goneOf
     collect-end le =
-        let all : take n ids ≡ goneOf t delta r x lines = sym (append-nil (take n ids)) ∙ rw (no-lines i le) at (h .rest) in
         let m : n ≤ length ids = omega (arith, h .few, h .high, h .long) in
-        (sym (length-take-le n ids m) ∙ ap length all, omega (arith, h .few, h .high), all, h .long)
+        record {
+          few = omega (arith, h .few, h .high);
+          long = h .long;
+          all =
+              λ t.
+              let all : take n ids ≡ goneOf t delta r x lines = sym (append-nil (take n ids)) ∙ rw (no-lines i le) at (h .rest t) in
+              (sym (length-take-le n ids m) ∙ ap length all, all);
+        }
 
     module _ (lt : i < lineCount) where
       -- the next line's id, where it is deleted
-      pub collect-one : true ≡ isDeleted (changeOf t delta r x (getD lines i spare)) → (id : ℕ) → id ≡ getD lines i spare .id
+      pub collect-one : ((t : Track) → true ≡ isDeleted (changeOf t delta r x (getD lines i spare))) → (id : ℕ) → id ≡ getD lines i spare .id
           → (js : List ℕ) → js ≡ set ids n id → (k : ℕ) → k ≡ n + 1 → Collecting js k (i + 1)
       unfolding goneOf
       collect-one d id e js p k q =
           let m : n < length ids = omega (arith, h .few, h .long) in
-          let here : goneOf t delta r x (drop i lines) ≡ id ∷ goneOf t delta r x (drop (i + 1) lines) = rw (line-here i lt, ← d, e) in
+          let here : (t : Track) → goneOf t delta r x (drop i lines) ≡ id ∷ goneOf t delta r x (drop (i + 1) lines) = λ t. rw (line-here i lt, ← d t, e) in
           let first : take k js ≡ take n ids ++ (id ∷ []) = rw (p, q, add-one n) (take-suc-set ids n id m) in
           record {
             long = ap length p ∙ length-set ids n id ∙ h .long;
             few = omega (arith, h .few);
             high = omega arith;
             rest =
+                λ t.
                 ap (λ (s : List ℕ). s ++ goneOf t delta r x (drop (i + 1) lines)) first
                 ∙ append-assoc (take n ids) (id ∷ []) (goneOf t delta r x (drop (i + 1) lines))
-                ∙ ap (λ (s : List ℕ). take n ids ++ s) (sym here)
-                ∙ h .rest;
+                ∙ ap (λ (s : List ℕ). take n ids ++ s) (sym (here t))
+                ∙ h .rest t;
           }
 
       -- and where it isn't
-      pub collect-none : false ≡ isDeleted (changeOf t delta r x (getD lines i spare))
+      pub collect-none : ((t : Track) → false ≡ isDeleted (changeOf t delta r x (getD lines i spare)))
           → (js : List ℕ) → js ≡ ids → (k : ℕ) → k ≡ n → Collecting js k (i + 1)
       unfolding goneOf
       collect-none d js p k q =
-          let here : goneOf t delta r x (drop i lines) ≡ goneOf t delta r x (drop (i + 1) lines) = rw (line-here i lt, ← d) in
+          let here : (t : Track) → goneOf t delta r x (drop i lines) ≡ goneOf t delta r x (drop (i + 1) lines) = λ t. rw (line-here i lt, ← d t) in
           record {
             long = ap length p ∙ h .long;
             few = omega (arith, h .few);
             high = omega arith;
-            rest = rw (p, q) (ap (λ (s : List ℕ). take n ids ++ s) (sym here) ∙ h .rest);
+            rest = λ t. rw (p, q) (ap (λ (s : List ℕ). take n ids ++ s) (sym (here t)) ∙ h .rest t);
           }
 
-  -- as many as were collected, which are few
-  pub gone-few : (n : ℕ) (ids : List ℕ) → n ≡ length (goneOf t delta r x lines) → n ≤ lineCount → ids ≡ goneOf t delta r x lines
-      → length ids ≤ lineCount
-  gone-few n ids e h d = omega (arith, ap length d)
+-- as many words as were collected
+pub gone-many : {gone : Track → List ℕ} {ids : List ℕ} {n : ℕ} → Collected gone ids n → n ≡ length (take n ids)
+gone-many {gone} {ids} {n} h = sym (length-take-le n ids (omega (arith, h .few, h .long)))
 
-  -- the tuple, where nothing is deleted and where something is
-  module _ (F : List Row) (n : ℕ) (e : n ≡ length (goneOf t delta r x lines)) where
-    pub none-gone : n ≡ 0 → nothing ≡ deletionItems F t delta r x
-    unfolding deletionItems itemsIf
-    none-gone z = rw (eq-eqb (length (goneOf t delta r x lines)) 0 (omega arith))
+-- the tuple, where nothing is deleted and where something is
+module _ (t : Track) (delta : Bool) (r x : List ℕ) (F : List Row) (n : ℕ) (e : n ≡ length (goneOf t delta r x lines)) where
+  pub none-gone : n ≡ 0 → nothing ≡ deletionItems F t delta r x
+  unfolding deletionItems itemsIf
+  none-gone z = rw (eq-eqb (length (goneOf t delta r x lines)) 0 (omega arith))
 
-    pub some-gone : (n ≡ 0 → ⊥) → (ids : List ℕ) → ids ≡ goneOf t delta r x lines
-        → runItem F Plain 27 0 [] ids ≡ deletionItems F t delta r x
-    unfolding deletionItems itemsIf
-    some-gone z ids d = rw (d, ne-eqb (length (goneOf t delta r x lines)) 0 (λ q. z (e ∙ q)))
+  pub some-gone : (n ≡ 0 → ⊥) → (ids : List ℕ) → ids ≡ goneOf t delta r x lines
+      → runItem F Plain 27 0 [] ids ≡ deletionItems F t delta r x
+  unfolding deletionItems itemsIf
+  some-gone z ids d = rw (d, ne-eqb (length (goneOf t delta r x lines)) 0 (λ q. z (e ∙ q)))

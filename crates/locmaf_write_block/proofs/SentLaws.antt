@@ -9,7 +9,6 @@ use borrow.Author.Tests.{eq-eqb, ne-eqb}
 use lib.ListN.{length, getD, take, drop}
 use lib.Seq.{slice, slice-cons, length-slice}
 use Rattle.laws.proofs.SliceLaws.{slice-lent}
-use Rattle.laws.proofs.PartLaws.{Parts, parts-all}
 use Rattle.wire.specs.declared.form.Row.{Row}
 use Rattle.wire.specs.declared.form.Form.{Form}
 use Rattle.wire.specs.declared.zigzag.Coding.{Coding}
@@ -23,12 +22,14 @@ use Rattle.block_items.specs.Items.{run, encItem}
 use Rattle.constants.specs.Maxima.{subsamplesMost}
 use Rattle.track.specs.declared.Track.{Track}
 use Rattle.field_table.specs.declared.lines.Line.{Line}
+use Rattle.field_table.specs.declared.lines.Measure.{Measure}
 use Rattle.field_table.specs.Lines.{wanted, absentValue}
+use Rattle.field_set.specs.Lawful.{measureOf}
 use Rattle.field_rules.specs.Fields.{codingFor, codingOf, isIvs, oldValues}
 use Rattle.locmaf_write_tuples.specs.declared.tuples.Weight.{Weight}
 use Rattle.locmaf_write_block.specs.declared.cells.Basis.{Basis}
 use Rattle.locmaf_write_tuples.specs.Items.{itemsIf, numberItem, runItem, wideBytes, bytesOf, pairMost, WeighedAs}
-use Rattle.locmaf_write_block.specs.Changes.{news, olds, sentItems, lineMost}
+use Rattle.locmaf_write_block.specs.Changes.{news, olds, sentItems, listItem, lineMost}
 use Rattle.locmaf_write_tuples.proofs.ItemLaws.{block-one, run-length}
 use Rattle.locmaf_write_block.proofs.WideLaws.{wide-length}
 use Rattle.locmaf_write_block.proofs.FieldLaws.{Field}
@@ -96,11 +97,18 @@ module _ {t : Track} {b : Basis} {r x : List ℕ} {l : Line} (f : Field t b r x 
           ∙ ap (λ (m : ℕ). encode F (l .id) ++ (encode F m ++ bs)) wide-many
           ∙ sym (block-one F (run (l .id) bs)))
 
-      -- to be written one after the other
-      pub ivs-parts : (F : List Row) (out : List ℕ) (at : ℕ) → at + length (bytesOf F (sentItems t (b .delta) r x l F)) ≤ length out
-          → Parts out at (bytesOf F (sentItems t (b .delta) r x l F)) out at
-          ((encode F (l .id) ++ encode F (8 * k)) ∷ wideBytes (take (l .place + 1 + k - (l .place + 1)) (drop (l .place + 1) x)) ∷ [])
-      ivs-parts F out at h = parts-all out at _ (ivs-bytes F) h
+      -- by the words that are lent: they are few, and have room
+      pub ivs-wrote : (F : List Row)
+          → let ws : List ℕ = take (l .place + 1 + k - (l .place + 1)) (drop (l .place + 1) x) in
+          encode F (l .id) ++ encode F (8 * length ws) ++ wideBytes ws ≡ bytesOf F (sentItems t (b .delta) r x l F)
+      ivs-wrote F =
+          let ws : List ℕ = take (l .place + 1 + k - (l .place + 1)) (drop (l .place + 1) x) in
+          ap (λ (n : ℕ). encode F (l .id) ++ encode F (8 * n) ++ wideBytes ws) lent-length ∙ ivs-bytes F
+
+      pub ivs-room : (F : List Row) (out : List ℕ) (at : ℕ) → at + length (bytesOf F (sentItems t (b .delta) r x l F)) ≤ length out
+          → let ws : List ℕ = take (l .place + 1 + k - (l .place + 1)) (drop (l .place + 1) x) in
+          (length ws ≤ subsamplesMost) × (at + length (encode F (l .id) ++ encode F (8 * length ws) ++ wideBytes ws) ≤ length out)
+      ivs-room F out at h = (omega (arith, lent-length, new-few), omega (arith, h, ap length (ivs-wrote F)))
 
       -- and weighed
       pub weighed-ivs : (form : Form) (n : ℕ) {w : Weight}
@@ -119,9 +127,12 @@ module _ {t : Track} {b : Basis} {r x : List ℕ} {l : Line} (f : Field t b r x 
           })
 
   -- the old values as they are lent
-  pub olds-lent : (u : ℕ) → (l .place + 1 + u ≤ length r) × (olds t (b .delta) r x l ≡ slice (l .place + 1) (l .place + 1 + u) r)
+  pub olds-lent : (u : ℕ) → (l .place + 1 + u ≤ length r) × (oldValues (b .delta) r (b .was) l ≡ slice (l .place + 1) (l .place + 1 + u) r)
       → take (l .place + 1 + u - (l .place + 1)) (drop (l .place + 1) r) ≡ olds t (b .delta) r x l
-  olds-lent u h = slice-lent (l .place + 1) (l .place + 1 + u) r (omega arith) (h .0) ∙ sym (h .1)
+  olds-lent u h =
+      slice-lent (l .place + 1) (l .place + 1 + u) r (omega arith) (h .0)
+      ∙ sym (h .1)
+      ∙ ap (λ (m : Measure). oldValues (b .delta) r m l) (f .was-is)
 
   -- numbers, with what code found for its parameters
   module _ (F : List Row) (ivs : Bool) (ei : ivs ≡ isIvs (l .want)) (no : ivs ≡ false)
@@ -140,9 +151,28 @@ module _ {t : Track} {b : Basis} {r x : List ℕ} {l : Line} (f : Field t b r x 
 
     -- a list
     pub list-lent : (l .room ≡ 1 → ⊥) → (k : ℕ) → k ≡ wanted (l .want) (b .now) → (u : ℕ)
-        → (l .place + 1 + u ≤ length r) × (olds t (b .delta) r x l ≡ slice (l .place + 1) (l .place + 1 + u) r)
+        → (l .place + 1 + u ≤ length r) × (oldValues (b .delta) r (b .was) l ≡ slice (l .place + 1) (l .place + 1 + u) r)
         → runItem F co (l .id) base (take (l .place + 1 + u - (l .place + 1)) (drop (l .place + 1) r))
         (take (l .place + 1 + k - (l .place + 1)) (drop (l .place + 1) x))
         ≡ sentItems t (b .delta) r x l F
     list-lent e k ek u h =
         rw (olds-lent u h, news-lent k ek, ec, eb) (list-is F t (b .delta) r x l (sym ei ∙ no) e)
+
+    -- with its values as code finds them
+    pub list-found : (l .room ≡ 1 → ⊥) → (k : ℕ) → k ≡ wanted (l .want) (b .now) → listItem F co b r x l k base ≡ sentItems t (b .delta) r x l F
+    list-found e k ek =
+        let n : k ≡ wanted (l .want) (measureOf t x) = ek ∙ ap (wanted (l .want)) (f .now-is) in
+        rw (f .was-is, n, ec, eb) (list-is F t (b .delta) r x l (sym ei ∙ no) e)
+
+-- a list as it is lent
+pub lent-list : (F : List Row) (co : Coding) (b : Basis) (r x : List ℕ) (l : Line) (k base u : ℕ) → l .place + 1 + k ≤ length x
+    → (l .place + 1 + u ≤ length r) × (oldValues (b .delta) r (b .was) l ≡ slice (l .place + 1) (l .place + 1 + u) r)
+    → runItem F co (l .id) base (take (l .place + 1 + u - (l .place + 1)) (drop (l .place + 1) r))
+    (take (l .place + 1 + k - (l .place + 1)) (drop (l .place + 1) x))
+    ≡ listItem F co b r x l k base
+lent-list F co b r x l k base u h g =
+    rw (
+      slice-lent (l .place + 1) (l .place + 1 + u) r (omega arith) (g .0),
+      slice-lent (l .place + 1) (l .place + 1 + k) x (omega arith) h,
+      g .1,
+    )

@@ -1,5 +1,5 @@
 -- What an object says of one field of a set x, whichever it is: in a delta against the reference's set r, in a full object against nothing.
-use Prim.Native.Nat.{ℕ, _+_, _-_, _*_, _≤_}
+use Prim.Native.Nat.{ℕ, _+_, _-_, _*_, _≤_, _<_}
 use mathlib.Core.Path.{_≡_}
 use mathlib.Core.Bool.{Bool, true, false, cond, not, _&&_}
 use mathlib.Core.List.{List, [], _∷_}
@@ -10,12 +10,14 @@ use lib.Seq.{slice}
 use Rattle.laws.specs.Tests.{_and_}
 use Rattle.constants.specs.Maxima.{subsamplesMost}
 use Rattle.wire.specs.declared.form.Row.{Row}
+use Rattle.wire.specs.declared.zigzag.Coding.{Coding}
 use Rattle.wire.specs.Zigzag.{codeOf}
 use Rattle.runs.specs.Run.{first}
 use Rattle.block_items.specs.Items.{run}
 use Rattle.track.specs.declared.Track.{Track}
 use Rattle.field_table.specs.declared.lines.Line.{Line}
-use Rattle.field_table.specs.Lines.{setLen, lineCount, wanted, absentValue}
+use Rattle.field_table.specs.declared.lines.Measure.{Measure}
+use Rattle.field_table.specs.Lines.{lines, spare, setLen, lineCount, wanted, absentValue, Small}
 use Rattle.field_set.specs.Lawful.{measureOf, lawful}
 use Rattle.field_rules.specs.Fields.{codingFor, codingOf, isIvs, stood, oldValues}
 use Rattle.field_rules.specs.Words.{wasOf}
@@ -93,6 +95,23 @@ pub record Writable (t : Track) (delta : Bool) (r x : List ℕ) : Type 0 where
 -- what is lent, and the lengths that go with it
 abbrev pub Based : Track → Basis → List ℕ → List ℕ → Type 0
 Based t b r x = Writable t (b .delta) r x × (b ≡ basisOf t (b .delta) r x)
+
+-- a line that a chunk's set can have, by its number
+pub record ChunkLine (l : Line) : Type 0 where
+  pub number : ℕ
+  pub below : number < chunkLines
+  pub found : l ≡ getD lines number spare
+
+-- the words of a set, and lengths by which its values lie in them
+pub record Measured (m : Measure) (w : List ℕ) : Type 0 where
+  pub long : length w ≡ setLen
+  pub small : Small m
+  pub sum : m .sum ≤ subsamplesMost
+
+-- the item of a list of k numbers, with what code found for its parameters
+abbrev pub listItem : List Row → Coding → Basis → List ℕ → List ℕ → Line → ℕ → ℕ → Items
+listItem F c b r x l k base =
+    runItem F c (l .id) base (oldValues (b .delta) r (b .was) l) (slice (l .place + 1) (l .place + 1 + k) x)
 
 -- the most bytes of a field: no list is longer than that of the subsamples
 abbrev pub lineMost : ℕ

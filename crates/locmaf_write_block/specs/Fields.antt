@@ -76,9 +76,11 @@ module _ (F : List Row) (t : Track) (delta : Bool) (r x : List ℕ) where
 abbrev pub fieldAt : List Row → Track → Bool → List ℕ → List ℕ → ℕ → Items
 fieldAt F t delta r x i = lineItems t delta r x (getD lines i spare) F
 
--- the ids that were collected: so many, and the first so many words
-abbrev pub Collected : List ℕ → List ℕ → ℕ → Type 0
-Collected gone ids n = (n ≡ length gone) × (n ≤ lineCount) × (take n ids ≡ gone) × (length ids ≡ lineCount)
+-- the ids that were collected, whatever the track is: so many, and the first so many words
+pub record Collected (gone : Track → List ℕ) (ids : List ℕ) (n : ℕ) : Type 0 where
+  pub few : n ≤ lineCount
+  pub long : length ids ≡ lineCount
+  pub all : (t : Track) → (n ≡ length (gone t)) × (take n ids ≡ gone t)
 
 -- the most bytes of ids 1 to 15, and of id 27
 abbrev pub setMost : ℕ

@@ -3,17 +3,22 @@
 //   counted from 0.
 ghost use mathlib.Core.Path.{_≡_};
 ghost use mathlib.Core.Bool.{true};
+ghost use mathlib.Core.List.{_++_};
 ghost use Prim.Native.Nat.{_+_, _*_, _≤_, _<_};
 ghost use lib.ListN.{length, getD};
 ghost use lib.Seq.{slice};
 ghost use Rattle.laws.specs.Writes.{Wrote};
 ghost use Rattle.wire.specs.Form.{rows};
+ghost use Rattle.wire.specs.Varint.{encode};
+ghost use Rattle.wire.specs.Zigzag.{codeOf};
+ghost use Rattle.constants.specs.Maxima.{subsamplesMost};
+ghost use Rattle.field_table.specs.Lines.{setLen};
 ghost use Rattle.laws.specs.Options.{isSome};
 ghost use Rattle.runs.specs.Run.{first};
-ghost use Rattle.field_table.specs.Lines.{lines, spare};
+ghost use Rattle.track.specs.declared.Track.{Track};
 ghost use Rattle.field_rules.specs.Fields.{stood, oldValues};
 ghost use Rattle.locmaf_write_tuples.specs.Items.{wideBytes, WeighedAs, RoomFor, WroteItems};
-ghost use Rattle.locmaf_write_block.specs.Changes.{chunkLines, same, stands, olds, changeOf, sentItems, Based, lineMost};
+ghost use Rattle.locmaf_write_block.specs.Changes.{chunkLines, same, stands, changeOf, sentItems, Based, ChunkLine, Measured, lineMost, listItem};
 ghost use Rattle.locmaf_write_block.specs.Fields.{fieldAt};
 use field_rules::rules::absent_value;
 use field_rules::rules::field_coding;
@@ -26,6 +31,8 @@ use locmaf_write_tuples::tuples;
 use locmaf_write_tuples::tuples::Weight;
 use track::Track;
 use wire::form::Form;
+use wire::zigzag::Coded;
+use wire::zigzag::Coding;
 
 // What is written: a delta or a full object, and the lengths that the fields of the reference and of the new set go by.
 pub struct Basis {
@@ -67,11 +74,11 @@ fn has_old(b: Basis, r: &[u64], l: Line) -> bool
 }
 
 // How many old values a field's numbers go by.
-fn old_length(t: Track, b: Basis, r: &[u64], x: &[u64], i: usize, l: Line) -> usize
-    requires { ⌜ Based t b (now r) (now x) ⌝ }
-    requires { ⌜ (i < chunkLines) × (l ≡ getD lines i spare) ⌝ }
+fn old_length(b: Basis, r: &[u64], l: Line) -> usize
+    requires { ⌜ ChunkLine l ⌝ }
+    requires { ⌜ Measured (b .was) (now r) ⌝ }
     ensures { λ n. ⌜ (l .place + 1 + n ≤ length (now (r .entry)))
-        × (olds t (b .delta) (now (r .entry)) (now (x .entry)) l
+        × (oldValues (b .delta) (now (r .entry)) (b .was) l
         ≡ slice (l .place + 1) (l .place + 1 + n) (now (r .entry))) ⌝ }
 {
     let want = l.want;
@@ -83,10 +90,11 @@ fn old_length(t: Track, b: Basis, r: &[u64], x: &[u64], i: usize, l: Line) -> us
 }
 
 // What the object says of a field. Two lists are equal only if their lengths are too: words that aren't in use are 0, as a value can be.
-fn change_of(t: Track, b: Basis, r: &[u64], x: &[u64], i: usize, l: Line) -> Change
-    requires { ⌜ Based t b (now r) (now x) ⌝ }
-    requires { ⌜ (i < chunkLines) × (l ≡ getD lines i spare) ⌝ }
-    ensures { λ c. ⌜ c ≡ changeOf t (b .delta) (now (r .entry)) (now (x .entry)) l ⌝ }
+fn change_of(b: Basis, r: &[u64], x: &[u64], l: Line) -> Change
+    requires { ⌜ ChunkLine l ⌝ }
+    requires { ⌜ ((t : Track) × Based t b (now r) (now x)) ⌝ }
+    ensures { λ c. ⌜ ((t : Track) → Based t b (now (r .entry)) (now (x .entry))
+        → c ≡ changeOf t (b .delta) (now (r .entry)) (now (x .entry)) l) ⌝ }
 {
     let place = l.place;
     let from = place + 1;
@@ -102,7 +110,7 @@ fn change_of(t: Track, b: Basis, r: &[u64], x: &[u64], i: usize, l: Line) -> Cha
     if !old | is_ivs(want) {
         return Change::Sent;
     }
-    let u = old_length(t, b, r, x, i, l);
+    let u = old_length(b, r, l);
     let k = lines::length_of(want, now);
     if same_list(&r[from..from + u], &x[from..from + k]) {
         return Change::Omitted;
@@ -137,10 +145,22 @@ fn put_wide(ws: &[u64], out: &mut [u8], at: usize) -> usize
     p
 }
 
+// The number that the one value of a field is sent as.
+fn number_of(form: Form, c: Coding, b: Basis, r: &[u64], x: &[u64], l: Line, base: u64) -> Coded
+    requires { ⌜ l .place + 2 ≤ length (now r) ⌝ }
+    requires { ⌜ l .place + 2 ≤ length (now x) ⌝ }
+    requires { ⌜ l .want ≡ Want.One ⌝ }
+    ensures { λ z. ⌜ z ≡ codeOf (rows form) c (first base (oldValues (b .delta) (now (r .entry)) (b .was) l))
+        (getD (now (x .entry)) (l .place + 1) 0) ⌝ }
+{
+    let from = l.place + 1;
+    wire::zigzag::code(form, c, old_value(b, r, l, base), x[from])
+}
+
 // A field that is sent.
-fn sent_size(form: Form, t: Track, b: Basis, r: &[u64], x: &[u64], i: usize, l: Line) -> Weight
+fn sent_size(form: Form, t: Track, b: Basis, r: &[u64], x: &[u64], l: Line) -> Weight
     requires { ⌜ Based t b (now r) (now x) ⌝ }
-    requires { ⌜ (i < chunkLines) × (l ≡ getD lines i spare) ⌝ }
+    requires { ⌜ ChunkLine l ⌝ }
     requires { ⌜ stands t (b .delta) (now r) (now x) l ≡ true ⌝ }
     ensures { λ w. ⌜ WeighedAs (rows form) (sentItems t (b .delta) (now (r .entry)) (now (x .entry)) l (rows form))
         lineMost w ⌝ }
@@ -156,11 +176,59 @@ fn sent_size(form: Form, t: Track, b: Basis, r: &[u64], x: &[u64], i: usize, l: 
         return tuples::whole(tuples::body_size(form, l.id, 8 * k));
     }
     if l.room == 1 {
-        let z = wire::zigzag::code(form, c, old_value(b, r, l, base), x[from]);
+        let z = number_of(form, c, b, r, x, l, base);
         return tuples::number_size(form, true, l.id, z);
     }
-    let u = old_length(t, b, r, x, i, l);
+    let u = old_length(b, r, l);
     tuples::run_size(form, c, l.id, &x[from..from + k], &r[from..from + u], base)
+}
+
+// The tuple of the IVs.
+fn put_ivs(form: Form, id: u64, ws: &[u64], out: &mut [u8], at: usize) -> usize
+    requires { ⌜ length (now ws) ≤ subsamplesMost ⌝ }
+    requires { ⌜ at + length (encode (rows form) id ++ encode (rows form) (8 * length (now ws)) ++ wideBytes (now ws))
+        ≤ length (now out) ⌝ }
+    ensures { λ p. ⌜ Wrote (now (out .entry)) at
+        (encode (rows form) id ++ encode (rows form) (8 * length (now (ws .entry))) ++ wideBytes (now (ws .entry)))
+        (now (out .exit)) p ⌝ }
+{
+    let p = tuples::put_head(form, id, 8 * ws.len(), out, at);
+    put_wide(ws, out, p)
+}
+
+// The tuple of a list of k numbers.
+fn put_list(
+    form: Form,
+    c: Coding,
+    b: Basis,
+    r: &[u64],
+    x: &[u64],
+    l: Line,
+    k: usize,
+    base: u64,
+    out: &mut [u8],
+    at: usize,
+) -> usize
+    requires { ⌜ ChunkLine l ⌝ }
+    requires { ⌜ Measured (b .was) (now r) ⌝ }
+    requires { ⌜ (l .place + 1 + k ≤ length (now x)) × (length (now x) ≡ setLen) ⌝ }
+    requires { ⌜ isSome (listItem (rows form) c b (now r) (now x) l k base) ≡ true ⌝ }
+    requires { ⌜ RoomFor (rows form) (listItem (rows form) c b (now r) (now x) l k base) (now out) at ⌝ }
+    ensures { λ p. ⌜ WroteItems (rows form) (listItem (rows form) c b (now (r .entry)) (now (x .entry)) l k base)
+        (now (out .entry)) at (now (out .exit)) p ⌝ }
+{
+    let from = l.place + 1;
+    let u = old_length(b, r, l);
+    tuples::put_run(
+        form,
+        c,
+        l.id,
+        &x[from..from + k],
+        &r[from..from + u],
+        base,
+        out,
+        at,
+    )
 }
 
 fn put_sent(
@@ -169,13 +237,12 @@ fn put_sent(
     b: Basis,
     r: &[u64],
     x: &[u64],
-    i: usize,
     l: Line,
     out: &mut [u8],
     at: usize,
 ) -> usize
     requires { ⌜ Based t b (now r) (now x) ⌝ }
-    requires { ⌜ (i < chunkLines) × (l ≡ getD lines i spare) ⌝ }
+    requires { ⌜ ChunkLine l ⌝ }
     requires { ⌜ stands t (b .delta) (now r) (now x) l ≡ true ⌝ }
     requires { ⌜ isSome (sentItems t (b .delta) (now r) (now x) l (rows form)) ≡ true ⌝ }
     requires { ⌜ RoomFor (rows form) (sentItems t (b .delta) (now r) (now x) l (rows form)) (now out) at ⌝ }
@@ -190,24 +257,13 @@ fn put_sent(
     let c = field_coding(b.delta, absent);
     let base = absent_value(t, absent);
     if is_ivs(want) {
-        let p = tuples::put_head(form, l.id, 8 * k, out, at);
-        return put_wide(&x[from..from + k], out, p);
+        return put_ivs(form, l.id, &x[from..from + k], out, at);
     }
     if l.room == 1 {
-        let z = wire::zigzag::code(form, c, old_value(b, r, l, base), x[from]);
+        let z = number_of(form, c, b, r, x, l, base);
         return tuples::put_number(form, true, l.id, z, out, at);
     }
-    let u = old_length(t, b, r, x, i, l);
-    tuples::put_run(
-        form,
-        c,
-        l.id,
-        &x[from..from + k],
-        &r[from..from + u],
-        base,
-        out,
-        at,
-    )
+    put_list(form, c, b, r, x, l, k, base, out, at)
 }
 
 // The bytes of one field's tuple; none of one that is omitted or deleted. Most fields don't stand in a chunk, and for those the place of their
@@ -223,10 +279,10 @@ pub fn line_size(form: Form, t: Track, b: Basis, r: &[u64], x: &[u64], i: usize)
         return tuples::whole(0);
     }
     let l = lines::line_at(i);
-    let change = change_of(t, b, r, x, i, l);
+    let change = change_of(b, r, x, l);
     match change {
         Change::Omitted | Change::Deleted => tuples::whole(0),
-        Change::Sent => sent_size(form, t, b, r, x, i, l),
+        Change::Sent => sent_size(form, t, b, r, x, l),
     }
 }
 
@@ -253,9 +309,9 @@ pub fn put_line(
         return at;
     }
     let l = lines::line_at(i);
-    let change = change_of(t, b, r, x, i, l);
+    let change = change_of(b, r, x, l);
     match change {
         Change::Omitted | Change::Deleted => at,
-        Change::Sent => put_sent(form, t, b, r, x, i, l, out, at),
+        Change::Sent => put_sent(form, t, b, r, x, l, out, at),
     }
 }

@@ -3,9 +3,11 @@
 ghost use mathlib.Core.Path.{_≡_};
 ghost use mathlib.Core.Bool.{true};
 ghost use Prim.Native.Nat.{_+_, _-_, _*_, _≤_, _<_};
+ghost use lib.ListN.{length};
 ghost use Rattle.wire.specs.Form.{rows};
 ghost use Rattle.laws.specs.Options.{isSome};
-ghost use Rattle.field_table.specs.Lines.{lines};
+ghost use Rattle.track.specs.declared.Track.{Track};
+ghost use Rattle.field_table.specs.Lines.{lines, setLen};
 ghost use Rattle.locmaf_write_tuples.specs.Items.{pairMost, WeighedAs, RoomFor, WroteItems};
 ghost use Rattle.locmaf_write_block.specs.Changes.{chunkLines, basisOf, Writable, Based, lineMost};
 ghost use Rattle.locmaf_write_block.specs.Fields.{beforeBmdt, beforeCount, between, bmdtStands, bmdtItems, countStands, countItems, fieldItems, setMost};
@@ -67,9 +69,9 @@ fn bmdt_stands(t: Track, delta: bool, r: &[u64], x: &[u64]) -> bool
     !effective::follows::follows(t, r, x[lines::BMDT])
 }
 
-fn count_stands(t: Track, delta: bool, r: &[u64], x: &[u64]) -> bool
-    requires { ⌜ Writable t delta (now r) (now x) ⌝ }
-    ensures { λ b. ⌜ b ≡ countStands t delta (now (r .entry)) (now (x .entry)) ⌝ }
+fn count_stands(delta: bool, r: &[u64], x: &[u64]) -> bool
+    requires { ⌜ (length (now r) ≡ setLen) × (length (now x) ≡ setLen) ⌝ }
+    ensures { λ b. ⌜ ((t : Track) → b ≡ countStands t delta (now (r .entry)) (now (x .entry))) ⌝ }
 {
     !delta | (x[lines::COUNT] != r[lines::COUNT])
 }
@@ -103,32 +105,26 @@ fn put_bmdt(
     tuples::put_number(form, bmdt_stands(t, delta, r, x), ids::BMDT, c, out, at)
 }
 
-fn count_size(form: Form, t: Track, delta: bool, r: &[u64], x: &[u64]) -> Weight
-    requires { ⌜ Writable t delta (now r) (now x) ⌝ }
-    ensures { λ w. ⌜ WeighedAs (rows form) (countItems (rows form) t delta (now (r .entry)) (now (x .entry)))
-        pairMost w ⌝ }
+// The sample count's tuple, whatever the track is.
+fn count_size(form: Form, delta: bool, r: &[u64], x: &[u64]) -> Weight
+    requires { ⌜ (length (now r) ≡ setLen) × (length (now x) ≡ setLen) ⌝ }
+    ensures { λ w. ⌜ ((t : Track)
+        → WeighedAs (rows form) (countItems (rows form) t delta (now (r .entry)) (now (x .entry))) pairMost w) ⌝ }
 {
     let c = wire::zigzag::code(form, coding_for(delta), r[lines::COUNT], x[lines::COUNT]);
-    tuples::number_size(form, count_stands(t, delta, r, x), ids::COUNT, c)
+    tuples::number_size(form, count_stands(delta, r, x), ids::COUNT, c)
 }
 
-fn put_count(
-    form: Form,
-    t: Track,
-    delta: bool,
-    r: &[u64],
-    x: &[u64],
-    out: &mut [u8],
-    at: usize,
-) -> usize
-    requires { ⌜ Writable t delta (now r) (now x) ⌝ }
-    requires { ⌜ isSome (countItems (rows form) t delta (now r) (now x)) ≡ true ⌝ }
-    requires { ⌜ RoomFor (rows form) (countItems (rows form) t delta (now r) (now x)) (now out) at ⌝ }
-    ensures { λ p. ⌜ WroteItems (rows form) (countItems (rows form) t delta (now (r .entry)) (now (x .entry)))
-        (now (out .entry)) at (now (out .exit)) p ⌝ }
+fn put_count(form: Form, delta: bool, r: &[u64], x: &[u64], out: &mut [u8], at: usize) -> usize
+    requires { ⌜ (length (now r) ≡ setLen) × (length (now x) ≡ setLen) ⌝ }
+    requires { ⌜ ((t : Track) × (isSome (countItems (rows form) t delta (now r) (now x)) ≡ true)
+        × RoomFor (rows form) (countItems (rows form) t delta (now r) (now x)) (now out) at) ⌝ }
+    ensures { λ p. ⌜ ((t : Track)
+        → WroteItems (rows form) (countItems (rows form) t delta (now (r .entry)) (now (x .entry)))
+        (now (out .entry)) at (now (out .exit)) p) ⌝ }
 {
     let c = wire::zigzag::code(form, coding_for(delta), r[lines::COUNT], x[lines::COUNT]);
-    tuples::put_number(form, count_stands(t, delta, r, x), ids::COUNT, c, out, at)
+    tuples::put_number(form, count_stands(delta, r, x), ids::COUNT, c, out, at)
 }
 
 // ---- the lines
@@ -244,7 +240,7 @@ pub fn set_size(form: Form, t: Track, b: Basis, r: &[u64], x: &[u64]) -> Weight
 {
     let fields = lines_size(form, t, b, r, x, 0, CHUNK_LINES);
     let bmdt = bmdt_size(form, t, b.delta, r, x);
-    let count = count_size(form, t, b.delta, r, x);
+    let count = count_size(form, b.delta, r, x);
     let numbers = tuples::both(bmdt, count);
     tuples::both(fields, numbers)
 }
@@ -267,6 +263,6 @@ pub fn put_set(
     let p = put_lines(form, t, b, r, x, 0, BEFORE_BMDT, out, at);
     let q = put_bmdt(form, t, b.delta, r, x, out, p);
     let u = put_middle(form, t, b, r, x, out, q);
-    let v = put_count(form, t, b.delta, r, x, out, u);
+    let v = put_count(form, b.delta, r, x, out, u);
     put_high(form, t, b, r, x, out, v)
 }

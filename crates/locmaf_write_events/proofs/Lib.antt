@@ -1,3 +1,4 @@
+pub mod LentLaws
 pub mod RecordLaws
 pub mod ListLaws
 pub mod SumLoop

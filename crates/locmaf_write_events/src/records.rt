@@ -41,25 +41,25 @@ fn time_bytes(form: Form, t: Track, bmdt: TrackTicks, scale: u64, time: u64) -> 
     wire::varint::size(form, z)
 }
 
-// The bytes of the record of the event with the number i.
-fn record_bytes(form: Form, t: Track, bmdt: TrackTicks, events: &[u64], i: usize) -> usize
-    requires { ⌜ EventWords (now events) i ⌝ }
-    ensures { λ r. ⌜ (r ≡ wordsBytes (rows form) t (bmdt .0) (now (events .entry)) i) × (r < 2 ^ 36) ⌝ }
+// The bytes of the record of the event whose words are lent. Here and below the words are those of one event, so that they are read at constant
+// places.
+fn record_bytes(form: Form, t: Track, bmdt: TrackTicks, event: &[u64]) -> usize
+    requires { ⌜ EventWords (now event) 0 ⌝ }
+    ensures { λ r. ⌜ (r ≡ wordsBytes (rows form) t (bmdt .0) (now (event .entry)) 0) × (r < 2 ^ 36) ⌝ }
 {
-    let p = event_value::WORDS * i;
-    let texts = text_bytes(form, events[p + event_value::SCHEME_LENGTH]);
-    let value = text_bytes(form, events[p + event_value::VALUE_LENGTH]);
-    let message = text_bytes(form, events[p + event_value::MESSAGE_LENGTH]);
-    let scale = wire::varint::size(form, scale_of(t, events[p + event_value::TIMESCALE]));
+    let texts = text_bytes(form, event[event_value::SCHEME_LENGTH]);
+    let value = text_bytes(form, event[event_value::VALUE_LENGTH]);
+    let message = text_bytes(form, event[event_value::MESSAGE_LENGTH]);
+    let scale = wire::varint::size(form, scale_of(t, event[event_value::TIMESCALE]));
     let time = time_bytes(
         form,
         t,
         bmdt,
-        events[p + event_value::TIMESCALE],
-        events[p + event_value::TIME],
+        event[event_value::TIMESCALE],
+        event[event_value::TIME],
     );
-    let duration = wire::varint::size(form, events[p + event_value::DURATION]);
-    let id = wire::varint::size(form, events[p + event_value::ID]);
+    let duration = wire::varint::size(form, event[event_value::DURATION]);
+    let id = wire::varint::size(form, event[event_value::ID]);
     texts + (value + (scale + (time + (duration + (id + message)))))
 }
 
@@ -71,24 +71,24 @@ pub fn list_bytes(form: Form, t: Track, bmdt: TrackTicks, events: &[u64], k: usi
     let mut sum = 0;
     let mut i = 0;
     while i < k {
-        sum += record_bytes(form, t, bmdt, events, i);
+        let p = event_value::WORDS * i;
+        sum += record_bytes(form, t, bmdt, &events[p..p + event_value::WORDS]);
         i += 1;
     }
     sum
 }
 
-// Whether the time of the event with the number i fits into a varint. Its strings have no part in it.
-fn time_fits(form: Form, t: Track, bmdt: TrackTicks, events: &[u64], i: usize) -> bool
-    requires { ⌜ EventWords (now events) i ⌝ }
-    ensures { λ r. ⌜ r ≡ ltb (sentAt t (bmdt .0) [] (now (events .entry)) i .time) (limit (rows form)) ⌝ }
+// Whether the event's time fits into a varint. Its strings have no part in it.
+fn time_fits(form: Form, t: Track, bmdt: TrackTicks, event: &[u64]) -> bool
+    requires { ⌜ EventWords (now event) 0 ⌝ }
+    ensures { λ r. ⌜ r ≡ ltb (sentAt t (bmdt .0) [] (now (event .entry)) 0 .time) (limit (rows form)) ⌝ }
 {
-    let p = event_value::WORDS * i;
     let c = time_number(
         form,
         t,
         bmdt,
-        events[p + event_value::TIMESCALE],
-        events[p + event_value::TIME],
+        event[event_value::TIMESCALE],
+        event[event_value::TIME],
     );
     match c {
         Coded::Number(_) => true,
@@ -104,7 +104,8 @@ pub fn times_fit(form: Form, t: Track, bmdt: TrackTicks, events: &[u64], k: usiz
     let mut ok = true;
     let mut i = 0;
     while i < k {
-        ok = ok & time_fits(form, t, bmdt, events, i);
+        let p = event_value::WORDS * i;
+        ok = ok & time_fits(form, t, bmdt, &events[p..p + event_value::WORDS]);
         i += 1;
     }
     ok
@@ -124,84 +125,75 @@ fn put_text(form: Form, c: &[u8], from: u64, n: u64, out: &mut [u8], at: usize) 
     boxes::put::put_bytes(out, a, &c[start..start + n as usize])
 }
 
-// The four numbers in the middle of the record of the event with the number i.
+// The four numbers in the middle of the event's record.
 fn put_marks(
     form: Form,
     t: Track,
     bmdt: TrackTicks,
-    events: &[u64],
-    i: usize,
+    event: &[u64],
     out: &mut [u8],
     at: usize,
 ) -> usize
-    requires { ⌜ EventWords (now events) i ⌝ }
-    requires { ⌜ sentAt t (bmdt .0) [] (now events) i .time < limit (rows form) ⌝ }
-    requires { ⌜ at + length (encMarks (rows form) (sentAt t (bmdt .0) [] (now events) i)) ≤ length (now out) ⌝ }
+    requires { ⌜ EventWords (now event) 0 ⌝ }
+    requires { ⌜ sentAt t (bmdt .0) [] (now event) 0 .time < limit (rows form) ⌝ }
+    requires { ⌜ at + length (encMarks (rows form) (sentAt t (bmdt .0) [] (now event) 0)) ≤ length (now out) ⌝ }
     ensures { λ r. ⌜ Wrote (now (out .entry)) at
-        (encMarks (rows form) (sentAt t (bmdt .0) [] (now (events .entry)) i)) (now (out .exit)) r ⌝ }
+        (encMarks (rows form) (sentAt t (bmdt .0) [] (now (event .entry)) 0)) (now (out .exit)) r ⌝ }
 {
-    let p = event_value::WORDS * i;
     let c = time_number(
         form,
         t,
         bmdt,
-        events[p + event_value::TIMESCALE],
-        events[p + event_value::TIME],
+        event[event_value::TIMESCALE],
+        event[event_value::TIME],
     );
     let Coded::Number(z) = c else {
         return at;
     };
-    let a = wire::varint::put(
-        form,
-        out,
-        at,
-        scale_of(t, events[p + event_value::TIMESCALE]),
-    );
+    let a = wire::varint::put(form, out, at, scale_of(t, event[event_value::TIMESCALE]));
     let b = wire::varint::put(form, out, a, z);
-    let d = wire::varint::put(form, out, b, events[p + event_value::DURATION]);
-    wire::varint::put(form, out, d, events[p + event_value::ID])
+    let d = wire::varint::put(form, out, b, event[event_value::DURATION]);
+    wire::varint::put(form, out, d, event[event_value::ID])
 }
 
-// The record of the event with the number i.
+// The event's record.
 fn put_record(
     form: Form,
     t: Track,
     bmdt: TrackTicks,
     c: &[u8],
-    events: &[u64],
-    i: usize,
+    event: &[u64],
     out: &mut [u8],
     at: usize,
 ) -> usize
-    requires { ⌜ EventWords (now events) i × EventIn (now c) (now events) i ⌝ }
-    requires { ⌜ sentAt t (bmdt .0) (now c) (now events) i .time < limit (rows form) ⌝ }
-    requires { ⌜ at + length (encEvent (rows form) (sentAt t (bmdt .0) (now c) (now events) i)) ≤ length (now out) ⌝ }
+    requires { ⌜ EventWords (now event) 0 × EventIn (now c) (now event) 0 ⌝ }
+    requires { ⌜ sentAt t (bmdt .0) (now c) (now event) 0 .time < limit (rows form) ⌝ }
+    requires { ⌜ at + length (encEvent (rows form) (sentAt t (bmdt .0) (now c) (now event) 0)) ≤ length (now out) ⌝ }
     ensures { λ r. ⌜ Wrote (now (out .entry)) at
-        (encEvent (rows form) (sentAt t (bmdt .0) (now (c .entry)) (now (events .entry)) i)) (now (out .exit)) r ⌝ }
+        (encEvent (rows form) (sentAt t (bmdt .0) (now (c .entry)) (now (event .entry)) 0)) (now (out .exit)) r ⌝ }
 {
-    let p = event_value::WORDS * i;
     let a = put_text(
         form,
         c,
-        events[p],
-        events[p + event_value::SCHEME_LENGTH],
+        event[event_value::SCHEME],
+        event[event_value::SCHEME_LENGTH],
         out,
         at,
     );
     let b = put_text(
         form,
         c,
-        events[p + event_value::VALUE],
-        events[p + event_value::VALUE_LENGTH],
+        event[event_value::VALUE],
+        event[event_value::VALUE_LENGTH],
         out,
         a,
     );
-    let d = put_marks(form, t, bmdt, events, i, out, b);
+    let d = put_marks(form, t, bmdt, event, out, b);
     put_text(
         form,
         c,
-        events[p + event_value::MESSAGE],
-        events[p + event_value::MESSAGE_LENGTH],
+        event[event_value::MESSAGE],
+        event[event_value::MESSAGE_LENGTH],
         out,
         d,
     )
@@ -227,7 +219,16 @@ pub fn put_records(
     let mut p = at;
     let mut i = 0;
     while i < k {
-        p = put_record(form, t, bmdt, c, events, i, out, p);
+        let from = event_value::WORDS * i;
+        p = put_record(
+            form,
+            t,
+            bmdt,
+            c,
+            &events[from..from + event_value::WORDS],
+            out,
+            p,
+        );
         i += 1;
     }
     p

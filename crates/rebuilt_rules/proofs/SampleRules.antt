@@ -21,7 +21,7 @@ use Rattle.cmaf_read_shape.specs.Words.{wordOf}
 use Rattle.cmaf_read_trun.specs.Rows.{sampleFlags, countOf, runOf, cell}
 use Rattle.cmaf_read_trun.specs.Samples.{eachFrom, columnOf}
 use Rattle.cmaf_read_trun.specs.Columns.{allOnly}
-use Rattle.cmaf_read_rules.specs.Rules.{flagsOk, sizesOk, unprotectedOk}
+use Rattle.cmaf_read_rules.specs.Rules.{defaults, run, flagsOk, sizesOk, unprotectedOk}
 use Rattle.cmaf_read_facts.specs.Given.{Canonical}
 use Rattle.rebuilt.specs.Read.{Read}
 use Rattle.field_rules.proofs.Bounds.{Bounded, bounded}
@@ -47,7 +47,7 @@ only-none = refl
 
 module _ {t : Track} {c : List ℕ} {f : Inner} {w : List ℕ} {n offset : ℕ} (top : Top) (k : Read t c f w n offset) (g : Canonical t w n) where
   -- no flag stands that a chunk can't have
-  pub flags-rule : t .«iv_size» ≤ 16 → t .flags ≤ 31 → flagsOk t c top f ≡ true
+  pub flags-rule : t .«iv_size» ≤ 16 → t .flags ≤ 31 → flagsOk c (f .trun) (defaults t c top f .flags) (run t c top f) ≡ true
   unfolding flagsOk columnOf allOnly
   flags-rule iv own =
       rw (k .flags, k .trun .first-is, k .trun .has-flags)
@@ -68,7 +68,8 @@ module _ {t : Track} {c : List ℕ} {f : Inner} {w : List ℕ} {n offset : ℕ} 
       by false e = refl
 
   -- sizes sum to the payload; a `trun` without samples has its data offset alone
-  pub sizes-rule : n ≤ payloadMost → bodyOf (top .mdat) .len ≡ n → (countIn w ≡ 0 → wordOf c (f .trun) % 0x100_0000 ≡ 1) → sizesOk t c top f ≡ true
+  pub sizes-rule : n ≤ payloadMost → bodyOf (top .mdat) .len ≡ n → (countIn w ≡ 0 → wordOf c (f .trun) % 0x100_0000 ≡ 1)
+      → sizesOk c (top .mdat) (defaults t c top f .size) (run t c top f) ≡ true
   unfolding sizesOk
   sizes-rule short body alone =
       rw (sizes-are k, sizes-add t w n (g .long) (lawful-facts t w (g .is-lawful) .count) short (g .sizes), body, eq-eqb n n refl, k .trun .count)

@@ -1,7 +1,7 @@
 -- An object judged step by step: its block, its set, its values. Assumes nothing.
 use Prim.Native.Nat.{ℕ, _≤_}
 use native.Mathlib.Omega.{arith}
-use mathlib.Core.Path.{_≡_, sym, _∙_, ap}
+use mathlib.Core.Path.{_≡_, sym, _∙_, ap, subst}
 use mathlib.Core.Bool.{Bool, true}
 use mathlib.Core.List.{List, _++_}
 use borrow.Rule.Slice.PartAt.{part-to-end}
@@ -13,6 +13,7 @@ use Rattle.track.specs.declared.Track.{Track}
 use Rattle.field_table.specs.Lines.{setLen}
 use Rattle.field_set.specs.Lawful.{lawful as lawfulSet}
 use Rattle.share_words.specs.Share.{setAt}
+use Rattle.slots.specs.Share.{trackOf}
 use Rattle.locmaf_read_said.specs.Said.{Says, saysIn}
 use Rattle.locmaf_read_set.specs.Read.{newWords, fieldRungs, setRungs, ReadAs}
 use Rattle.locmaf_read_head.specs.declared.head.Place.{Place}
@@ -20,7 +21,7 @@ use Rattle.reference.proofs.OpenLaws.{reference-long, lent}
 use Rattle.receiver.specs.declared.judge.Judged.{Judged}
 use Rattle.receiver.specs.Object.{isDelta, saying}
 use Rattle.receiver.specs.Receive.{track, reference, splitRungs, valueRungs, judgeRungs}
-use Rattle.receiver.specs.Judge.{noneJudged, Judgeable, Split, SplitAs, JudgedAs}
+use Rattle.receiver.specs.Judge.{noneJudged, Judgeable, Split, SplitAs, SetRead, JudgedAs}
 use Rattle.receiver.proofs.JudgeLaws.{iv-small, delta-good, judged-none}
 
 -- no step answers 0 where it refuses
@@ -32,6 +33,10 @@ set-numbered : (t : Track) (delta : Bool) (r : List ℕ) (says : Says) → Numbe
 unfolding setRungs fieldRungs
 set-numbered t delta r says =
     ((λ e. omega arith), ((λ e. omega arith), ((λ e. omega arith), ((λ e. omega arith), ((λ e. omega arith), ((λ e. omega arith), tt))))))
+
+-- the track is the share's
+pub own-track : {F : List Row} {o s : List ℕ} {t : Track} {p : Place} → Judgeable F o s t p → Judgeable F o s (trackOf s) p
+own-track {F} {o} {s} {t} {p} j = subst (λ (u : Track). Judgeable F o s u p) (j .track) j
 
 module _ {F : List Row} {o s : List ℕ} {t : Track} {p : Place} (j : Judgeable F o s t p) {k : ℕ} {index ev : List ℕ} (sa : SplitAs F o s k index ev) where
   -- the block can't be split
@@ -80,15 +85,18 @@ module _ {F : List Row} {o s : List ℕ} {t : Track} {p : Place} (j : Judgeable 
 
       -- none is
       module _ (y : n ≡ 0) where
-        pub set-holds : Hold (setRungs t (isDelta F o) (reference F o s) (saying F o))
+        set-holds : Hold (setRungs t (isDelta F o) (reference F o s) (saying F o))
         set-holds = all-hold _ (set-numbered t (isDelta F o) (reference F o s) (saying F o)) (sym read-is ∙ y)
 
-        pub set-words : x ≡ newWords t (isDelta F o) (reference F o s) (saying F o) 0
+        set-words : x ≡ newWords t (isDelta F o) (reference F o s) (saying F o) 0
         set-words =
             rd .stored y
             ∙ ap (λ (q : Place). newWords t (q .delta) (lent s) (saysIn F o index) 0) (j .place)
             ∙ ap (λ (r : List ℕ). newWords t (isDelta F o) r (saysIn F o index) 0) (part-to-end s setAt)
             ∙ ap (λ (f : Says). newWords t (isDelta F o) (reference F o s) f 0) (split-of .says)
+
+        pub read-of : SetRead F o s t p index ev x
+        read-of = record { head = j; split = split-of; hold = set-holds; words = set-words }
 
         track-holds : Hold (setRungs (track F o s) (isDelta F o) (reference F o s) (saying F o))
         track-holds = all-hold _ (set-numbered (track F o s) (isDelta F o) (reference F o s) (saying F o)) (sym track-is ∙ y)

@@ -6,7 +6,6 @@ use mathlib.Core.Bool.{Bool, true, false, _&&_}
 use mathlib.Core.List.{List}
 use mathlib.Core.Option.{Option, none, some}
 use borrow.Author.Tests.{leb-true}
-use borrow.Rule.Slice.PartAt.{part-to-end}
 use lib.Dec.{leb}
 use lib.ListN.{length, getD, replicate, length-replicate, length-drop, set as store}
 use Rattle.constants.specs.Maxima.{brandBytesMost, eventsMost, eventBytesMost, payloadMost, numberMost}
@@ -19,7 +18,6 @@ use Rattle.wire.specs.declared.form.Row.{Row}
 use Rattle.track.specs.declared.Track.{Track}
 use Rattle.field_table.specs.Lines.{setLen}
 use Rattle.field_set.specs.Lawful.{lawful as lawfulSet}
-use Rattle.share_words.specs.Share.{setAt}
 use Rattle.laws.specs.Options.{onOption}
 use Rattle.event_value.specs.Events.{eventsOf, EventsFit, eventsLen}
 use Rattle.cmaf_write_front.specs.Writable.{Writable}
@@ -51,7 +49,7 @@ use Rattle.receiver.specs.Object.{isDelta, blockEnd, saying, payload}
 use Rattle.receiver.specs.Receive.{track, reference, bmdt, prft, events, brands, newSet, valuesOk, sumsOk, valueRungs}
 use Rattle.receiver.specs.Judge.{partIn, noneJudged, Judgeable, Split, JudgedAs}
 use Rattle.locmaf_read_times.proofs.PrftFacts.{prft-says, prft-headed}
-use Rattle.reference.proofs.OpenLaws.{reference-long, lent}
+use Rattle.reference.proofs.OpenLaws.{reference-long}
 use Rattle.receiver.proofs.ShareFacts.{iv-most, delta-lawful, reference-timed, kept-small}
 use Rattle.receiver.proofs.SaidLaws.{raw-bytes}
 use Rattle.receiver.proofs.BrandLaws.{BrandsTold, brands-told, brands-fours}
@@ -61,6 +59,10 @@ use Rattle.receiver.proofs.BrandLaws.{BrandsTold, brands-told, brands-f
 pub first-held : (a b c : Bool) → a ≡ true → c ≡ b → c ≡ (a and b)
 unfolding _and_
 first-held a b c e h = rw e h
+
+-- a test of what is told, among others
+pub told-ok : (a b : Bool) {r u : Told} → r ≡ u → (a && (r .ok && b)) ≡ (a && (u .ok && b))
+told-ok a b e = ap (λ (z : Told). a && (z .ok && b)) e
 
 -- ---- the rules of the values
 
@@ -128,8 +130,8 @@ module _ (F : List Row) (o s : List ℕ) where
 -- ---- what is lent
 
 module _ {F : List Row} {o s : List ℕ} {t : Track} {p : Place} (j : Judgeable F o s t p) where
-  pub lent-timed : Timed (lent s)
-  lent-timed = rw (part-to-end s setAt) (reference-timed s (j .share) (j .lawful) (j .opened))
+  pub lent-timed : Timed (reference F o s)
+  lent-timed = reference-timed s (j .share) (j .lawful) (j .opened)
 
   pub end-inside : p .end ≤ length o
   end-inside =
@@ -153,7 +155,7 @@ module _ {F : List Row} {o s : List ℕ} {t : Track} {p : Place} (j : Judgeable 
 pub record Worked (F : List Row) (o s : List ℕ) (t : Track) (p : Place) (index ev : List ℕ) (b : ℕ) (r : Told) (q : Part) : Type 0 where
   pub head : Judgeable F o s t p
   pub split : Split F o index ev
-  pub start : b ≡ bmdtOf t (scalarIn index 10) (lent s)
+  pub start : b ≡ bmdtOf t (scalarIn index 10) (reference F o s)
   pub told : r ≡ prftOf (p .delta) (scalarIn index) s
   pub named : q ≡ partIn index 23
 
@@ -173,7 +175,7 @@ module _ {F : List Row} {o s : List ℕ} {t : Track} {p : Place} {index ev : Lis
 
   bmdt-is : b ≡ bmdt F o s
   unfolding bmdt
-  bmdt-is = rw (scalar-said 10 refl, part-to-end s setAt, w .head .track) at (w .start)
+  bmdt-is = rw (scalar-said 10 refl, w .head .track) at (w .start)
 
   prft-is : r ≡ prft F o s
   unfolding prft

@@ -2,18 +2,18 @@
 -- ==== What only mirrors the code
 use Prim.Native.Nat.{ℕ, _+_, _-_, _*_, _≤_}
 use mathlib.Core.Path.{_≡_}
-use mathlib.Core.Bool.{true, cond}
+use mathlib.Core.Bool.{Bool, true, cond, _&&_}
 use mathlib.Core.List.{List}
-use lib.Dec.{eqb}
-use lib.ListN.{length, getD, replicate}
+use lib.Dec.{eqb, leb}
+use lib.ListN.{length, getD, replicate, drop}
 use lib.Seq.{slice}
 use Rattle.laws.specs.Ladder.{Rung, ladder, Hold}
-use Rattle.constants.specs.Maxima.{blockMost}
+use Rattle.constants.specs.Maxima.{blockMost, numberMost, payloadMost, brandBytesMost, eventsMost, eventBytesMost}
 use Rattle.wire.specs.declared.form.Row.{Row}
 use Rattle.track.specs.declared.Track.{Track}
 use Rattle.field_set.specs.Lawful.{lawful as lawfulSet}
 use Rattle.slots.specs.declared.lawful.Side.the-variants.{Receiver}
-use Rattle.share_words.specs.Share.{shareLen}
+use Rattle.share_words.specs.Share.{shareLen, setAt}
 use Rattle.slots.specs.Share.{isOpen, lawful}
 use Rattle.locmaf_read_index.specs.Held.{Tells}
 use Rattle.prft_value.specs.Prft.{absentPrft}
@@ -21,12 +21,15 @@ use Rattle.event_value.specs.Events.{eventsLen, eventsOf}
 use Rattle.locmaf_read_index.specs.Places.{standsAt, numberAt}
 use Rattle.locmaf_read_set.specs.Read.{setRungs, newWords}
 use Rattle.cmaf_write_front.specs.Writable.{Writable}
-use Rattle.locmaf_read_said.specs.Said.{saysIn, Telling}
+use Rattle.locmaf_read_said.specs.Said.{saysIn, scalarIn, Telling}
 use Rattle.locmaf_read_head.specs.declared.head.Place.{Place}
 use Rattle.locmaf_read_head.specs.Head.{placeOf}
+use Rattle.locmaf_read_times.specs.Bmdt.{bmdtOf}
+use Rattle.locmaf_read_times.specs.Prft.{prftOf}
 use Rattle.locmaf_read_events.specs.Values.{boxes}
 use Rattle.byte_parts.specs.declared.Part.{Part}
 use Rattle.receiver.specs.declared.judge.Judged.{Judged}
+use Rattle.receiver.specs.declared.judge.Values.{Values}
 use Rattle.receiver.specs.Object.{isDelta, blockAt, blockEnd, blockLength, saying, payload}
 use Rattle.receiver.specs.Receive.{track, reference, bmdt, prft, events, brands, newSet, heldOk, splitRungs, valueRungs, judgeRungs}
 
@@ -35,6 +38,17 @@ unfoldable pub partIn : List ℕ → ℕ → Part
 partIn index id =
     cond (eqb (getD index (standsAt id) 0) 0) (record { at = 0; len = 0 })
     (record { at = getD index (standsAt id) 0 - 1; len = getD index (numberAt id) 0 })
+
+-- what the values of an object are by its index, and whether they are within their maxima, but for those of single events
+pub record ValuesTold (t : Track) (delta : Bool) (payload events : ℕ) (s index : List ℕ) (v : Values) : Type 0 where
+  pub start : v .bmdt .0 ≡ bmdtOf t (scalarIn index 10) (drop setAt s)
+  pub time : v .prft ≡ prftOf delta (scalarIn index) s .prft
+  pub named : v .brands ≡ partIn index 23
+  pub tested : v .ok
+      ≡ (leb (v .bmdt .0) numberMost
+      && (prftOf delta (scalarIn index) s .ok
+      && (leb payload payloadMost
+      && (leb (v .brands .len) brandBytesMost && (leb events eventsMost && leb (getD index (numberAt 25) 0) eventBytesMost)))))
 
 -- nothing but a number
 abbrev pub noneJudged : ℕ → Judged
@@ -62,13 +76,12 @@ pub record SplitAs (F : List Row) (o s : List ℕ) (number : ℕ) (index events 
   pub answered : number ≡ ladder (splitRungs F o s) (λ k. k) 0
   pub split : number ≡ 0 → Split F o index events
 
--- the set of moof fields was read: every rule of it holds
-abbrev pub SetHolds : List Row → List ℕ → List ℕ → Track → Type 0
-SetHolds F o s t = Hold (setRungs t (isDelta F o) (reference F o s) (saying F o))
-
--- and x has its words, but for BMDT
-abbrev pub SetIs : List Row → List ℕ → List ℕ → Track → List ℕ → Type 0
-SetIs F o s t x = x ≡ newWords t (isDelta F o) (reference F o s) (saying F o) 0
+-- and the set of moof fields was read: every rule of it holds, and x has its words, but for BMDT
+pub record SetRead (F : List Row) (o s : List ℕ) (t : Track) (p : Place) (index events x : List ℕ) : Type 0 where
+  pub head : Judgeable F o s t p
+  pub split : Split F o index events
+  pub hold : Hold (setRungs t (isDelta F o) (reference F o s) (saying F o))
+  pub words : x ≡ newWords t (isDelta F o) (reference F o s) (saying F o) 0
 
 -- the scratch words have all that the front is made of
 pub record Ready (F : List Row) (o s : List ℕ) (j : Judged) (ws x : List ℕ) : Type 0 where
@@ -79,6 +92,11 @@ pub record Ready (F : List Row) (o s : List ℕ) (j : Judged) (ws x : List ℕ) 
   pub named : slice (j .brands .at) (j .brands .at + j .brands .len) o ≡ brands F o s
   pub good : lawfulSet (track F o s) x ≡ true
   pub writable : Writable (track F o s) x (length (payload F o)) (j .prft) o ws (j .events) (brands F o s)
+
+-- and the object that it is made for can be accepted
+pub record Acceptable (F : List Row) (o s : List ℕ) (t : Track) (p : Place) (j : Judged) (ws x : List ℕ) : Type 0 where
+  pub head : Judgeable F o s t p
+  pub ready : Ready F o s j ws x
 
 pub record JudgedAs (rungs : List Rung) (F : List Row) (o s : List ℕ) (j : Judged) (ws x : List ℕ) : Type 0 where
   pub answered : j .number ≡ ladder rungs (λ k. k) 0

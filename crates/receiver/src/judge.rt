@@ -1,24 +1,31 @@
 // The number of an object: every rule in its order, with nothing lent changed. What it works out on the way is in the scratch words.
-// Letters: `t` the track, `o` an object's bytes, `p` where the block stands, `s` the words of a share, `x` the words of the new set.
+// Letters: `F` the rows of a form, `t` the track, `o` an object's bytes, `p` where the block stands, `s` the words of a share, `x` the words of the new set.
 ghost use mathlib.Core.Path.{_≡_};
+ghost use mathlib.Core.List.{List};
 ghost use Prim.Native.Nat.{_+_, _-_, _≤_, _<_};
-ghost use lib.ListN.{length, replicate};
+ghost use lib.ListN.{length, replicate, drop};
 ghost use Rattle.constants.specs.Ids.{idCount};
 ghost use Rattle.constants.specs.Maxima.{payloadMost};
+ghost use Rattle.wire.specs.declared.form.Row.{Row};
 ghost use Rattle.wire.specs.Form.{rows};
 ghost use Rattle.field_table.specs.Lines.{setLen};
 ghost use Rattle.event_value.specs.Events.{eventsLen};
 ghost use Rattle.locmaf_read_index.specs.Places.{indexLen};
 ghost use Rattle.told_sizes.specs.Sums.{Summable};
+ghost use Rattle.effective.specs.Durations.{Timed};
 ghost use Rattle.effective.specs.Sums.{sizesOk, protectedOk};
 ghost use Rattle.laws.specs.Tests.{_and_};
-ghost use Rattle.receiver.specs.Judge.{partIn, noneJudged, Judgeable, Split, SplitAs, SetHolds, SetIs, AllJudged, ValuesJudged};
+ghost use Rattle.share_words.specs.Share.{shareLen, setAt};
+ghost use Rattle.slots.specs.Share.{trackOf};
+ghost use Rattle.receiver.specs.Judge.{partIn, noneJudged, Judgeable, SplitAs, SetRead};
+ghost use Rattle.receiver.specs.Judge.{ValuesTold, AllJudged, ValuesJudged};
 use byte_parts::Part;
 use constants::ids;
 use constants::maxima;
 use field_table::lines;
 use locmaf_read_head::head::Place;
 use locmaf_read_index::places;
+use media::clocks::TrackTicks;
 use prft_value::Prft;
 use share_words::share;
 use track::Track;
@@ -47,6 +54,42 @@ fn part_of(index: &[u64], id: usize) -> Part
     }
 }
 
+// What isn't a moof field nor of a single event, and whether all of it is within its maxima.
+struct Values {
+    ok: bool,
+    bmdt: TrackTicks,
+    prft: Prft,
+    brands: Part,
+}
+
+// The values of an object with so many bytes of payload and so many events.
+fn values_of(
+    t: Track,
+    delta: bool,
+    payload: usize,
+    events: usize,
+    s: &[u64],
+    index: &[u64],
+) -> Values
+    requires { ⌜ (length (now index) ≡ indexLen) × (length (now s) ≡ shareLen) × Timed (drop setAt (now s)) ⌝ }
+    ensures { λ v. ⌜ ValuesTold t delta payload events (now (s .entry)) (now (index .entry)) v ⌝ }
+{
+    let bmdt = locmaf_read_times::bmdt::bmdt_of(t, index, &s[share::SET..]);
+    let told = locmaf_read_times::prft::prft_of(delta, index, s);
+    let brands = part_of(index, ids::BRANDS as usize);
+    let most = (payload <= maxima::PAYLOAD as usize)
+        & ((brands.len <= maxima::BRAND_BYTES)
+            & ((events <= maxima::EVENTS) & (index[places::EVENTS_LENGTH] <= maxima::EVENT_BYTES)));
+    let ok = (bmdt.0 <= maxima::NUMBER) & (told.ok & most);
+    let prft = told.prft;
+    Values {
+        ok,
+        bmdt,
+        prft,
+        brands,
+    }
+}
+
 fn refused(number: u64) -> Judged
     ensures { λ r. ⌜ r ≡ noneJudged number ⌝ }
 {
@@ -59,16 +102,8 @@ fn refused(number: u64) -> Judged
 }
 
 // The block split: 12, 13 or 0.
-fn split(
-    form: Form,
-    t: Track,
-    o: &[u8],
-    p: Place,
-    s: &[u64],
-    index: &mut [u64],
-    events: &mut [u64],
-) -> u64
-    requires { ⌜ Judgeable (rows form) (now o) (now s) t p ⌝ }
+fn split(form: Form, o: &[u8], p: Place, s: &[u64], index: &mut [u64], events: &mut [u64]) -> u64
+    requires { ⌜ Judgeable (rows form) (now o) (now s) (trackOf (now s)) p ⌝ }
     requires { ⌜ (now index ≡ replicate indexLen 0) × (now events ≡ replicate eventsLen 0) ⌝ }
     ensures { λ k. ⌜ SplitAs (rows form) (now (o .entry)) (now (s .entry)) k (now (index .exit))
         (now (events .exit)) ⌝ }
@@ -100,7 +135,7 @@ pub fn judge(
         × (now x ≡ replicate setLen 0) ⌝ }
     ensures { λ j. ⌜ AllJudged (rows form) (now (o .entry)) (now (s .entry)) j (now (events .exit)) (now (x .exit)) ⌝ }
 {
-    let k = split(form, t, o, p, s, &mut *index, &mut *events);
+    let k = split(form, o, p, s, &mut *index, &mut *events);
     if k != 0 {
         return refused(k);
     }
@@ -109,12 +144,12 @@ pub fn judge(
     if n != 0 {
         return refused(n);
     }
-    judge_values(form, t, o, p, s, index, events, x)
+    judge_values(t, o, p, s, index, events, x)
 }
 
-// From the values of what isn't a moof field on.
+// From the values of what isn't a moof field on. What stands on the wire is in the scratch words by now, so that no form is asked for: the promise
+// is for every form that they were read by.
 fn judge_values(
-    form: Form,
     t: Track,
     o: &[u8],
     p: Place,
@@ -123,24 +158,18 @@ fn judge_values(
     events: &mut [u64],
     x: &mut [u64],
 ) -> Judged
-    requires { ⌜ Judgeable (rows form) (now o) (now s) t p ⌝ }
-    requires { ⌜ Split (rows form) (now o) (now index) (now events) ⌝ }
-    requires { ⌜ SetHolds (rows form) (now o) (now s) t ⌝ }
-    requires { ⌜ SetIs (rows form) (now o) (now s) t (now x) ⌝ }
-    ensures { λ j. ⌜ ValuesJudged (rows form) (now (o .entry)) (now (s .entry)) j (now (events .exit))
-        (now (x .exit)) ⌝ }
+    requires { ⌜ ((F : List Row) × SetRead F (now o) (now s) t p (now index) (now events) (now x)) ⌝ }
+    ensures { λ j. ⌜ ((F : List Row) → SetRead F (now (o .entry)) (now (s .entry)) t p (now (index .entry))
+        (now (events .entry)) (now (x .entry))
+        → ValuesJudged F (now (o .entry)) (now (s .entry)) j (now (events .exit)) (now (x .exit))) ⌝ }
 {
-    let bmdt = locmaf_read_times::bmdt::bmdt_of(t, index, &s[share::SET..]);
-    let told = locmaf_read_times::prft::prft_of(p.delta, index, s);
-    let brands = part_of(index, ids::BRANDS as usize);
     let k = index[places::EVENTS_COUNT] as usize;
     let payload = o.len() - p.end;
-    let most = (payload <= maxima::PAYLOAD as usize)
-        & ((brands.len <= maxima::BRAND_BYTES)
-            & ((k <= maxima::EVENTS) & (index[places::EVENTS_LENGTH] <= maxima::EVENT_BYTES)));
-    if !((bmdt.0 <= maxima::NUMBER) & (told.ok & most)) {
+    let v = values_of(t, p.delta, payload, k, s, index);
+    if !v.ok {
         return refused(15);
     }
+    let bmdt = v.bmdt;
     if !locmaf_read_events::events::events_ok(t, bmdt, o, &mut *events, k) {
         return refused(15);
     }
@@ -148,7 +177,8 @@ fn judge_values(
     if !sums_ok(t, x, payload as u64) {
         return refused(16);
     }
-    let prft = told.prft;
+    let prft = v.prft;
+    let brands = v.brands;
     Judged {
         number: 0,
         prft,

@@ -1,13 +1,16 @@
 // The call: one object.
 ghost use mathlib.Core.Path.{_≡_};
+ghost use mathlib.Core.List.{List};
+ghost use Prim.Native.Nat.{ℕ};
 ghost use lib.ListN.{length};
+ghost use Rattle.wire.specs.declared.form.Row.{Row};
 ghost use Rattle.wire.specs.Form.{rows};
 ghost use Rattle.wire.specs.declared.form.Form.the-variants.{Rfc9000};
 ghost use Rattle.share_words.specs.Share.{shareLen};
 ghost use Rattle.slots.specs.Table.{out, onTable};
 ghost use Rattle.answers.specs.Took.{took, refused};
 ghost use Rattle.receiver.specs.Receive.{refusing, written, taken, receiving};
-ghost use Rattle.receiver.specs.Judge.{Judgeable, Ready};
+ghost use Rattle.receiver.specs.Judge.{Judgeable, Acceptable};
 use crate::judge;
 use crate::judge::Judged;
 use answers::room;
@@ -25,18 +28,12 @@ use slots::lawful::Side;
 use track::Track;
 use wire::form::Form;
 
-// A refusal: 12 to 16 drop the reference, every other number changes nothing.
-fn refuse<'a>(
-    o: &'a [u8],
-    s: &mut [u64],
-    k: u64,
-    output: &mut [u8],
-    number: &mut u64,
-    front: &mut u64,
-) -> &'a [u8]
+// A refusal: 12 to 16 drop the reference, every other number changes nothing. Whatever the output holds, it stays.
+fn refuse<'a>(o: &'a [u8], s: &mut [u64], k: u64, number: &mut u64, front: &mut u64) -> &'a [u8]
     requires { ⌜ length (now s) ≡ shareLen ⌝ }
-    ensures { λ r. ⌜ out (took (now (number .exit)) (now (front .exit)) (now r) (now (output .exit))) (now (s .exit))
-        ≡ refusing (now (output .entry)) (now (s .entry)) k ⌝ }
+    ensures { λ r. ⌜ ((output : List ℕ)
+        → out (took (now (number .exit)) (now (front .exit)) (now r) output) (now (s .exit))
+        ≡ refusing output (now (s .entry)) k) ⌝ }
 {
     *number = k;
     *front = 0;
@@ -44,9 +41,8 @@ fn refuse<'a>(
     &o[..0]
 }
 
-// The front into the output, if there is room for it, and the reference into the share.
+// The front into the output, if there is room for it, and the reference into the share. As in `judge_values`, no form is asked for.
 fn accept<'a>(
-    form: Form,
     t: Track,
     p: Place,
     o: &'a [u8],
@@ -58,10 +54,11 @@ fn accept<'a>(
     number: &mut u64,
     front: &mut u64,
 ) -> &'a [u8]
-    requires { ⌜ Judgeable (rows form) (now o) (now s) t p ⌝ }
-    requires { ⌜ Ready (rows form) (now o) (now s) j (now list) (now x) ⌝ }
-    ensures { λ r. ⌜ out (took (now (number .exit)) (now (front .exit)) (now r) (now (output .exit))) (now (s .exit))
-        ≡ written (rows form) (now (o .entry)) (now (output .entry)) (now (s .entry)) ⌝ }
+    requires { ⌜ ((F : List Row) × Acceptable F (now o) (now s) t p j (now list) (now x)) ⌝ }
+    ensures { λ r. ⌜ ((F : List Row)
+        → Acceptable F (now (o .entry)) (now (s .entry)) t p j (now (list .entry)) (now (x .entry))
+        → out (took (now (number .exit)) (now (front .exit)) (now r) (now (output .exit))) (now (s .exit))
+        ≡ written F (now (o .entry)) (now (output .entry)) (now (s .entry))) ⌝ }
 {
     let from = j.brands.at;
     let to = from + j.brands.len;
@@ -70,9 +67,9 @@ fn accept<'a>(
     let k = j.events;
     let payload = (o.len() - end) as u64;
     let names = &o[from..to];
-    let need = front_length(t, x, payload, prft, o, list, k, names);
+    let need = front_length(t, x, prft, list, k, names);
     if !room::has_room(need, output.len()) {
-        return refuse(o, s, 17, output, number, front);
+        return refuse(o, s, 17, number, front);
     }
     let count = (s[share::ACCEPTED] + 1) % 4294967296;
     let n = put_front(t, count, x, payload, prft, o, list, k, names, &mut *output);
@@ -103,9 +100,9 @@ fn take_block<'a>(
     let j = judge::judge(form, t, o, p, s, &mut index, &mut events, &mut x);
     let k = j.number;
     if k != 0 {
-        return refuse(o, s, k, output, number, front);
+        return refuse(o, s, k, number, front);
     }
-    accept(form, t, p, o, s, j, &events, &x, output, number, front)
+    accept(t, p, o, s, j, &events, &x, output, number, front)
 }
 
 // An object on a share.
@@ -122,18 +119,18 @@ fn take_object<'a>(
         ≡ receiving (rows form) (now (o .entry)) (now (output .entry)) (now (s .entry)) ⌝ }
 {
     if !lawful::is_lawful(Side::Receiver, s) {
-        return refuse(o, s, 18, output, number, front);
+        return refuse(o, s, 18, number, front);
     }
     if s[share::TRACK] == 0 {
-        return refuse(o, s, 2, output, number, front);
+        return refuse(o, s, 2, number, front);
     }
     let t = lawful::track_of(s);
     let h = locmaf_read_head::head::head_of(form, o);
     match h {
-        Head::Refused(k) => refuse(o, s, k, output, number, front),
+        Head::Refused(k) => refuse(o, s, k, number, front),
         Head::Block(p) => {
             if p.delta & (s[share::HELD] == 0) {
-                return refuse(o, s, 11, output, number, front);
+                return refuse(o, s, 11, number, front);
             }
             take_block(form, t, p, o, s, output, number, front)
         }
@@ -149,7 +146,8 @@ pub fn receive<'a>(
     number: &mut u64,
     front: &mut u64,
 ) -> &'a [u8]
-    ensures { λ r. ⌜ out (took (now (number .exit)) (now (front .exit)) (now r) (now (output .exit))) (now (table .exit))
+    ensures { λ r. ⌜ out (took (now (number .exit)) (now (front .exit)) (now r) (now (output .exit)))
+        (now (table .exit))
         ≡ onTable (refused (now (output .entry)))
         (receiving (rows Rfc9000) (now (object .entry)) (now (output .entry)))
         (now (table .entry)) slot ⌝ }

@@ -15,8 +15,8 @@ use Rattle.laws.proofs.TestLaws.{both}
 use Rattle.laws.specs.Ladder.{Hold}
 use Rattle.laws.specs.Options.{isSome}
 use Rattle.track.specs.declared.Track.{Track}
-use Rattle.field_table.specs.Lines.{lines, spare, lineFor, every, bmdtAt, countAt, ivSizeAt, lineCount}
-use Rattle.field_set.specs.Lawful.{has, valuesOf, marksOf, saizOk, setRules, sameIvSize, measureOf}
+use Rattle.field_table.specs.Lines.{lines, marksOf, spare, lineFor, every, bmdtAt, countAt, ivSizeAt, lineCount}
+use Rattle.field_set.specs.Lawful.{has, valuesOf, saizOk, setRules, sameIvSize, measureOf}
 use Rattle.field_set.proofs.LawfulLaws.{Lawful, lawful-facts, lawful-region}
 use Rattle.field_table.proofs.LineLaws.{line-count, every-holds}
 use Rattle.locmaf_read_said.specs.Said.{Says, sayingOf}

@@ -20,9 +20,9 @@ judging g =
     record {
       top-is = s .pre .0 .0;
       inner-is = s .pre .0 .1;
-      boxes-right = s .pre .1 .0;
+      boxes-right = s .pre .1 .0 .0;
       counts-right = held (g .before .counts-ok .ensures) (g .if1 .left);
-      lent = s .pre .1 .1;
+      lent = s .pre .1 .0 .1;
     }
 
 bytes : (g : tie.Else1) → Bytes (start g .args .c .now)
@@ -32,7 +32,7 @@ counts-ok-requires : tie.Need-counts-ok-requires
 counts-ok-requires c κs =
     let s = c .before .before in
     let a = s .args in
-    (s .pre .0, found-hold (a .t) (a .c .now) (a .top) (a .f) (s .pre .0 .0) (s .pre .0 .1) (s .pre .1 .0) .trun-ok)
+    (s .pre .0, found-hold (a .t) (a .c .now) (a .top) (a .f) (s .pre .0 .0) (s .pre .0 .1) (s .pre .1 .0 .0) .trun-ok)
 
 returns : tie.Need-returns
 returns c =
@@ -65,7 +65,8 @@ returns-2 c =
 rules-ok-requires : tie.Need-rules-ok-requires
 rules-ok-requires c κs =
     let g = c .before .before .before .before .before .before .before .before .before .before .before in
-    rules-lent (judging g) (c .before .before .before .before .before .before .before .keep-events .ensures)
+    let l = rules-lent (judging g) (c .before .before .before .before .before .before .before .keep-events .ensures) in
+    (l .0, (l .1, start g .pre .1 .1))
 
 same-length-2 : tie.Need-same-length-2
 same-length-2 c = search needs

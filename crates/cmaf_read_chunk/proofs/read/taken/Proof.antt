@@ -1,7 +1,7 @@
 -- `cmaf_read_chunk::read::taken` meets its contract: the boxes lie in the chunk, and each part is the definition's. Assumes nothing.
 use native.Mathlib.Omega.{arith}
 use mathlib.Core.Path.{refl}
-use Rattle.cmaf_read_boxes.proofs.BoxLaws.{found-in, found-hold}
+use Rattle.cmaf_read_boxes.proofs.BoxLaws.{found-in}
 use Rattle.cmaf_read_chunk.proofs.TakenLaws.{taken-by}
 use Rattle.cmaf_read_chunk.proofs.read.taken.Statement.{statement}
 use Rattle.cmaf_read_chunk.proofs.read.taken.Tie as tie
@@ -11,8 +11,7 @@ prft-of-requires c κs =
     let s = c .before .before .before .before in
     let a = s .args in
     let i = found-in (a .c .now) (a .top) _ (s .pre .0) refl in
-    let h = found-hold (a .t) (a .c .now) (a .top) _ (s .pre .0) refl (s .pre .1) in
-    (i .prft-in, h .prft-ok)
+    (i .prft-in, s .pre .1)
 
 body-requires : tie.Need-body-requires
 body-requires c κs =

@@ -16,8 +16,7 @@ prft-track-requires c κs = search needs
 returns : tie.Need-returns
 returns c =
     let s = c .before .before .before .before .before .before .before in
-    outer-by (s .args .t) (s .args .c .now) (s .args .top) (s .args .f) _ _ (s .args .d)
-    (c .before .before .minor-version .ensures) (c .before .prft-track .ensures) (s .pre .1)
+    outer-by (s .args .t) (s .args .c .now) (s .args .top) (s .args .d) _ _ (c .before .before .minor-version .ensures) (c .before .prft-track .ensures)
 
 pub outer-ok-spec : {M : Type 1} → statement M
 outer-ok-spec = tie.close (tie.spec cast-ours minor-version-requires prft-track-requires returns)

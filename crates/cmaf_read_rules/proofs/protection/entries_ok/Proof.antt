@@ -1,21 +1,22 @@
 -- `cmaf_read_rules::protection::entries_ok` meets its contract: at each place, the test so far and the entries that are left. Assumes nothing.
 use Prim.Native.Nat.{_-_}
 use borrow.Author.Needs.{needs}
-use Rattle.cmaf_read_rules.proofs.CountLaws.{samples-few, senc-walk, rows-here, infos-here}
+use native.Mathlib.Omega.{arith}
+use Rattle.cmaf_read_senc.proofs.EntryLaws.{left-few}
 use Rattle.cmaf_read_rules.proofs.EntryRules.{Checking, checking-start, checking-head, checking-pairs, checking-here, checking-len, checking-next, checking-end}
 use Rattle.cmaf_read_rules.proofs.protection.entries_ok.Statement.{statement}
 use Rattle.cmaf_read_rules.proofs.protection.entries_ok.Tie as tie
 
 abbrev Inv-loop : tie.InvT-loop
-Inv-loop c e r default saiz n ok₀ p₀ i₀ ok p i = Checking c e saiz r default n ok p i
+Inv-loop c saiz e r default n ok₀ p₀ i₀ ok p i = Checking c e saiz r default n ok p i
 
 abbrev μ-loop : tie.MeasureT-loop
-μ-loop c e r default saiz n ok₀ p₀ i₀ ok p i = n - i
+μ-loop c saiz e r default n ok₀ p₀ i₀ ok p i = n - i
 
 loop-holds : tie.Need-loop-holds Inv-loop μ-loop
 loop-holds c =
-    let p = c .before .before .pre in
-    checking-start _ _ _ _ _ _ (senc-walk (p .0 .0) (p .0 .1) (p .1 .0 .0) (p .1 .0 .1) (p .1 .1)) (p .0 .0 .subsamples)
+    let w = c .before .pre .1 .0 in
+    checking-start _ _ _ _ _ _ (left-few w) (w .few)
 
 pairs-at-requires : tie.Need-pairs-at-requires Inv-loop μ-loop
 pairs-at-requires c κs = checking-head _ _ _ _ _ (c .before .loop .inv) (c .loop-test .taken)
@@ -32,8 +33,8 @@ add-len c =
 
 size-at-requires : tie.Need-size-at-requires Inv-loop μ-loop
 size-at-requires c κs =
-    let p = c .before .before .before .before .before .before .before .pre in
-    (rows-here (p .0 .0) (p .1 .0 .1), (p .1 .0 .2, c .before .before .before .loop-test .taken))
+    let p = c .before .before .before .before .before .before .pre .0 in
+    (p .0 .0, (p .1, c .before .before .before .loop-test .taken))
 
 entry-ok-requires : tie.Need-entry-ok-requires Inv-loop μ-loop
 entry-ok-requires c κs =
@@ -45,9 +46,9 @@ entry-ok-requires c κs =
 
 info-size-requires : tie.Need-info-size-requires Inv-loop μ-loop
 info-size-requires c κs =
-    let p = c .before .before .before .before .before .before .before .before .before .pre in
+    let p = c .before .before .before .before .before .before .before .before .pre .1 .1 in
     let h = c .before .before .before .before .before .loop-test .taken in
-    (p .0 .0 .saiz-in, (p .0 .0 .saiz-ok, infos-here (p .0 .0) (p .1 .0 .1) (p .1 .1) h))
+    (p .0, (p .1, omega (arith, h, p .2)))
 
 add-p : tie.Need-add-p Inv-loop μ-loop
 add-p c =
@@ -59,8 +60,7 @@ add-p c =
 
 add-i : tie.Need-add-i Inv-loop μ-loop
 add-i c =
-    let p = c .before .before .before .before .before .before .before .before .before .before .pre in
-    let z = samples-few (p .0 .0) (p .1 .0 .1) in
+    let z = c .before .before .before .before .before .before .before .before .before .pre .0 .0 .1 in
     let h = c .before .before .before .before .before .before .loop-test .taken in
     search needs
 

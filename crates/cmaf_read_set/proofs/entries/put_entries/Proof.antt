@@ -14,7 +14,7 @@ abbrev μ-loop : tie.MeasureT-loop
 μ-loop c e x₀ n j₀ p₀ i₀ x j p i = n - i
 
 loop-holds : tie.Need-loop-holds Inv-loop μ-loop
-loop-holds c = let b = c .before .before in walk-start (b .args .t) _ (b .args .f .senc) _ _ (b .pre .0) (b .pre .1 .0) (b .pre .1 .1)
+loop-holds c = let b = c .before .before in walk-start _ _ _ (b .pre .0) (b .pre .1)
 
 pairs-at-requires : tie.Need-pairs-at-requires Inv-loop μ-loop
 pairs-at-requires c κs = walk-head (c .before .loop .inv) (c .loop-test .taken)

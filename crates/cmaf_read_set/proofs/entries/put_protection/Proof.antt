@@ -5,7 +5,7 @@ use denote.Ref.{now}
 use Rattle.field_rules.specs.Words.{storeAll}
 use Rattle.cmaf_read_set.specs.Set.{fieldOf}
 use Rattle.cmaf_read_set.specs.Stored.{protectionLines}
-use Rattle.cmaf_read_senc.proofs.SencLaws.{senc-stands}
+use Rattle.cmaf_read_senc.proofs.SencLaws.{senc-stands, senc-few}
 use Rattle.cmaf_read_set.proofs.MarkLaws.{marks-length}
 use Rattle.cmaf_read_set.proofs.ProtectionLaws.{protection-none, protection-done, some-bytes, count-asked, iv-size-asked, store-length}
 use Rattle.cmaf_read_set.proofs.entries.put_protection.Statement.{statement}
@@ -29,16 +29,17 @@ put-entries-requires c κs =
     let n = c .before .before .before .before .before .before .if1 .left in
     let q = c .before .before .before .before .before .entries-of .ensures .0 in
     let e = c .before .before .before .before .before .entries-of .result in (
-      (h .0 .0, h .0 .1, some-bytes _ n),
       (
-        (q, count-asked (a .t) (now (a .c)) (a .f) n e q (h .1 .0 .0), iv-size-asked (a .t) (now (a .c)) (a .f) n e q (h .1 .0 .1), h .1 .0 .2),
-        ap length (c .before .before .before .put-marks .ensures) ∙ marks-length e (now (a .x)) ∙ h .1 .1,
+        count-asked (a .t) (now (a .c)) (a .f) n e q (h .1 .0 .0),
+        iv-size-asked (a .t) (now (a .c)) (a .f) n e q (h .1 .0 .1),
+        senc-few (a .t) (now (a .c)) (a .f .senc) (h .0 .0) (h .0 .1) (some-bytes _ n) (h .1 .0 .2) q,
       ),
+      ap length (c .before .before .before .put-marks .ensures) ∙ marks-length e (now (a .x)) ∙ h .1 .1,
     )
 
 -- what is stored, where the box stands
 stored : (c : tie.After-slice-known3)
-    → c .before .before .put-entries .last .1 .1 .1 .1 .0
+    → c .before .before .put-entries .last .1 .1 .0
     ≡ (let a = c .before .before .before .before .before .before .before .before .before .before .before .before .before .before .args in
     storeAll (fieldOf (a .t) (now (a .c)) (a .f)) protectionLines (now (a .x)))
 stored c =

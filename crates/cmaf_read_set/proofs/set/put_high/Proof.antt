@@ -2,16 +2,15 @@
 use native.Mathlib.Omega.{arith}
 use mathlib.Core.Path.{_∙_}
 use Rattle.cmaf_read_trun.proofs.RowLaws.{offsets-column, flags-column}
-use Rattle.cmaf_read_set.proofs.ReadyLaws.{rows-ready}
-use Rattle.cmaf_read_set.proofs.StoredLaws.{high-stored}
+use Rattle.cmaf_read_set.proofs.StoredLaws.{high-read}
 use borrow.Author.Needs.{needs}
 use Rattle.cmaf_read_set.proofs.set.put_high.Statement.{statement}
 use Rattle.cmaf_read_set.proofs.set.put_high.Tie as tie
 
-cast-t9 : tie.Need-cast-t9
-cast-t9 c =
+cast-t8 : tie.Need-cast-t8
+cast-t8 c =
     let b = c .before .before .before in
-    omega (arith, b .pre .1 .3 .flags-lt)
+    omega (arith, b .pre .0 .1)
 
 five-requires : tie.Need-five-requires
 five-requires c κs = search needs
@@ -19,21 +18,20 @@ five-requires c κs = search needs
 put-column-requires : tie.Need-put-column-requires
 put-column-requires c κs =
     let b = c .before .before .before .before .before in
-    let w = rows-ready (b .args .t) (b .args .c .now) (b .args .f) (b .pre .0 .0) (b .args .r) (b .pre .1 .1) in
-    (w, (offsets-column, omega (arith, b .pre .0 .1)))
+    let w = b .pre .0 .0 in
+    ((w .0, w .1), (offsets-column, omega (arith, b .pre .1)))
 
 put-size-requires : tie.Need-put-size-requires
 put-size-requires c κs =
     let b = c .before .before .before .before .before .before .before .before .before in
-    let w = rows-ready (b .args .t) (b .args .c .now) (b .args .f) (b .pre .0 .0) (b .args .r) (b .pre .1 .1) in
-    ((w .0, w .1, b .pre .1 .3 .size-lt), c .before .before .before .put-column .kept .1 .1 .1 .1 .0 ∙ b .pre .0 .1)
+    (b .pre .0 .0, c .before .before .before .put-column .kept .1 .1 .1 .1 .0 ∙ b .pre .1)
 
 put-column-requires-2 : tie.Need-put-column-requires-2
 put-column-requires-2 c κs =
     let b = c .before .before .before .before .before .before .before .before .before .before .before .before .before in
-    let w = rows-ready (b .args .t) (b .args .c .now) (b .args .f) (b .pre .0 .0) (b .args .r) (b .pre .1 .1) in
-    let l = c .before .before .before .put-size .kept .1 .1 .1 .1 .1 .0 ∙ c .before .before .before .before .before .before .before .put-column .kept .1 .1 .1 .1 .0 ∙ b .pre .0 .1 in
-    (w, (flags-column, omega (arith, l)))
+    let w = b .pre .0 .0 in
+    let l = c .before .before .before .put-size .kept .1 .1 .1 .1 .1 .0 ∙ c .before .before .before .before .before .before .before .put-column .kept .1 .1 .1 .1 .0 ∙ b .pre .1 in
+    ((w .0, w .1), (flags-column, omega (arith, l)))
 
 cast-put-one : tie.Need-cast-put-one
 cast-put-one c = search needs
@@ -46,9 +44,8 @@ same-length c = search needs
 
 returns : tie.Need-returns
 returns c =
-    let b = c .before .before .before .before .before .before .before .before .before .before .before .before .before .before .before .before .before .before .before .before .before in
-    let a = b .args in
-    high-stored (a .t) (a .c .now) (a .f) (a .d) (a .r) (a .equal) (b .pre .1 .0) (b .pre .1 .1) (b .pre .1 .2) (a .x .now) _
+    let a = c .before .before .before .before .before .before .before .before .before .before .before .before .before .before .before .before .before .before .before .before .before .args in
+    high-read (a .t) (a .c .now) (a .d) (a .r) (a .equal) (a .x .now) _
     (c .before .before .before .before .before .before .before .before .before .before .before .before .before .before .before .before .before .five .ensures) (c .before .before .before .before .before .before .before .before .before .before .before .before .before .before .before .put-column .ensures)
     (c .before .before .before .before .before .before .before .before .before .before .before .put-size .ensures) (c .before .before .before .before .before .before .before .put-column2 .ensures)
     (c .before .before .put-one .ensures)
@@ -57,7 +54,7 @@ pub put-high-spec : {M : Type 1} → statement M
 put-high-spec =
     tie.close
     (tie.spec
-    cast-t9
+    cast-t8
     five-requires
     put-column-requires
     put-size-requires

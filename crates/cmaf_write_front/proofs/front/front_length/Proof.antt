@@ -32,11 +32,11 @@ add-result-4 c = search needs
 returns : tie.Need-returns
 returns c =
     let b₁ = c .before .before .before in
-    let b₂ = b₁ .before .before .before .before .before in
+    let b₂ = b₁ .before .before .before .before in
     let a = b₂ .args in
-    λ sequence.
-    front-length (a .t) sequence (a .w .now) (a .payload) (a .prft) (eventsOf (a .o .now) (a .events .now) (a .k)) (a .brands .now) _ _ _ _ (b₁ .styp-length .ensures .0)
-    (c .before .before .prft-length .ensures .0) (c .before .emsgs-length .ensures .0) (c .moof-length .ensures .0 sequence (a .payload))
+    λ sequence payload o fit.
+    front-length (a .t) sequence (a .w .now) payload (a .prft) (eventsOf o (a .events .now) (a .k)) (a .brands .now) _ _ _ _ (b₁ .styp-length .ensures .0)
+    (c .before .before .prft-length .ensures .0 (a .t)) (c .before .emsgs-length .ensures .0 o fit) (c .moof-length .ensures .0 sequence payload)
 
 pub front-length-spec : {M : Type 1} → statement M
 front-length-spec =

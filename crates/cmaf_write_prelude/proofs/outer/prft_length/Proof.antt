@@ -9,23 +9,19 @@ use Rattle.cmaf_write_prelude.proofs.outer.prft_length.Statement.{state
 use Rattle.cmaf_write_prelude.proofs.outer.prft_length.Tie as tie
 
 returns : tie.Need-returns
-returns c = (ap length (sym (prft-none (c .before .before .args .t) (c .before .before .args .p) (not-true _ (c .if1 .taken)))), omega arith)
+returns c = (λ t. ap length (sym (prft-none t (c .before .before .args .p) (not-true _ (c .if1 .taken)))), omega arith)
 
 returns-2 : tie.Need-returns-2
 returns-2 c =
-    let b = c .before .before .before .before in
-    let a = b .args in
-    let e = prft-length (a .t) (a .p) (not-false _ (c .before .before .if1 .left)) in
+    let a = c .before .before .before .before .args in
     let m = ap length (media-short (a .p .version) (a .p .media .0) (c .if2 .taken)) in
-    (omega (arith, length-be 4 (a .p .media .0)), omega arith)
+    (λ t. omega (arith, prft-length t (a .p) (not-false _ (c .before .before .if1 .left)), length-be 4 (a .p .media .0)), omega arith)
 
 returns-3 : tie.Need-returns-3
 returns-3 c =
-    let b = c .before .before .before .before in
-    let a = b .args in
-    let e = prft-length (a .t) (a .p) (not-false _ (c .before .before .if1 .left)) in
+    let a = c .before .before .before .before .args in
     let m = ap length (media-long (a .p .version) (a .p .media .0) (c .if2 .left)) in
-    (omega (arith, length-be 8 (a .p .media .0)), omega arith)
+    (λ t. omega (arith, prft-length t (a .p) (not-false _ (c .before .before .if1 .left)), length-be 8 (a .p .media .0)), omega arith)
 
 pub prft-length-spec : {M : Type 1} → statement M
 prft-length-spec = tie.close (tie.spec returns returns-2 returns-3)

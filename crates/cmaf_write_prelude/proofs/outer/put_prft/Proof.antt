@@ -40,7 +40,7 @@ put-words-requires c κs =
     let b₃ = b₂ .before .before .before in
     let a = b₃ .args in
     let size = b₁ .prft-length in
-    let whole = prft-parts (a .t) (a .p) (not-false _ (b₂ .if1 .left)) (size .result) (size .ensures .0) in
+    let whole = prft-parts (a .t) (a .p) (not-false _ (b₂ .if1 .left)) (size .result) (size .ensures .0 (a .t)) in
     let h = parts-all (a .out .now) (a .at) (prftParts (a .t) (a .p) (size .result)) whole (b₃ .pre .1) in
     parts-room h
 
@@ -52,7 +52,7 @@ put-media-requires c κs =
     let b₄ = b₃ .before .before .before in
     let a = b₄ .args in
     let size = b₂ .prft-length in
-    let whole = prft-parts (a .t) (a .p) (not-false _ (b₃ .if1 .left)) (size .result) (size .ensures .0) in
+    let whole = prft-parts (a .t) (a .p) (not-false _ (b₃ .if1 .left)) (size .result) (size .ensures .0 (a .t)) in
     let h = parts-all (a .out .now) (a .at) (prftParts (a .t) (a .p) (size .result)) whole (b₄ .pre .1) in
     parts-room (parts-then h (b₁ .put-words .ensures))
 
@@ -67,7 +67,7 @@ returns-2 c =
     let b₄ = b₃ .before .before .before in
     let a = b₄ .args in
     let size = b₂ .prft-length in
-    let whole = prft-parts (a .t) (a .p) (not-false _ (b₃ .if1 .left)) (size .result) (size .ensures .0) in
+    let whole = prft-parts (a .t) (a .p) (not-false _ (b₃ .if1 .left)) (size .result) (size .ensures .0 (a .t)) in
     let h = parts-all (a .out .now) (a .at) (prftParts (a .t) (a .p) (size .result)) whole (b₄ .pre .1) in
     parts-none (parts-then (parts-then h (b₁ .put-words .ensures)) (c .before .before .put-media .ensures))
 

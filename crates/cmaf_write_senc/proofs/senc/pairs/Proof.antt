@@ -10,10 +10,10 @@ use Rattle.cmaf_write_senc.proofs.senc.pairs.Statement.{statement}
 use Rattle.cmaf_write_senc.proofs.senc.pairs.Tie as tie
 
 abbrev Inv-loop : tie.InvT-loop
-Inv-loop t w n sum₀ i₀ sum i = (i ≤ n) × (sum + pairsLeft w n i ≡ pairsLeft w n 0)
+Inv-loop w n sum₀ i₀ sum i = (i ≤ n) × (sum + pairsLeft w n i ≡ pairsLeft w n 0)
 
 abbrev μ-loop : tie.MeasureT-loop
-μ-loop t w n sum₀ i₀ sum i = n - i
+μ-loop w n sum₀ i₀ sum i = n - i
 
 shared-slice-read-n : tie.Need-shared-slice-read-n Inv-loop μ-loop
 shared-slice-read-n c = search needs
@@ -22,10 +22,18 @@ loop-holds : tie.Need-loop-holds Inv-loop μ-loop
 loop-holds c = (omega arith, omega arith)
 
 pairs-of-requires : tie.Need-pairs-of-requires Inv-loop μ-loop
-pairs-of-requires c κs = search needs
+pairs-of-requires c κs = let s = c .before .before .before .before in (s .pre .0 .0, omega (arith, s .pre .0 .1, c .loop-test .taken))
 
 add-sum : tie.Need-add-sum Inv-loop μ-loop
-add-sum c = let a = c .before .before .before .before .before .args in omega (arith, pairs-all (a .w .now) (countIn (a .w .now)))
+add-sum c =
+    let s = c .before .before .before .before .before in
+    let w = s .args .w .now in
+    omega (
+      arith,
+      s .pre .1,
+      pairs-all w (countIn w),
+      pairs-next w (countIn w) (c .before .before .loop .i) (s .pre .0 .0) (s .pre .0 .1) (c .before .loop-test .taken),
+    )
 
 add-i : tie.Need-add-i Inv-loop μ-loop
 add-i c = omega arith
@@ -37,7 +45,7 @@ loop-again : tie.Need-loop-again Inv-loop μ-loop
 loop-again c =
     let s = c .before .before .before .before .before in
     let l = c .before .before .loop in
-    (omega arith, rw (add-one (l .i)) (omega (arith, pairs-next (s .args .w .now) _ (l .i) (s .pre .long) (s .pre .few) (c .before .loop-test .taken))))
+    (omega arith, rw (add-one (l .i)) (omega (arith, pairs-next (s .args .w .now) _ (l .i) (s .pre .0 .0) (s .pre .0 .1) (c .before .loop-test .taken))))
 
 returns : tie.Need-returns Inv-loop μ-loop
 returns c =

@@ -1,7 +1,6 @@
--- `cmaf_write_senc::senc::pairs_of` meets its contract; the bound is the one that `saiz` has. Assumes nothing.
+-- `cmaf_write_senc::senc::pairs_of` meets its contract. Assumes nothing.
 use borrow.Author.Needs.{needs}
 use Rattle.field_table.specs.Lines.{lines, lineFor}
-use Rattle.cmaf_write_senc.proofs.PairLaws.{pairs-small}
 use Rattle.cmaf_write_senc.proofs.senc.pairs_of.Statement.{statement}
 use Rattle.cmaf_write_senc.proofs.senc.pairs_of.Tie as tie
 
@@ -22,7 +21,7 @@ with-pairs-requires c κs = search needs
 
 returns : tie.Need-returns
 unfolding lineFor lines
-returns c = (c .with-pairs .ensures .0, pairs-small (c .before .before .before .pre .0) _ (c .before .before .before .pre .1) (c .with-pairs .ensures .0))
+returns c = c .with-pairs .ensures .0
 
 pub pairs-of-spec : {M : Type 1} → statement M
 pairs-of-spec =

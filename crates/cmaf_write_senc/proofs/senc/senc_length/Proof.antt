@@ -32,7 +32,7 @@ mul-result : tie.Need-mul-result
 mul-result c = omega (arith, small c)
 
 pairs-requires : tie.Need-pairs-requires
-pairs-requires c κs = search needs
+pairs-requires c κs = let p = c .before .before .before .before .pre in ((p .long, p .few), p .pairs)
 
 mul-result-2 : tie.Need-mul-result-2
 mul-result-2 c = search needs

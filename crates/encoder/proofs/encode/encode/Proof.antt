@@ -1,60 +1,35 @@
--- `encoder::encode::encode` meets its contract, by the laws of a call on a share seen from the table. Assumes nothing.
-use mathlib.Core.Path.{_∙_}
+-- `encoder::encode::encode` meets its contract: what the table is answered with, handed out; the payload as the part of the chunk that is lent. Assumes nothing.
+use Prim.Native.Nat.{_+_}
+use native.Mathlib.Omega.{arith}
+use mathlib.Core.Path.{_∙_, ap}
+use mathlib.Core.List.{List}
+use Prim.Native.Nat.{ℕ}
 use denote.Ref.{now}
-use Rattle.wire.specs.declared.form.Form.the-variants.{Rfc9000}
-use Rattle.wire.specs.Form.{rows}
-use Rattle.slots.proofs.TableLaws.{wrong-length, wrong-slot, on-share}
-use Rattle.answers.specs.Took.{refused}
-use Rattle.encoder.specs.Encode.{wished, encoding}
-use Rattle.encoder.proofs.WriteLaws.{refused-is}
+use Rattle.laws.proofs.SliceLaws.{slice-lent}
+use Rattle.slots.specs.Table.{out}
+use Rattle.answers.specs.Took.{took}
 use borrow.Author.Needs.{needs}
 use Rattle.encoder.proofs.encode.encode.Statement.{statement}
 use Rattle.encoder.proofs.encode.encode.Tie as tie
 
-refuse-requires : tie.Need-refuse-requires
-refuse-requires c κs = search needs
+take-table-requires : tie.Need-take-table-requires
+take-table-requires c κs = search needs
 
-returns : tie.Need-returns
-returns c =
-    let i = c .before .before .before in
-    let b = i .before .before .before .before in
-    let a = b .args in
-    refused-is (now (a .output)) (now (a .table)) 18 (c .refuse .ensures)
-    ∙ wrong-length (refused (now (a .output))) (encoding (rows Rfc9000) (wished (a .wish)) (now (a .chunk)) (now (a .output))) (now (a .table)) (a .slot)
-    (i .if1 .taken)
+add-end : tie.Need-add-end
+add-end c =
+    let t = c .before .before .before .before .before in
+    let i = t .take-table .ensures .inside in
+    let l = t .before .before .before .before .before .before .good .1 .1 .1 .0 in
+    search needs
 
-refuse-requires-2 : tie.Need-refuse-requires-2
-refuse-requires-2 c κs = search needs
+sub-result : tie.Need-sub-result
+sub-result c = search needs
 
-returns-2 : tie.Need-returns-2
-returns-2 c =
-    let i = c .before .before .before in
-    let b = i .before .before .before .before .before in
-    let a = b .args in
-    refused-is (now (a .output)) (now (a .table)) 1 (c .refuse2 .ensures)
-    ∙ wrong-slot (refused (now (a .output))) (encoding (rows Rfc9000) (wished (a .wish)) (now (a .chunk)) (now (a .output))) (now (a .table)) (a .slot)
-    (i .before .if1 .left) (i .if2 .taken)
+part-result-start : tie.Need-part-result-start
+part-result-start c = let i = c .before .before .before .before .before .take-table .ensures .inside in search needs
 
-start-of-requires : tie.Need-start-of-requires
-start-of-requires c κs = search needs
-
-add-take-share : tie.Need-add-take-share
-add-take-share c = search needs
-
-mul-take-share : tie.Need-mul-take-share
-mul-take-share c = search needs
-
-sub-take-share : tie.Need-sub-take-share
-sub-take-share c = search needs
-
-part-take-share-start : tie.Need-part-take-share-start
-part-take-share-start c = search needs
-
-part-take-share-end : tie.Need-part-take-share-end
-part-take-share-end c = search needs
-
-take-share-requires : tie.Need-take-share-requires
-take-share-requires c κs = search needs
+part-result-end : tie.Need-part-result-end
+part-result-end c = let i = c .before .before .before .before .before .take-table .ensures .inside in search needs
 
 same-length : tie.Need-same-length
 same-length c = search needs
@@ -62,31 +37,25 @@ same-length c = search needs
 same-length-2 : tie.Need-same-length-2
 same-length-2 c = search needs
 
-returns-3 : tie.Need-returns-3
-returns-3 c =
-    let f = c .before .before .before .before in
-    let st = f .before .before .before .before .before in
-    let i = st .before in
-    let b = i .before .before .before .before .before in
-    let a = b .args in
-    on-share (refused (now (a .output))) (encoding (rows Rfc9000) (wished (a .wish)) (now (a .chunk)) (now (a .output))) (now (a .table)) (a .slot) (st .start-of .result) (st .start-of .ensures) _ _
-    (i .before .if1 .left) (i .if2 .left) (f .take-share .ensures)
+returns : tie.Need-returns
+returns c =
+    let t = c .before .before .before .before .before .before in
+    let e = t .take-table .ensures in
+    let a = t .take-table .result in
+    let b = t .before .before .before .before .before .before .args in
+    ap (λ (p : List ℕ). out (took (a .number) (a .front) p (t .take-table .last .1 .1 .1 .1 .0)) (t .take-table .last .0))
+    (slice-lent (a .payload .at) (a .payload .at + a .payload .len) (now (b .chunk)) (omega arith) (e .inside))
+    ∙ e .so
 
 pub encode-spec : {M : Type 1} → statement M
 encode-spec =
     tie.close
     (tie.spec
-    refuse-requires
-    returns
-    refuse-requires-2
-    returns-2
-    start-of-requires
-    add-take-share
-    mul-take-share
-    sub-take-share
-    part-take-share-start
-    part-take-share-end
-    take-share-requires
+    take-table-requires
+    add-end
+    sub-result
+    part-result-start
+    part-result-end
     same-length
     same-length-2
-    returns-3)
+    returns)

@@ -1,10 +1,10 @@
 -- `encoder::encode::take_chunk` meets its contract, by the laws of `proofs/EncodeLaws.antt`. Assumes nothing.
-use mathlib.Core.Path.{refl, _∙_}
+use mathlib.Core.Path.{refl}
 use denote.Ref.{now}
-use Rattle.encoder.proofs.WriteLaws.{refused-is}
+use Rattle.laws.proofs.TestLaws.{all-bytes}
+use Rattle.encoder.proofs.WriteLaws.{refused-as, answered-on}
 use Rattle.encoder.proofs.EncodeLaws.{iv-small, chunk-stops, chunk-late, encodable, chunk-climbs}
 use borrow.Author.Needs.{needs}
-use Rattle.laws.proofs.TestLaws.{all-bytes}
 use Rattle.encoder.proofs.encode.take_chunk.Statement.{statement}
 use Rattle.encoder.proofs.encode.take_chunk.Tie as tie
 
@@ -19,31 +19,31 @@ read-chunk-requires c κs =
     let b = c .before .before .before .before .before in
     (iv-small _ (b .args .wish) _ (now (b .args .output)) _ _ (b .pre), (refl, refl))
 
-refuse-requires : tie.Need-refuse-requires
-refuse-requires c κs = search needs
+refused-requires : tie.Need-refused-requires
+refused-requires c κs = search needs
 
 returns : tie.Need-returns
 returns c =
-    let k = c .before .before .before .before .before .before .before in
+    let k = c .before .before .before .before .before in
     let b = k .before .before .before .before .before .before in
     let a = b .args in
-    refused-is (now (a .output)) (now (a .s)) _ (c .refuse .ensures)
-    ∙ chunk-stops _ (a .wish) _ (now (a .output)) _ _ (b .pre) _ _ _ (k .read-chunk .ensures) (c .before .before .before .if1 .taken)
+    refused-as (now (a .c)) (now (a .output)) (now (a .s)) _ (c .refused .ensures)
+    (chunk-stops _ (a .wish) _ (now (a .output)) _ _ (b .pre) _ _ _ (k .read-chunk .ensures) (c .before .if1 .taken))
 
 array-read-if2 : tie.Need-array-read-if2
 array-read-if2 c = search needs
 
-refuse-requires-2 : tie.Need-refuse-requires-2
-refuse-requires-2 c κs = search needs
+refused-requires-2 : tie.Need-refused-requires-2
+refused-requires-2 c κs = search needs
 
 returns-2 : tie.Need-returns-2
 returns-2 c =
-    let k = c .before .before .before .before .before .before .before .before in
+    let k = c .before .before .before .before .before .before in
     let b = k .before .before .before .before .before .before in
     let a = b .args in
-    refused-is (now (a .output)) (now (a .s)) 9 (c .refuse2 .ensures)
-    ∙ chunk-late _ (a .wish) _ (now (a .output)) _ _ (b .pre) _ _ _ (k .read-chunk .ensures)
-    (c .before .before .before .before .if1 .left) (c .before .before .before .if2 .taken)
+    refused-as (now (a .c)) (now (a .output)) (now (a .s)) 9 (c .refused2 .ensures)
+    (chunk-late _ (a .wish) _ (now (a .output)) _ _ (b .pre) _ _ _ (k .read-chunk .ensures)
+    (c .before .before .if1 .left) (c .before .if2 .taken))
 
 slice-aggregate-write : tie.Need-slice-aggregate-write
 slice-aggregate-write c = search needs
@@ -53,7 +53,7 @@ slice-aggregate-write-2 c = search needs
 
 write-requires : tie.Need-write-requires
 write-requires c κs =
-    let i = c .before .before .before .before .before .before in
+    let i = c .before .before .before .before in
     let k = i .before .before .before .before .before in
     let b = k .before .before .before .before .before .before in
     let a = b .args in
@@ -69,12 +69,11 @@ same-length-2 c = search needs
 returns-3 : tie.Need-returns-3
 returns-3 c =
     let w = c .before .before .before .before in
-    let k = w .before .before .before .before .before .before .before .before .before .before .before .before in
+    let k = w .before .before .before .before .before .before .before .before .before .before in
     let b = k .before .before .before .before .before .before in
     let a = b .args in
-    w .write .ensures
-    ∙ chunk-climbs _ (a .wish) _ (now (a .output)) _ _ (b .pre) _ _ _ (k .read-chunk .ensures)
-    (w .before .before .before .before .before .before .before .before .if1 .left)
+    answered-on (w .write .ensures)
+    (chunk-climbs _ (a .wish) _ (now (a .output)) _ _ (b .pre) _ _ _ (k .read-chunk .ensures) (w .before .before .before .before .before .before .if1 .left))
 
 pub take-chunk-spec : {M : Type 1} → statement M
 take-chunk-spec =
@@ -83,10 +82,10 @@ take-chunk-spec =
     slice-aggregate-read-chunk
     slice-aggregate-read-chunk-2
     read-chunk-requires
-    refuse-requires
+    refused-requires
     returns
     array-read-if2
-    refuse-requires-2
+    refused-requires-2
     returns-2
     slice-aggregate-write
     slice-aggregate-write-2

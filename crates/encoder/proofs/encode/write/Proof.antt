@@ -1,107 +1,81 @@
 -- `encoder::encode::write` meets its contract, by the laws of `proofs/WriteLaws.antt`. Assumes nothing.
-use mathlib.Core.Path.{_∙_}
 use borrow.Author.Tests.{not-false}
 use denote.Ref.{now}
 use Rattle.field_set.proofs.TidyLaws.{lawful-tidy}
 use Rattle.slots.specs.declared.lawful.Side.the-variants.{Encoder}
 use Rattle.reference.proofs.OpenLaws.{share-tidy}
-use Rattle.encoder.proofs.WriteLaws.{refused-is, part-in, unfit, room, short, done-is}
+use Rattle.encoder.proofs.FrontLaws.{planned-sendable}
+use Rattle.encoder.proofs.WriteLaws.{refused-as, unfit, room, short, done-is}
 use borrow.Author.Needs.{needs}
 use Rattle.encoder.proofs.encode.write.Statement.{statement}
 use Rattle.encoder.proofs.encode.write.Tie as tie
 
 choose-requires : tie.Need-choose-requires
-choose-requires c κs = c .before .before .before .before .before .before .pre
+choose-requires c κs = let b = c .before .before .before .before .before .before in (now (b .args .c), b .pre)
 
-refuse-requires : tie.Need-refuse-requires
-refuse-requires c κs = search needs
+refused-requires : tie.Need-refused-requires
+refused-requires c κs = search needs
 
 same-length : tie.Need-same-length
 same-length c = search needs
 
 returns : tie.Need-returns
 returns c =
-    let p = c .before .before .before .before .before in
+    let p = c .before .before .before in
     let b = p .before .before .before .before .before .before .before in
     let a = b .args in
-    refused-is (now (a .output)) (now (a .s)) 9 (c .refuse .ensures)
-    ∙ unfit _ _ _ _ _ _ _ (b .pre) (a .wish) (now (a .output)) _ (p .choose .ensures) (c .before .before .before .if1 .taken)
+    refused-as (now (a .c)) (now (a .output)) (now (a .s)) 9 (c .refused .ensures)
+    (unfit (a .form) _ _ _ _ _ _ (b .pre) (a .wish) (now (a .output)) _ (p .choose .ensures _ (b .pre)) (c .before .if1 .taken))
 
 front-length-requires : tie.Need-front-length-requires
 front-length-requires c κs =
-    let p = c .before .before .before in
+    let p = c .before .before in
     let b = p .before .before .before .before .before .before .before in
-    (b .pre, (p .choose .ensures, not-false _ (c .before .if1 .left)))
+    p .choose .ensures _ (b .pre) .small
 
-refuse-requires-2 : tie.Need-refuse-requires-2
-refuse-requires-2 c κs = search needs
+refused-requires-2 : tie.Need-refused-requires-2
+refused-requires-2 c κs = search needs
 
 same-length-2 : tie.Need-same-length-2
 same-length-2 c = search needs
 
 returns-2 : tie.Need-returns-2
 returns-2 c =
-    let f = c .before .before .before .before in
-    let p = f .before .before .before .before in
+    let f = c .before .before in
+    let p = f .before .before .before in
     let b = p .before .before .before .before .before .before .before in
     let a = b .args in
-    refused-is (now (a .output)) (now (a .s)) 17 (c .refuse2 .ensures)
-    ∙ short _ _ _ _ _ _ _ (b .pre) (a .wish) (now (a .output)) _ (p .choose .ensures) (f .before .before .if1 .left) _
-    (f .front-length .ensures) (c .before .before .before .if2 .taken)
+    refused-as (now (a .c)) (now (a .output)) (now (a .s)) 17 (c .refused2 .ensures)
+    (short (a .form) _ _ _ _ _ _ (b .pre) (a .wish) (now (a .output)) _ (p .choose .ensures _ (b .pre)) (f .before .if1 .left) _
+    (f .front-length .ensures) (c .before .if2 .taken))
 
 put-front-requires : tie.Need-put-front-requires
 put-front-requires c κs =
     let f = c .before .before .before in
-    let p = f .before .before .before .before in
+    let p = f .before .before .before in
     let b = p .before .before .before .before .before .before .before in
     let a = b .args in
-    let l = room _ _ _ _ _ _ _ (b .pre) (a .wish) (now (a .output)) _ (p .choose .ensures) (f .before .before .if1 .left) _
-    (f .front-length .ensures) _ (c .before .before .if2 .left) in
-    (b .pre, ((p .choose .ensures, not-false _ (f .before .before .if1 .left)), l))
+    let q = p .choose .ensures _ (b .pre) in
+    let i = f .before .if1 .left in
+    let l = room (a .form) _ _ _ _ _ _ (b .pre) (a .wish) (now (a .output)) _ q i _ (f .front-length .ensures) _ (c .before .before .if2 .left) in
+    (b .pre, (planned-sendable (a .form) q (not-false _ i), l))
 
 slice-read-sequence : tie.Need-slice-read-sequence
 slice-read-sequence c =
-    let w = c .before .before .before .before in
-    let p = w .before .before .before .before .before .before .before .before in
+    let w = c .before .before .before .before .before in
+    let p = w .before .before .before .before .before .before .before in
     let b = p .before .before .before .before .before .before .before in
     let z = b .pre .on-share .share in
     search needs
 
 keep-requires : tie.Need-keep-requires
 keep-requires c κs =
-    let w = c .before .before .before .before .before in
-    let p = w .before .before .before .before .before .before .before .before in
+    let w = c .before .before .before .before .before .before in
+    let p = w .before .before .before .before .before .before .before in
     let b = p .before .before .before .before .before .before .before in
     let e = b .pre in
     let a = e .on-share in
     ((a .share, e .set-long), (share-tidy Encoder _ (a .share) (a .lawful-share) (a .opened), lawful-tidy _ _ (e .set-long) (e .lawful-set)))
-
-add-end : tie.Need-add-end
-add-end c =
-    let w = c .before .before .before .before .before .before .before .before .before in
-    let p = w .before .before .before .before .before .before .before .before in
-    let b = p .before .before .before .before .before .before .before in
-    let z = part-in _ _ _ _ _ _ _ (b .pre) in
-    let l = b .good .1 .1 .1 .0 in
-    search needs
-
-sub-result : tie.Need-sub-result
-sub-result c = search needs
-
-part-result-start : tie.Need-part-result-start
-part-result-start c =
-    let w = c .before .before .before .before .before .before .before .before .before in
-    let p = w .before .before .before .before .before .before .before .before in
-    let b = p .before .before .before .before .before .before .before in
-    let z = part-in _ _ _ _ _ _ _ (b .pre) in
-    search needs
-
-part-result-end : tie.Need-part-result-end
-part-result-end c =
-    let w = c .before .before .before .before .before .before .before .before .before in
-    let p = w .before .before .before .before .before .before .before .before in
-    let b = p .before .before .before .before .before .before .before in
-    part-in _ _ _ _ _ _ _ (b .pre)
 
 same-length-3 : tie.Need-same-length-3
 same-length-3 c = search needs
@@ -111,13 +85,13 @@ same-length-4 c = search needs
 
 returns-3 : tie.Need-returns-3
 returns-3 c =
-    let k = c .before .before .before .before in
-    let w = k .before .before .before .before .before .before in
+    let k = c .before .before in
+    let w = k .before .before .before .before .before .before .before in
     let f = w .before .before .before .before in
-    let p = f .before .before .before .before in
+    let p = f .before .before .before in
     let b = p .before .before .before .before .before .before .before in
     let a = b .args in
-    done-is _ _ _ _ _ _ _ (b .pre) (a .wish) (now (a .output)) _ (p .choose .ensures) (f .before .before .if1 .left) _ (f .front-length .ensures)
+    done-is (a .form) _ _ _ _ _ _ (b .pre) (a .wish) (now (a .output)) _ (p .choose .ensures _ (b .pre)) (f .before .if1 .left) _ (f .front-length .ensures)
     (w .before .before .before .if2 .left) _ _ _ (w .put-front .ensures) (k .keep .ensures)
 
 pub write-spec : {M : Type 1} → statement M
@@ -125,20 +99,16 @@ write-spec =
     tie.close
     (tie.spec
     choose-requires
-    refuse-requires
+    refused-requires
     same-length
     returns
     front-length-requires
-    refuse-requires-2
+    refused-requires-2
     same-length-2
     returns-2
     put-front-requires
     slice-read-sequence
     keep-requires
-    add-end
-    sub-result
-    part-result-start
-    part-result-end
     same-length-3
     same-length-4
     returns-3)

@@ -1,7 +1,9 @@
 -- `encoder::front::front_length` meets its contract: the lengths of its parts together. Assumes nothing.
 use Prim.Native.Nat.{ℕ, _+_}
-use mathlib.Core.Path.{_∙_, ap₂}
-use Rattle.encoder.proofs.FrontLaws.{front-length}
+use mathlib.Core.Path.{_∙_, ap, ap₂}
+use Rattle.wire.specs.Form.{rows}
+use Rattle.wire.specs.Varint.{sizeOf}
+use Rattle.encoder.specs.Planned.{frontBytes}
 use borrow.Author.Needs.{needs}
 use Rattle.wire.proofs.SizeLaws.{size-eight}
 use Rattle.encoder.proofs.front.front_length.Statement.{statement}
@@ -18,25 +20,26 @@ size-requires-2 c κs = search needs
 
 add-result : tie.Need-add-result
 add-result c =
-    let b = c .before .before .before .before .before .before .before .before in
+    let b = c .before .before .before .before in
     let i = size-eight (b .args .form) (c .before .before .before .header-of .result) in
     let j = size-eight (b .args .form) (b .args .a .block) in
-    let m = b .pre .1 .0 .small in
+    let m = b .pre in
     search needs
 
 add-result-2 : tie.Need-add-result-2
 add-result-2 c =
-    let b = c .before .before .before .before .before .before .before .before in
+    let b = c .before .before .before .before in
     let i = size-eight (b .args .form) (c .before .before .before .header-of .result) in
     let j = size-eight (b .args .form) (b .args .a .block) in
-    let m = b .pre .1 .0 .small in
+    let m = b .pre in
     search needs
 
 returns : tie.Need-returns
+unfolding frontBytes
 returns c =
-    let b = c .before .before .before .before .before .before .before .before in
-    ap₂ (λ (i j : ℕ). i + (j + b .args .a .block)) (c .before .before .size .ensures) (c .before .size2 .ensures)
-    ∙ front-length (b .args .form) (b .pre .1 .0) (b .pre .1 .1) (c .before .before .before .header-of .ensures)
+    let b = c .before .before .before .before in
+    ap₂ (λ (i j : ℕ). i + (j + b .args .a .block))
+    (c .before .before .size .ensures ∙ ap (sizeOf (rows (b .args .form))) (c .before .before .before .header-of .ensures)) (c .before .size2 .ensures)
 
 pub front-length-spec : {M : Type 1} → statement M
 front-length-spec =

@@ -1,5 +1,5 @@
 -- `encoder::front::may_delta` meets its contract: the tests of a delta as they stand. Assumes nothing.
-use Rattle.encoder.proofs.GivenLaws.{prft-is}
+use mathlib.Core.Path.{refl}
 use Rattle.encoder.specs.Object.{mayDelta}
 use borrow.Author.Needs.{needs}
 use Rattle.encoder.proofs.front.may_delta.Statement.{statement}
@@ -13,7 +13,7 @@ shared-slice-read-result-2 c = search needs
 
 returns : tie.Need-returns
 unfolding mayDelta
-returns c = rw (prft-is (c .before .before .before .before .pre))
+returns c = refl
 
 pub may-delta-spec : {M : Type 1} → statement M
 may-delta-spec = tie.close (tie.spec shared-slice-read-result shared-slice-read-result-2 returns)

@@ -2,8 +2,8 @@
 use native.Mathlib.Omega.{arith}
 use Rattle.laws.proofs.PartLaws.{Parts, parts-all, parts-room, parts-then, parts-none}
 use Rattle.wire.specs.Form.{rows}
-use Rattle.encoder.specs.Object.{front}
-use Rattle.encoder.proofs.FrontLaws.{frontParts, planned-held, front-parts}
+use Rattle.encoder.specs.Object.{objectOf}
+use Rattle.encoder.proofs.FrontLaws.{frontParts, front-parts}
 use borrow.Author.Needs.{needs}
 use Rattle.encoder.proofs.front.put_front.Statement.{statement}
 use Rattle.encoder.proofs.front.put_front.Tie as tie
@@ -11,13 +11,13 @@ use Rattle.encoder.proofs.front.put_front.Tie as tie
 -- all parts are left
 begun : (c : tie.After-header-of)
     → let a = c .before .before .before .before .before .before .before .args in
-    Parts (a .out .now) 0 (front (rows (a .form)) (a .s .now) (a .c .now) (a .wish))
+    Parts (a .out .now) 0 (objectOf (rows (a .form)) (a .s .now) (a .c .now) (a .a .delta))
     (a .out .now) 0 (frontParts (rows (a .form)) (a .s .now) (a .c .now) (a .a) (c .header-of .result))
 begun c =
     let b = c .before .before .before .before .before .before .before in
     let a = b .args in
     parts-all (a .out .now) 0 (frontParts (rows (a .form)) (a .s .now) (a .c .now) (a .a) (c .header-of .result))
-    (front-parts (b .pre .1 .0 .0) (b .pre .1 .0 .1) (c .header-of .result) (c .header-of .ensures)) (omega (arith, b .pre .1 .1))
+    (front-parts (b .pre .1 .0) (c .header-of .result) (c .header-of .ensures)) (omega (arith, b .pre .1 .1))
 
 header-of-requires : tie.Need-header-of-requires
 header-of-requires c κs = search needs
@@ -33,9 +33,8 @@ put-block-requires c κs =
     let b₁ = c .before .before .before in
     let b₂ = b₁ .before .before .before .before in
     let b = b₂ .before .before .before .before .before .before .before .before in
-    let p = b .pre .1 .0 .0 in
-    let f = b .pre .1 .0 .1 in
-    (b .pre .0, (planned-held p f, (p .all-fit f, parts-room (parts-then (parts-then (begun (b₂ .before)) (b₂ .put .ensures)) (b₁ .put2 .ensures)))))
+    let p = b .pre .1 .0 in
+    (b .pre .0, (p .held, (p .all-fit, parts-room (parts-then (parts-then (begun (b₂ .before)) (b₂ .put .ensures)) (b₁ .put2 .ensures)))))
 
 same-length : tie.Need-same-length
 same-length c = search needs

@@ -1,6 +1,6 @@
 -- `encoder::properties::put_block` meets its contract: its parts written one after another. Assumes nothing.
 use Rattle.laws.proofs.WriteLaws.{wrote-length}
-use Rattle.encoder.proofs.GivenLaws.{basis-own, writable}
+use Rattle.encoder.proofs.GivenLaws.{basis-own, writable, brands-inside, recorded}
 use Rattle.encoder.proofs.BlockLaws.{set-needs, times-needs, version-needs, brands-room, flags-needs, events-needs, gone-needs, block-wrote}
 use borrow.Author.Needs.{needs}
 use Rattle.encoder.proofs.properties.put_block.Statement.{statement}
@@ -51,7 +51,7 @@ put-brands-requires c κs =
     let b₁ = b₂ .before .before .before .before in
     let d = b₁ .before .before in
     let b = d .before .before .before .before .before .before .before .before in (
-      b .pre .0,
+      (b .pre .0 .brand-bytes, brands-inside (b .pre .0)),
       brands-room (b .pre .0) (b .args .delta) (d .basis-of .ensures) (b .args .out .now) (b .args .at) (b .pre .1 .1)
           (b₁ .put-set .ensures) (b₂ .put-times .ensures) (b₃ .put-version .ensures),
     )
@@ -68,16 +68,21 @@ put-flags-requires c κs =
     (b₁ .put-set .ensures) (b₂ .put-times .ensures) (b₃ .put-version .ensures) (b₄ .put-brands .ensures) in
     (b .pre .0 .on-share .share, n)
 
+shared-slice-read-t34 : tie.Need-shared-slice-read-t34
+shared-slice-read-t34 c =
+    let z = c .before .before .before .before .before .before .before .before .before .before .before .before .before .before .before .before .before .before .before .before .before .before .before .before .before .before .before .before .before .pre .0 .set-long in
+    search needs
+
 put-events-requires : tie.Need-put-events-requires
 put-events-requires c κs =
-    let b₅ = c .before .before .before in
+    let b₅ = c .before .before .before .before in
     let b₄ = b₅ .before .before .before .before in
     let b₃ = b₄ .before .before .before .before in
     let b₂ = b₃ .before .before .before .before in
     let b₁ = b₂ .before .before .before .before in
     let d = b₁ .before .before in
     let b = d .before .before .before .before .before .before .before .before in (
-      b .pre .0,
+      recorded (b .pre .0),
       events-needs (b .pre .0) (b .args .delta) (d .basis-of .ensures) (b .args .out .now) (b .args .at) (b .pre .1 .1)
           (b₁ .put-set .ensures) (b₂ .put-times .ensures) (b₃ .put-version .ensures) (b₄ .put-brands .ensures)
           (b₅ .put-flags .ensures),
@@ -86,7 +91,7 @@ put-events-requires c κs =
 put-deletions-requires : tie.Need-put-deletions-requires
 put-deletions-requires c κs =
     let b₆ = c .before .before .before in
-    let b₅ = b₆ .before .before .before .before in
+    let b₅ = b₆ .before .before .before .before .before in
     let b₄ = b₅ .before .before .before .before in
     let b₃ = b₄ .before .before .before .before in
     let b₂ = b₃ .before .before .before .before in
@@ -96,13 +101,14 @@ put-deletions-requires c κs =
     let n = gone-needs (b .pre .0) (b .args .delta) (d .basis-of .ensures) (b .args .out .now) (b .args .at) (b .pre .1 .1)
     (b₁ .put-set .ensures) (b₂ .put-times .ensures) (b₃ .put-version .ensures) (b₄ .put-brands .ensures)
     (b₅ .put-flags .ensures) (b₆ .put-events .ensures) in
-    (basis-own (writable (b .pre .0) _ (b .pre .1 .0)) (d .basis-of .ensures), n)
+    let w = writable (b .pre .0) _ (b .pre .1 .0) in
+    ((w .old-words, w .new-words), (b .args .t, n .0, n .1))
 
 same-length : tie.Need-same-length
 same-length c =
     let b₇ = c .before .before in
     let b₆ = b₇ .before .before .before .before in
-    let b₅ = b₆ .before .before .before .before in
+    let b₅ = b₆ .before .before .before .before .before in
     let b₄ = b₅ .before .before .before .before in
     let b₃ = b₄ .before .before .before .before in
     let b₂ = b₃ .before .before .before .before in
@@ -111,13 +117,13 @@ same-length c =
     let b = d .before .before .before .before .before .before .before .before in
     wrote-length (block-wrote (b .pre .0) (b .args .delta) (d .basis-of .ensures) (b .args .out .now) (b .args .at) (b .pre .1 .1)
     (b₁ .put-set .ensures) (b₂ .put-times .ensures) (b₃ .put-version .ensures) (b₄ .put-brands .ensures)
-    (b₅ .put-flags .ensures) (b₆ .put-events .ensures) (b₇ .put-deletions .ensures))
+    (b₅ .put-flags .ensures) (b₆ .put-events .ensures) (b₇ .put-deletions .ensures _))
 
 returns : tie.Need-returns
 returns c =
     let b₇ = c .before .before in
     let b₆ = b₇ .before .before .before .before in
-    let b₅ = b₆ .before .before .before .before in
+    let b₅ = b₆ .before .before .before .before .before in
     let b₄ = b₅ .before .before .before .before in
     let b₃ = b₄ .before .before .before .before in
     let b₂ = b₃ .before .before .before .before in
@@ -126,7 +132,7 @@ returns c =
     let b = d .before .before .before .before .before .before .before .before in
     block-wrote (b .pre .0) (b .args .delta) (d .basis-of .ensures) (b .args .out .now) (b .args .at) (b .pre .1 .1)
     (b₁ .put-set .ensures) (b₂ .put-times .ensures) (b₃ .put-version .ensures) (b₄ .put-brands .ensures)
-    (b₅ .put-flags .ensures) (b₆ .put-events .ensures) (b₇ .put-deletions .ensures)
+    (b₅ .put-flags .ensures) (b₆ .put-events .ensures) (b₇ .put-deletions .ensures _)
 
 pub put-block-spec : {M : Type 1} → statement M
 put-block-spec =
@@ -141,6 +147,7 @@ put-block-spec =
     put-version-requires
     put-brands-requires
     put-flags-requires
+    shared-slice-read-t34
     put-events-requires
     put-deletions-requires
     same-length

@@ -3,11 +3,10 @@ use Prim.Native.Nat.{_+_, _≤_}
 use lib.ListN.{length}
 use Rattle.laws.proofs.PartLaws.{Parts, parts-all, parts-room, parts-then, parts-none}
 use Rattle.wire.specs.Form.{rows}
-use Rattle.cmaf_read_chunk.specs.Accepted.{brands}
 use Rattle.locmaf_write_tuples.specs.Items.{bytesOf}
 use Rattle.encoder.specs.Object.{brandItems}
-use Rattle.encoder.proofs.GivenLaws.{brands-inside}
-use Rattle.encoder.proofs.BrandLaws.{brands-none, brands-long, brandParts, brand-parts}
+use Rattle.encoder.specs.Planned.{brandsAt}
+use Rattle.encoder.proofs.BrandLaws.{brands-none, brands-long, brandParts, names-length, brand-parts}
 use borrow.Author.Needs.{needs}
 use Rattle.locmaf_write_tuples.proofs.PutLaws.{put-none}
 use Rattle.encoder.proofs.properties.put_brands.Statement.{statement}
@@ -15,27 +14,28 @@ use Rattle.encoder.proofs.properties.put_brands.Tie as tie
 
 -- the brands lie in the chunk
 lies : (c : tie.Else1)
-    → let a = c .before .before .before .before .before .before .args in
-    (8 ≤ a .k .brands .len) × (a .k .brands .at + a .k .brands .len ≤ length (a .c .now))
+    → let a = c .before .before .before .args in
+    (8 ≤ a .body .len) × (a .body .at + a .body .len ≤ length (a .c .now))
 lies c =
-    let b = c .before .before .before .before .before .before in
-    (brands-long (b .args .form) (b .pre .0) (b .args .delta) (c .if1 .left), brands-inside (b .pre .0))
+    let b = c .before .before .before in
+    (brands-long (b .pre .0 .0) (b .args .delta) (c .if1 .left), b .pre .0 .1)
 
 -- all parts are left
 begun : (c : tie.Else1)
-    → let a = c .before .before .before .before .before .before .args in
-    Parts (a .out .now) (a .at) (bytesOf (rows (a .form)) (brandItems (a .delta) (brands (a .c .now))))
-    (a .out .now) (a .at) (brandParts (rows (a .form)) (a .c .now) (a .k .brands .at) (a .k .brands .len))
+    → let a = c .before .before .before .args in
+    Parts (a .out .now) (a .at) (bytesOf (rows (a .form)) (brandItems (a .delta) (brandsAt (a .c .now) (a .body))))
+    (a .out .now) (a .at) (brandParts (rows (a .form)) (a .c .now) (a .body .at) (a .body .len))
 begun c =
-    let b = c .before .before .before .before .before .before in
+    let b = c .before .before .before in
     let a = b .args in
-    parts-all (a .out .now) (a .at) (brandParts (rows (a .form)) (a .c .now) (a .k .brands .at) (a .k .brands .len))
-    (brand-parts (a .form) (b .pre .0) (a .delta) (c .if1 .left)) (b .pre .1)
+    parts-all (a .out .now) (a .at) (brandParts (rows (a .form)) (a .c .now) (a .body .at) (a .body .len))
+    (brand-parts (a .c .now) (a .body) (b .pre .0 .0) (b .pre .0 .1) (a .form) (a .delta) (c .if1 .left)) (b .pre .1)
 
 returns : tie.Need-returns
 returns c =
-    let b = c .before .before .before .before .before .before in
-    put-none _ _ _ (brands-none (b .args .form) (b .pre .0) _ (c .if1 .taken)) (b .pre .1)
+    let b = c .before .before .before in
+    let n = names-length (b .args .c .now) (b .args .body) (b .pre .0 .0) (b .pre .0 .1) in
+    put-none _ _ _ (brands-none (b .args .form) (b .pre .0 .0) _ n _ (c .if1 .taken)) (b .pre .1)
 
 sub-put-head : tie.Need-sub-put-head
 sub-put-head c = let i = lies c in search needs

@@ -11,32 +11,20 @@ shared-slice-read-n c = search needs
 returns : tie.Need-returns
 returns c = let s = c .before .before .before in many-samples (s .args .t) (now (s .args .w)) (c .if1 .taken)
 
-cast-iv : tie.Need-cast-iv
-cast-iv c = search needs
+shared-slice-read-tally-of : tie.Need-shared-slice-read-tally-of
+shared-slice-read-tally-of c = search needs
 
-shared-slice-read-in-use : tie.Need-shared-slice-read-in-use
-shared-slice-read-in-use c = search needs
-
-in-use-requires : tie.Need-in-use-requires
-in-use-requires c κs = search needs
-
-add-from : tie.Need-add-from
-add-from c = search needs
-
-add-tallied : tie.Need-add-tallied
-add-tallied c = search needs
-
-sub-tallied : tie.Need-sub-tallied
-sub-tallied c = search needs
-
-tallied-requires : tie.Need-tallied-requires
-tallied-requires c κs = search needs
+tally-of-requires : tie.Need-tally-of-requires
+tally-of-requires c κs = search needs
 
 returns-2 : tie.Need-returns-2
 returns-2 c =
-    let s = c .before .before .before .before .before .before .before .before .before in
-    many-subsamples (s .args .t) (now (s .args .w)) (c .before .before .before .before .before .before .if1 .left) (s .pre .1) _ (c .before .before .before .in-use .ensures .0)
-    (c .before .before .tallied .result) (c .before .before .tallied .ensures) (c .if2 .taken)
+    let s = c .before .before .before .before .before .before .before in
+    many-subsamples (s .args .t) (now (s .args .w)) (c .before .before .before .before .if1 .left) (s .pre .1)
+    (c .before .before .tally-of .result) (c .before .before .tally-of .ensures) (c .if2 .taken)
+
+cast-t12 : tie.Need-cast-t12
+cast-t12 c = search needs
 
 shared-slice-read-result : tie.Need-shared-slice-read-result
 shared-slice-read-result c = search needs
@@ -58,9 +46,9 @@ rules-ok-requires c κs = search needs
 
 returns-3 : tie.Need-returns-3
 returns-3 c =
-    let s = c .before .before .before .before .before .before .before .before .before .before .before .before .before .before .before .before in
-    lawful-rest (s .args .t) (now (s .args .w)) (c .before .before .before .before .before .before .before .before .before .before .before .before .before .if1 .left) (s .pre .1) _ (c .before .before .before .before .before .before .before .before .before .before .in-use .ensures .0)
-    (c .before .before .before .before .before .before .before .before .before .tallied .result) (c .before .before .before .before .before .before .before .before .before .tallied .ensures) (c .before .before .before .before .before .before .before .if2 .left)
+    let s = c .before .before .before .before .before .before .before .before .before .before .before .before .before .before .before in
+    lawful-rest (s .args .t) (now (s .args .w)) (c .before .before .before .before .before .before .before .before .before .before .before .before .if1 .left) (s .pre .1)
+    (c .before .before .before .before .before .before .before .before .before .before .tally-of .result) (c .before .before .before .before .before .before .before .before .before .before .tally-of .ensures) (c .before .before .before .before .before .before .before .before .if2 .left)
     _ _ _ (c .before .before .before .before .regions-ok .ensures) (c .before .before .before .same-iv-size .ensures) (rw (c .before .before .marks-of .ensures) at (c .rules-ok .ensures))
 
 pub is-lawful-spec : {M : Type 1} → statement M
@@ -69,14 +57,10 @@ is-lawful-spec =
     (tie.spec
     shared-slice-read-n
     returns
-    cast-iv
-    shared-slice-read-in-use
-    in-use-requires
-    add-from
-    add-tallied
-    sub-tallied
-    tallied-requires
+    shared-slice-read-tally-of
+    tally-of-requires
     returns-2
+    cast-t12
     shared-slice-read-result
     regions-ok-requires
     same-iv-size-requires

@@ -2,7 +2,8 @@
 use borrow.Author.Needs.{needs}
 use Prim.Native.Nat.{_-_}
 use native.Mathlib.Omega.{arith}
-use Rattle.locmaf_read_events.proofs.EventLaws.{Reading, read-start, read-next, read-end}
+use Rattle.event_value.specs.Events.{EventFits}
+use Rattle.locmaf_read_events.proofs.EventLaws.{Reading, read-start, read-next, read-end, lent-long, lent-scheme, lent-value}
 use Rattle.locmaf_read_events.proofs.events.events_ok.Statement.{statement}
 use Rattle.locmaf_read_events.proofs.events.events_ok.Tie as tie
 
@@ -15,13 +16,32 @@ abbrev μ-loop : tie.MeasureT-loop
 loop-holds : tie.Need-loop-holds Inv-loop μ-loop
 loop-holds c = read-start _ _ _ _ _ (c .before .before .pre .0) (c .before .before .pre .1)
 
+-- the words of the next event are there, and point into the object
+there : (c : tie.In-loop Inv-loop μ-loop) → EventFits (c .before .before .before .before .args .o .now) (c .before .loop .events) (c .before .loop .i)
+there c = c .before .loop .inv .fits .each _ (c .loop-test .taken)
+
+mul-p : tie.Need-mul-p Inv-loop μ-loop
+mul-p c = let e = there c .there in search needs
+
+add-event-ok : tie.Need-add-event-ok Inv-loop μ-loop
+add-event-ok c = let e = there c .there in search needs
+
 mul-event-ok : tie.Need-mul-event-ok Inv-loop μ-loop
-mul-event-ok c = search needs
+mul-event-ok c = let e = there c .there in search needs
+
+sub-event-ok : tie.Need-sub-event-ok Inv-loop μ-loop
+sub-event-ok c = search needs
+
+part-event-ok-start : tie.Need-part-event-ok-start Inv-loop μ-loop
+part-event-ok-start c = let e = there c .there in search needs
+
+part-event-ok-end : tie.Need-part-event-ok-end Inv-loop μ-loop
+part-event-ok-end c = let e = there c .there in search needs
 
 event-ok-requires : tie.Need-event-ok-requires Inv-loop μ-loop
 event-ok-requires c κs =
-    let f = c .before .before .loop .inv .fits .each _ (c .before .loop-test .taken) in
-    (f .there, (f .scheme, f .value))
+    let e = there (c .before) in
+    (lent-long _ _ _ e, (lent-scheme _ _ _ e, lent-value _ _ _ e))
 
 add-i : tie.Need-add-i Inv-loop μ-loop
 add-i c = search needs
@@ -31,7 +51,9 @@ loop-less c = search needs
 
 loop-again : tie.Need-loop-again Inv-loop μ-loop
 loop-again c =
-    read-next _ _ _ _ _ _ _ _ (c .before .before .before .before .before .loop .inv) (c .before .before .before .before .loop-test .taken) _ _ (c .before .before .event-ok .ensures)
+    let b = c .before .before in
+    let l = b .before .before in
+    read-next _ _ _ _ _ _ _ _ (l .before .loop .inv) (l .loop-test .taken) _ _ (b .event-ok .ensures)
 
 same-length : tie.Need-same-length Inv-loop μ-loop
 same-length c = omega (arith, c .before .loop .inv .long, c .before .before .before .before .pre .0)
@@ -46,7 +68,12 @@ events-ok-spec =
     Inv-loop
     μ-loop
     loop-holds
+    mul-p
+    add-event-ok
     mul-event-ok
+    sub-event-ok
+    part-event-ok-start
+    part-event-ok-end
     event-ok-requires
     add-i
     loop-less

@@ -3,6 +3,7 @@ use denote.Ref.{now}
 use mathlib.Core.Path.{sym, _∙_, ap}
 use lib.ListN.{length, length-set}
 use lib.Seq.{length-sets}
+use Rattle.laws.proofs.GateLaws.{failed, held}
 use Rattle.locmaf_read_field.proofs.CellLaws.{carry-ivs, carry-long, carry-same}
 use borrow.Author.Needs.{needs}
 use Rattle.locmaf_read_field.proofs.cells.carry.Statement.{statement}
@@ -17,11 +18,14 @@ lacking-requires c κs = search needs
 returns : tie.Need-returns
 returns c = carry-ivs _ _ _ _ (now (c .before .before .before .before .before .args .r)) _ (sym (c .before .before .is-ivs .ensures) ∙ c .before .if1 .taken) (c .lacking .ensures) _
 
+carries-requires : tie.Need-carries-requires
+carries-requires c κs = search needs
+
 misfit-requires : tie.Need-misfit-requires
 misfit-requires c κs = search needs
 
 returns-2 : tie.Need-returns-2
-returns-2 c = carry-long _ _ _ _ (now (c .before .before .before .before .before .before .args .r)) _ (sym (c .before .before .before .is-ivs .ensures) ∙ c .before .before .if1 .left) (c .before .if2 .taken) (c .misfit .ensures) _
+returns-2 c = carry-long _ _ _ _ (now (c .before .before .before .before .before .before .before .args .r)) _ (sym (c .before .before .before .before .is-ivs .ensures) ∙ c .before .before .before .if1 .left) (failed (c .before .before .carries .ensures) (c .before .if2 .taken)) (c .misfit .ensures) _
 
 mul-x : tie.Need-mul-x
 mul-x c = search needs
@@ -42,7 +46,7 @@ same-length : tie.Need-same-length
 same-length c = ap length (c .before .before .before .copy .ensures) ∙ simp (length-sets, length-set)
 
 returns-3 : tie.Need-returns-3
-returns-3 c = carry-same _ _ _ _ _ _ (sym (c .before .before .before .before .before .before .before .is-ivs .ensures) ∙ c .before .before .before .before .before .before .if1 .left) (c .before .before .before .before .before .if2 .left) (c .well .ensures) _ (c .before .before .before .copy .ensures)
+returns-3 c = carry-same _ _ _ _ _ _ (sym (c .before .before .before .before .before .before .before .before .is-ivs .ensures) ∙ c .before .before .before .before .before .before .before .if1 .left) (held (c .before .before .before .before .before .before .carries .ensures) (c .before .before .before .before .before .if2 .left)) (c .well .ensures) _ (c .before .before .before .copy .ensures)
 
 pub carry-spec : {M : Type 1} → statement M
 carry-spec =
@@ -51,6 +55,7 @@ carry-spec =
     is-ivs-requires
     lacking-requires
     returns
+    carries-requires
     misfit-requires
     returns-2
     mul-x

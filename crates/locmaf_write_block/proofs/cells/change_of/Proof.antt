@@ -3,15 +3,15 @@ use borrow.Author.Needs.{needs}
 use native.Mathlib.Omega.{arith}
 use mathlib.Core.Path.{sym, _∙_, ap₂}
 use Rattle.locmaf_write_block.specs.Changes.{same}
-use Rattle.locmaf_write_block.proofs.FieldLaws.{Field, chunk-field}
+use Rattle.locmaf_write_block.proofs.FieldLaws.{measured-old, Field, chunk-field}
 use Rattle.locmaf_write_block.proofs.SentLaws.{new-room, news-lent, olds-lent}
 use Rattle.locmaf_write_block.proofs.ChangeLaws.{vanished, never, afresh, compared}
 use Rattle.locmaf_write_block.proofs.cells.change_of.Statement.{statement}
 use Rattle.locmaf_write_block.proofs.cells.change_of.Tie as tie
 
 -- the field that the call is about
-the-field : (s : tie.Start) → let a = s .args in Field (a .t) (a .b) (a .r .now) (a .x .now) (a .l)
-the-field s = let a = s .args in chunk-field (a .t) (a .b) (a .r .now) (a .x .now) (a .i) (a .l) (s .pre .0) (s .pre .1)
+the-field : (s : tie.Start) → let a = s .args in Field (s .pre .1 .0) (a .b) (a .r .now) (a .x .now) (a .l)
+the-field s = let a = s .args in chunk-field (s .pre .1 .0) (a .b) (a .r .now) (a .x .now) (a .l) (s .pre .1 .1) (s .pre .0)
 
 add-from : tie.Need-add-from
 add-from c = omega (arith, the-field (c .before .before) .here)
@@ -30,14 +30,14 @@ returns c =
     let b₁ = c .before in
     let b₂ = b₁ .before .before in
     let b₃ = b₂ .before .before .before .before in
-    let a = b₃ .args in vanished (a .t) (a .b .delta) (a .r .now) (a .x .now) (a .l) _ (b₂ .has-old .ensures) (b₁ .if1 .taken) (c .if2 .taken)
+    let a = b₃ .args in λ t h. vanished t (a .b .delta) (a .r .now) (a .x .now) (a .l) _ (b₂ .has-old .ensures) (b₁ .if1 .taken) (c .if2 .taken)
 
 returns-2 : tie.Need-returns-2
 returns-2 c =
     let b₁ = c .before in
     let b₂ = b₁ .before .before in
     let b₃ = b₂ .before .before .before .before in
-    let a = b₃ .args in never (a .t) (a .b .delta) (a .r .now) (a .x .now) (a .l) _ (b₂ .has-old .ensures) (b₁ .if1 .taken) (c .if2 .left)
+    let a = b₃ .args in λ t h. never t (a .b .delta) (a .r .now) (a .x .now) (a .l) _ (b₂ .has-old .ensures) (b₁ .if1 .taken) (c .if2 .left)
 
 is-ivs-requires : tie.Need-is-ivs-requires
 is-ivs-requires c κs = tt
@@ -49,12 +49,13 @@ returns-3 c =
     let b₃ = b₂ .before .before in
     let b₄ = b₃ .before .before .before .before in
     let a = b₄ .args in
-    afresh (a .t) (a .b .delta) (a .r .now) (a .x .now) (a .l) _ (b₃ .has-old .ensures) (b₂ .if1 .left) _ (b₁ .is-ivs .ensures) (c .if3 .taken)
+    λ t h.
+    afresh t (a .b .delta) (a .r .now) (a .x .now) (a .l) _ (b₃ .has-old .ensures) (b₂ .if1 .left) _ (b₁ .is-ivs .ensures) (c .if3 .taken)
 
 old-length-requires : tie.Need-old-length-requires
 old-length-requires c κs =
     let b = c .before .before .before .before .before .before .before .before in
-    (b .pre .0, b .pre .1)
+    (b .pre .0, measured-old (b .pre .1 .1))
 
 length-of-requires : tie.Need-length-of-requires
 length-of-requires c κs = the-field (c .before .before .before .before .before .before .before .before .before) .new
@@ -109,8 +110,9 @@ returns-4 c =
     let b₇ = b₆ .before .before in
     let b₈ = b₇ .before .before .before .before in
     let a = b₈ .args in
-    let f = the-field b₈ in
-    compared (a .t) (a .b .delta) (a .r .now) (a .x .now) (a .l) _ (b₇ .has-old .ensures) (b₆ .if1 .left) _ (b₅ .is-ivs .ensures) (b₄ .if3 .left) _
+    λ t h.
+    let f = chunk-field t (a .b) (a .r .now) (a .x .now) (a .l) h (b₈ .pre .0) in
+    compared t (a .b .delta) (a .r .now) (a .x .now) (a .l) _ (b₇ .has-old .ensures) (b₆ .if1 .left) _ (b₅ .is-ivs .ensures) (b₄ .if3 .left) _
     (sym (c .if4 .taken) ∙ b₁ .same-list .ensures ∙ ap₂ same (olds-lent f _ (b₃ .old-length .ensures)) (news-lent f _ (b₂ .length-of .ensures)))
 
 returns-5 : tie.Need-returns-5
@@ -124,8 +126,9 @@ returns-5 c =
     let b₇ = b₆ .before .before in
     let b₈ = b₇ .before .before .before .before in
     let a = b₈ .args in
-    let f = the-field b₈ in
-    compared (a .t) (a .b .delta) (a .r .now) (a .x .now) (a .l) _ (b₇ .has-old .ensures) (b₆ .if1 .left) _ (b₅ .is-ivs .ensures) (b₄ .if3 .left) _
+    λ t h.
+    let f = chunk-field t (a .b) (a .r .now) (a .x .now) (a .l) h (b₈ .pre .0) in
+    compared t (a .b .delta) (a .r .now) (a .x .now) (a .l) _ (b₇ .has-old .ensures) (b₆ .if1 .left) _ (b₅ .is-ivs .ensures) (b₄ .if3 .left) _
     (sym (c .if4 .left) ∙ b₁ .same-list .ensures ∙ ap₂ same (olds-lent f _ (b₃ .old-length .ensures)) (news-lent f _ (b₂ .length-of .ensures)))
 
 pub change-of-spec : {M : Type 1} → statement M

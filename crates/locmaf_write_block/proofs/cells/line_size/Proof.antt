@@ -42,7 +42,9 @@ line-at-requires : tie.Need-line-at-requires
 line-at-requires c κs = tt
 
 change-of-requires : tie.Need-change-of-requires
-change-of-requires c κs = let b = c .before .before .before .before .before .before in (b .pre .0, (b .pre .1, c .line-at .ensures))
+change-of-requires c κs =
+    let b = c .before .before .before .before .before .before in
+    (record { number = b .args .i; below = b .pre .1; found = c .line-at .ensures }, (b .args .t, b .pre .0))
 
 whole-requires-2 : tie.Need-whole-requires-2
 whole-requires-2 c κs = tt
@@ -58,9 +60,9 @@ sent-size-requires c κs =
     let a = b₃ .args in (
       b₃ .pre .0,
       (
-        (b₃ .pre .1, b₂ .line-at .ensures),
+        record { number = a .i; below = b₃ .pre .1; found = b₂ .line-at .ensures },
         sent-stands (a .t) (a .b .delta) (a .r .now) (a .x .now) _
-            (sym (b₁ .change-of .ensures) ∙ c .enum-told .given .1),
+            (sym (b₁ .change-of .ensures (a .t) (b₃ .pre .0)) ∙ c .enum-told .given .1),
       ),
     )
 
@@ -73,7 +75,7 @@ returns-2 c =
     let a = b₄ .args in
     weighed-as
     (line-unsent (rows (a .form)) (a .t) (a .b .delta) (a .r .now) (a .x .now) _ _ (b₃ .line-at .ensures)
-    _ (b₂ .change-of .ensures)
+    _ (b₂ .change-of .ensures (a .t) (b₄ .pre .0))
     (λ e. miss (0 ∷ 1 ∷ []) 2 tt (rw e at (b₁ .match .keys1))))
     (weighed-nothing (c .whole2 .ensures))
 
@@ -86,7 +88,7 @@ returns-3 c =
     let a = b₄ .args in
     weighed-as
     (line-sent (rows (a .form)) (a .t) (a .b .delta) (a .r .now) (a .x .now) _ _ (b₃ .line-at .ensures)
-    _ (b₂ .change-of .ensures) (b₁ .enum-told .given .1))
+    _ (b₂ .change-of .ensures (a .t) (b₄ .pre .0)) (b₁ .enum-told .given .1))
     (c .sent-size .ensures)
 
 pub line-size-spec : {M : Type 1} → statement M

@@ -40,7 +40,9 @@ line-at-requires : tie.Need-line-at-requires
 line-at-requires c κs = tt
 
 change-of-requires : tie.Need-change-of-requires
-change-of-requires c κs = let b = c .before .before .before .before .before .before .before in (b .pre .0, (b .pre .1 .0, c .line-at .ensures))
+change-of-requires c κs =
+    let b = c .before .before .before .before .before .before .before in
+    (record { number = b .args .i; below = b .pre .1 .0; found = c .line-at .ensures }, (b .args .t, b .pre .0))
 
 enum-told : tie.Need-enum-told
 enum-told c = search needs
@@ -54,13 +56,13 @@ put-sent-requires c κs =
     let a = b₄ .args in
     let F = rows (a .form) in
     let e = line-sent F (a .t) (a .b .delta) (a .r .now) (a .x .now) _ _ (b₃ .line-at .ensures)
-    _ (b₂ .change-of .ensures) (b₁ .enum-told .given .1) in (
+    _ (b₂ .change-of .ensures (a .t) (b₄ .pre .0)) (b₁ .enum-told .given .1) in (
       b₄ .pre .0,
       (
-        (b₄ .pre .1 .0, b₃ .line-at .ensures),
+        record { number = a .i; below = b₄ .pre .1 .0; found = b₃ .line-at .ensures },
         (
           sent-stands (a .t) (a .b .delta) (a .r .now) (a .x .now) _
-              (sym (b₂ .change-of .ensures) ∙ b₁ .enum-told .given .1),
+              (sym (b₂ .change-of .ensures (a .t) (b₄ .pre .0)) ∙ b₁ .enum-told .given .1),
           (some-as F _ _ e (b₄ .pre .1 .1 .0), room-as F _ _ e _ _ (b₄ .pre .1 .1 .1)),
         ),
       ),
@@ -74,7 +76,7 @@ returns-2 c =
     let a = b₃ .args in
     let F = rows (a .form) in
     put-as F
-    (line-unsent F (a .t) (a .b .delta) (a .r .now) (a .x .now) _ _ (b₂ .line-at .ensures) _ (b₁ .change-of .ensures)
+    (line-unsent F (a .t) (a .b .delta) (a .r .now) (a .x .now) _ _ (b₂ .line-at .ensures) _ (b₁ .change-of .ensures (a .t) (b₃ .pre .0))
     (λ e. miss (0 ∷ 1 ∷ []) 2 tt (rw e at (c .match .keys1))))
     (put-nothing F _ _ (omega (arith, b₃ .pre .1 .1 .1)))
 
@@ -92,7 +94,7 @@ returns-3 c =
     let F = rows (a .form) in
     put-as F
     (line-sent F (a .t) (a .b .delta) (a .r .now) (a .x .now) _ _ (b₄ .line-at .ensures)
-    _ (b₃ .change-of .ensures) (b₂ .enum-told .given .1))
+    _ (b₃ .change-of .ensures (a .t) (b₅ .pre .0)) (b₂ .enum-told .given .1))
     (b₁ .put-sent .ensures)
 
 pub put-line-spec : {M : Type 1} → statement M

@@ -1,9 +1,9 @@
 -- `locmaf_write_block::cells::sent_size` meets its contract. Assumes nothing.
 use borrow.Author.Needs.{needs}
 use native.Mathlib.Omega.{arith}
-use mathlib.Core.Path.{sym, _∙_}
+use mathlib.Core.Path.{refl, sym, _∙_}
 use Rattle.wire.specs.Form.{rows}
-use Rattle.locmaf_write_block.proofs.FieldLaws.{Field, chunk-field}
+use Rattle.locmaf_write_block.proofs.FieldLaws.{measured-old, Field, chunk-field}
 use Rattle.locmaf_write_tuples.proofs.ItemLaws.{made-is, weighed-as, weighed-within}
 use Rattle.locmaf_write_block.proofs.SentLaws.{new-room, new-few, lent-length, weighed-ivs, number-is, list-lent}
 use Rattle.locmaf_write_block.proofs.cells.sent_size.Statement.{statement}
@@ -11,7 +11,7 @@ use Rattle.locmaf_write_block.proofs.cells.sent_size.Tie as tie
 
 -- the field that the call is about
 the-field : (s : tie.Start) → let a = s .args in Field (a .t) (a .b) (a .r .now) (a .x .now) (a .l)
-the-field s = let a = s .args in chunk-field (a .t) (a .b) (a .r .now) (a .x .now) (a .i) (a .l) (s .pre .0) (s .pre .1 .0)
+the-field s = let a = s .args in chunk-field (a .t) (a .b) (a .r .now) (a .x .now) (a .l) (s .pre .0) (s .pre .1 .0)
 
 add-from : tie.Need-add-from
 add-from c = omega (arith, the-field (c .before .before .before .before) .here)
@@ -54,53 +54,37 @@ returns c =
     weighed-ivs (the-field b₅) _ (b₄ .length-of .ensures) (sym (b₃ .is-ivs .ensures) ∙ b₂ .if1 .taken)
     (a .form) _ (b₁ .body-size .ensures) (c .whole .ensures)
 
-old-value-requires : tie.Need-old-value-requires
-old-value-requires c κs =
-    let b = c .before .before .before .before .before .before .before .before .before .before .before in
-    (omega (arith, the-field b .there, c .if2 .taken), the-field b .single (c .if2 .taken))
-
-mul-code : tie.Need-mul-code
-mul-code c =
-    let b₁ = c .before in
-    let b₂ = b₁ .before .before .before .before .before .before .before .before .before .before .before in
-    omega (arith, the-field b₂ .here, b₁ .if2 .taken)
-
-shared-slice-read-code : tie.Need-shared-slice-read-code
-shared-slice-read-code c =
-    let b₁ = c .before .before in
-    let b₂ = b₁ .before .before .before .before .before .before .before .before .before .before .before in
-    omega (arith, the-field b₂ .here, b₁ .if2 .taken)
-
-code-requires : tie.Need-code-requires
-code-requires c κs = tt
+number-of-requires : tie.Need-number-of-requires
+number-of-requires c κs =
+    let f = the-field (c .before .before .before .before .before .before .before .before .before .before .before) in
+    (omega (arith, f .there, c .if2 .taken), (omega (arith, f .here, c .if2 .taken), f .single (c .if2 .taken)))
 
 number-size-requires : tie.Need-number-size-requires
 number-size-requires c κs =
-    let b = c .before .before .before .before .before .before .before .before .before .before .before .before .before .before in
-    (the-field b .low, made-is (rows (b .args .form)) _ _ _ _ (c .code .ensures))
+    let b = c .before .before .before .before .before .before .before .before .before .before .before .before in
+    (the-field b .low, made-is (rows (b .args .form)) _ _ _ _ (c .number-of .ensures))
 
 returns-2 : tie.Need-returns-2
 returns-2 c =
     let b₁ = c .before in
-    let b₂ = b₁ .before .before in
-    let b₃ = b₂ .before in
-    let b₄ = b₃ .before .before in
+    let b₂ = b₁ .before in
+    let b₃ = b₂ .before .before in
+    let b₄ = b₃ .before in
     let b₅ = b₄ .before in
     let b₆ = b₅ .before in
-    let b₇ = b₆ .before in
-    let b₈ = b₇ .before .before .before .before .before .before in
-    let a = b₈ .args in
-    let f = the-field b₈ in
+    let b₇ = b₆ .before .before .before .before .before .before in
+    let a = b₇ .args in
+    let f = the-field b₇ in
     weighed-as
-    (number-is f (rows (a .form)) _ (b₅ .is-ivs .ensures) (b₄ .if1 .left)
-    _ (b₇ .field-coding .ensures) _ (b₆ .absent-value .ensures)
-    (b₃ .if2 .taken) _ (b₂ .old-value .ensures) _ (b₁ .code .ensures))
+    (number-is f (rows (a .form)) _ (b₄ .is-ivs .ensures) (b₃ .if1 .left)
+    _ (b₆ .field-coding .ensures) _ (b₅ .absent-value .ensures)
+    (b₂ .if2 .taken) _ refl _ (b₁ .number-of .ensures))
     (weighed-within (omega arith) (c .number-size .ensures))
 
 old-length-requires : tie.Need-old-length-requires
 old-length-requires c κs =
     let b = c .before .before .before .before .before .before .before .before .before .before .before in
-    (b .pre .0, b .pre .1 .0)
+    (b .pre .1 .0, measured-old (b .pre .0))
 
 add-run-size : tie.Need-add-run-size
 add-run-size c =
@@ -176,10 +160,7 @@ sent-size-spec =
     body-size-requires
     whole-requires
     returns
-    old-value-requires
-    mul-code
-    shared-slice-read-code
-    code-requires
+    number-of-requires
     number-size-requires
     returns-2
     old-length-requires

@@ -12,24 +12,24 @@ place-at-requires c κs = tt
 mul-vanished : tie.Need-mul-vanished
 mul-vanished c =
     let b = c .before .before .before in
-    let w = b .pre .0 .0 .old-words in
+    let w = b .pre .0 .0 in
     omega (arith, mark-in _ (b .pre .1) _ (c .place-at .ensures) (b .args .r .now) w, w)
 
 shared-slice-read-vanished : tie.Need-shared-slice-read-vanished
 shared-slice-read-vanished c =
     let b = c .before .before .before .before in
-    mark-in _ (b .pre .1) _ (c .before .place-at .ensures) (b .args .r .now) (b .pre .0 .0 .old-words)
+    mark-in _ (b .pre .1) _ (c .before .place-at .ensures) (b .args .r .now) (b .pre .0 .0)
 
 mul-vanished-2 : tie.Need-mul-vanished-2
 mul-vanished-2 c =
     let b = c .before .before .before .before in
-    let w = b .pre .0 .0 .new-words in
+    let w = b .pre .0 .1 in
     omega (arith, mark-in _ (b .pre .1) _ (c .before .place-at .ensures) (b .args .x .now) w, w)
 
 shared-slice-read-vanished-2 : tie.Need-shared-slice-read-vanished-2
 shared-slice-read-vanished-2 c =
     let b = c .before .before .before .before .before in
-    mark-in _ (b .pre .1) _ (c .before .before .place-at .ensures) (b .args .x .now) (b .pre .0 .0 .new-words)
+    mark-in _ (b .pre .1) _ (c .before .before .place-at .ensures) (b .args .x .now) (b .pre .0 .1)
 
 vanished-requires : tie.Need-vanished-requires
 vanished-requires c κs = tt
@@ -39,7 +39,7 @@ returns c =
     let b₁ = c .before .before .before in
     let b₂ = b₁ .before .before .before in
     let a = b₂ .args in
-    c .vanished .ensures ∙ deleted-is (a .t) (a .b .delta) (a .r .now) (a .x .now) _ (b₂ .pre .1) _ (b₁ .place-at .ensures)
+    λ t. c .vanished .ensures ∙ deleted-is t (a .b .delta) (a .r .now) (a .x .now) _ (b₂ .pre .1) _ (b₁ .place-at .ensures)
 
 pub is-deleted-spec : {M : Type 1} → statement M
 is-deleted-spec =

@@ -12,23 +12,8 @@ use Rattle.wire.proofs.ZigzagLaws.{fitted-inv, fitted-wide}
 use Rattle.locmaf_write_events.proofs.records.put_marks.Statement.{statement}
 use Rattle.locmaf_write_events.proofs.records.put_marks.Tie as tie
 
-mul-p : tie.Need-mul-p
-mul-p c = search needs
-
-add-time-number : tie.Need-add-time-number
-add-time-number c = search needs
-
-mul-time-number : tie.Need-mul-time-number
-mul-time-number c = search needs
-
 shared-slice-read-time-number : tie.Need-shared-slice-read-time-number
 shared-slice-read-time-number c = search needs
-
-add-time-number-2 : tie.Need-add-time-number-2
-add-time-number-2 c = search needs
-
-mul-time-number-2 : tie.Need-mul-time-number-2
-mul-time-number-2 c = search needs
 
 shared-slice-read-time-number-2 : tie.Need-shared-slice-read-time-number-2
 shared-slice-read-time-number-2 c = search needs
@@ -48,12 +33,6 @@ returns c =
     let w = fitted-wide _ _ (sym (c .before .before .time-number .ensures) ∙ c .enum-told .given .1) in
     absurd (omega (arith, w, c .before .before .before .before .before .before .before .pre .1 .0))
 
-add-scale-of : tie.Need-add-scale-of
-add-scale-of c = search needs
-
-mul-scale-of : tie.Need-mul-scale-of
-mul-scale-of c = search needs
-
 shared-slice-read-scale-of : tie.Need-shared-slice-read-scale-of
 shared-slice-read-scale-of c = search needs
 
@@ -64,16 +43,16 @@ scale-of-requires c κs = search needs
 begun : (c : tie.After-scale-of)
     → let b = c .before .before .before .before .before .before .before .before .before .before .before in
     let a = b .args in
-    Parts (a .out .now) (a .at) (encMarks (rows (a .form)) (sent (a .t) (a .bmdt .0) (eventAt [] (a .events .now) (a .i)))) (a .out .now) (a .at)
-    (markParts (rows (a .form)) (a .events .now) (a .i) (c .scale-of .result) (c .before .before .before .before .c .given .0 .0))
+    Parts (a .out .now) (a .at) (encMarks (rows (a .form)) (sent (a .t) (a .bmdt .0) (eventAt [] (a .event .now) 0))) (a .out .now) (a .at)
+    (markParts (rows (a .form)) (a .event .now) 0 (c .scale-of .result) (c .before .before .before .before .c .given .0 .0))
 begun c =
     let b₁ = c .before .before .before .before in
     let b₂ = b₁ .before .before in
     let b₃ = b₂ .before .before .before .before .before in
     let a = b₃ .args in
     let z = fitted-inv _ _ (sym (b₂ .time-number .ensures) ∙ b₁ .c .given .1) in
-    parts-all (a .out .now) (a .at) (markParts (rows (a .form)) (a .events .now) (a .i) (c .scale-of .result) (b₁ .c .given .0 .0))
-    (mark-parts (rows (a .form)) (a .t) (a .bmdt .0) (a .events .now) (a .i) _ _ (c .scale-of .ensures) (z .0))
+    parts-all (a .out .now) (a .at) (markParts (rows (a .form)) (a .event .now) 0 (c .scale-of .result) (b₁ .c .given .0 .0))
+    (mark-parts (rows (a .form)) (a .t) (a .bmdt .0) (a .event .now) 0 _ _ (c .scale-of .ensures) (z .0))
     (b₃ .pre .1 .1)
 
 put-requires : tie.Need-put-requires
@@ -85,12 +64,6 @@ put-requires-2 c κs =
     let b₂ = b₁ .before in
     parts-room (parts-then (begun b₂) (b₁ .put .ensures))
 
-add-put : tie.Need-add-put
-add-put c = search needs
-
-mul-put : tie.Need-mul-put
-mul-put c = search needs
-
 shared-slice-read-put : tie.Need-shared-slice-read-put
 shared-slice-read-put c = search needs
 
@@ -100,12 +73,6 @@ put-requires-3 c κs =
     let b₂ = b₁ .before .before .before .before in
     let b₃ = b₂ .before in
     parts-room (parts-then (parts-then (begun b₃) (b₂ .put .ensures)) (b₁ .put2 .ensures))
-
-add-put-2 : tie.Need-add-put-2
-add-put-2 c = search (needs, c .before .before .before .before .before .before .before .before .before .before .before .before .before .before .before .before .before .before .before .before .before .before .before .before .good .1 .1 .1 .0)
-
-mul-put-2 : tie.Need-mul-put-2
-mul-put-2 c = search (needs, c .before .before .before .before .before .before .before .before .before .before .before .before .before .before .before .before .before .before .before .before .before .before .before .before .good .1 .1 .1 .0)
 
 shared-slice-read-put-2 : tie.Need-shared-slice-read-put-2
 shared-slice-read-put-2 c = search needs
@@ -135,29 +102,18 @@ pub put-marks-spec : {M : Type 1} → statement M
 put-marks-spec =
     tie.close
     (tie.spec
-    mul-p
-    add-time-number
-    mul-time-number
     shared-slice-read-time-number
-    add-time-number-2
-    mul-time-number-2
     shared-slice-read-time-number-2
     time-number-requires
     enum-known-c
     enum-told
     returns
-    add-scale-of
-    mul-scale-of
     shared-slice-read-scale-of
     scale-of-requires
     put-requires
     put-requires-2
-    add-put
-    mul-put
     shared-slice-read-put
     put-requires-3
-    add-put-2
-    mul-put-2
     shared-slice-read-put-2
     put-requires-4
     same-length

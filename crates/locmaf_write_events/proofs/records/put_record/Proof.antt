@@ -9,20 +9,8 @@ use borrow.Author.Needs.{needs}
 use Rattle.locmaf_write_events.proofs.records.put_record.Statement.{statement}
 use Rattle.locmaf_write_events.proofs.records.put_record.Tie as tie
 
-mul-p : tie.Need-mul-p
-mul-p c = search needs
-
-mul-put-text : tie.Need-mul-put-text
-mul-put-text c = search needs
-
 shared-slice-read-put-text : tie.Need-shared-slice-read-put-text
 shared-slice-read-put-text c = search needs
-
-add-put-text : tie.Need-add-put-text
-add-put-text c = search needs
-
-mul-put-text-2 : tie.Need-mul-put-text-2
-mul-put-text-2 c = search needs
 
 shared-slice-read-put-text-2 : tie.Need-shared-slice-read-put-text-2
 shared-slice-read-put-text-2 c = search needs
@@ -30,13 +18,13 @@ shared-slice-read-put-text-2 c = search needs
 -- all its parts are left
 begun : (c : tie.Start)
     → let a = c .args in
-    let e = sent (a .t) (a .bmdt .0) (eventAt (a .c .now) (a .events .now) (a .i)) in
+    let e = sent (a .t) (a .bmdt .0) (eventAt (a .c .now) (a .event .now) 0) in
     Parts (a .out .now) (a .at) (encEvent (rows (a .form)) e)
-    (a .out .now) (a .at) (recordParts (rows (a .form)) (a .t) (a .bmdt .0) (a .c .now) (a .events .now) (a .i))
+    (a .out .now) (a .at) (recordParts (rows (a .form)) (a .t) (a .bmdt .0) (a .c .now) (a .event .now) 0)
 begun c =
     let a = c .args in
-    parts-all (a .out .now) (a .at) (recordParts (rows (a .form)) (a .t) (a .bmdt .0) (a .c .now) (a .events .now) (a .i))
-    (record-parts (rows (a .form)) (a .t) (a .bmdt .0) (a .c .now) (a .events .now) (a .i))
+    parts-all (a .out .now) (a .at) (recordParts (rows (a .form)) (a .t) (a .bmdt .0) (a .c .now) (a .event .now) 0)
+    (record-parts (rows (a .form)) (a .t) (a .bmdt .0) (a .c .now) (a .event .now) 0)
     (c .pre .1 .1)
 
 put-text-requires : tie.Need-put-text-requires
@@ -44,20 +32,8 @@ put-text-requires c κs =
     let b₁ = c .before .before .before .before .before .before in
     (b₁ .pre .0 .1 .scheme, parts-room (begun b₁))
 
-add-put-text-2 : tie.Need-add-put-text-2
-add-put-text-2 c = search needs
-
-mul-put-text-3 : tie.Need-mul-put-text-3
-mul-put-text-3 c = search needs
-
 shared-slice-read-put-text-3 : tie.Need-shared-slice-read-put-text-3
 shared-slice-read-put-text-3 c = search needs
-
-add-put-text-3 : tie.Need-add-put-text-3
-add-put-text-3 c = search needs
-
-mul-put-text-4 : tie.Need-mul-put-text-4
-mul-put-text-4 c = search needs
 
 shared-slice-read-put-text-4 : tie.Need-shared-slice-read-put-text-4
 shared-slice-read-put-text-4 c = search needs
@@ -77,20 +53,8 @@ put-marks-requires c κs =
     let k = parts-then (parts-then (begun b₃) (b₂ .put-text .ensures)) (b₁ .put-text2 .ensures) in
     (b₃ .pre .0 .0, (b₃ .pre .1 .0, parts-room k))
 
-add-put-text-4 : tie.Need-add-put-text-4
-add-put-text-4 c = search needs
-
-mul-put-text-5 : tie.Need-mul-put-text-5
-mul-put-text-5 c = search needs
-
 shared-slice-read-put-text-5 : tie.Need-shared-slice-read-put-text-5
 shared-slice-read-put-text-5 c = search needs
-
-add-put-text-5 : tie.Need-add-put-text-5
-add-put-text-5 c = search (needs, c .before .before .before .before .before .before .before .before .before .before .before .before .before .before .before .before .before .before .before .before .good .1 .1 .1 .1 .0)
-
-mul-put-text-6 : tie.Need-mul-put-text-6
-mul-put-text-6 c = search (needs, c .before .before .before .before .before .before .before .before .before .before .before .before .before .before .before .before .before .before .before .before .good .1 .1 .1 .1 .0)
 
 shared-slice-read-put-text-6 : tie.Need-shared-slice-read-put-text-6
 shared-slice-read-put-text-6 c = search needs
@@ -121,26 +85,14 @@ pub put-record-spec : {M : Type 1} → statement M
 put-record-spec =
     tie.close
     (tie.spec
-    mul-p
-    mul-put-text
     shared-slice-read-put-text
-    add-put-text
-    mul-put-text-2
     shared-slice-read-put-text-2
     put-text-requires
-    add-put-text-2
-    mul-put-text-3
     shared-slice-read-put-text-3
-    add-put-text-3
-    mul-put-text-4
     shared-slice-read-put-text-4
     put-text-requires-2
     put-marks-requires
-    add-put-text-4
-    mul-put-text-5
     shared-slice-read-put-text-5
-    add-put-text-5
-    mul-put-text-6
     shared-slice-read-put-text-6
     put-text-requires-3
     same-length

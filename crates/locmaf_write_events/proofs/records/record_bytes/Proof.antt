@@ -10,26 +10,11 @@ use Rattle.wire.proofs.SizeLaws.{size-eight}
 use Rattle.locmaf_write_events.proofs.records.record_bytes.Statement.{statement}
 use Rattle.locmaf_write_events.proofs.records.record_bytes.Tie as tie
 
-mul-p : tie.Need-mul-p
-mul-p c = search needs
-
-add-text-bytes : tie.Need-add-text-bytes
-add-text-bytes c = search needs
-
-mul-text-bytes : tie.Need-mul-text-bytes
-mul-text-bytes c = search needs
-
 shared-slice-read-text-bytes : tie.Need-shared-slice-read-text-bytes
 shared-slice-read-text-bytes c = search needs
 
 text-bytes-requires : tie.Need-text-bytes-requires
 text-bytes-requires c κs = search needs
-
-add-text-bytes-2 : tie.Need-add-text-bytes-2
-add-text-bytes-2 c = search needs
-
-mul-text-bytes-2 : tie.Need-mul-text-bytes-2
-mul-text-bytes-2 c = search needs
 
 shared-slice-read-text-bytes-2 : tie.Need-shared-slice-read-text-bytes-2
 shared-slice-read-text-bytes-2 c = search needs
@@ -37,23 +22,11 @@ shared-slice-read-text-bytes-2 c = search needs
 text-bytes-requires-2 : tie.Need-text-bytes-requires-2
 text-bytes-requires-2 c κs = search needs
 
-add-text-bytes-3 : tie.Need-add-text-bytes-3
-add-text-bytes-3 c = search needs
-
-mul-text-bytes-3 : tie.Need-mul-text-bytes-3
-mul-text-bytes-3 c = search needs
-
 shared-slice-read-text-bytes-3 : tie.Need-shared-slice-read-text-bytes-3
 shared-slice-read-text-bytes-3 c = search needs
 
 text-bytes-requires-3 : tie.Need-text-bytes-requires-3
 text-bytes-requires-3 c κs = search needs
-
-add-scale-of : tie.Need-add-scale-of
-add-scale-of c = search needs
-
-mul-scale-of : tie.Need-mul-scale-of
-mul-scale-of c = search needs
 
 shared-slice-read-scale-of : tie.Need-shared-slice-read-scale-of
 shared-slice-read-scale-of c = search needs
@@ -64,20 +37,8 @@ scale-of-requires c κs = search needs
 size-requires : tie.Need-size-requires
 size-requires c κs = search needs
 
-add-time-bytes : tie.Need-add-time-bytes
-add-time-bytes c = search needs
-
-mul-time-bytes : tie.Need-mul-time-bytes
-mul-time-bytes c = search needs
-
 shared-slice-read-time-bytes : tie.Need-shared-slice-read-time-bytes
 shared-slice-read-time-bytes c = search needs
-
-add-time-bytes-2 : tie.Need-add-time-bytes-2
-add-time-bytes-2 c = search needs
-
-mul-time-bytes-2 : tie.Need-mul-time-bytes-2
-mul-time-bytes-2 c = search needs
 
 shared-slice-read-time-bytes-2 : tie.Need-shared-slice-read-time-bytes-2
 shared-slice-read-time-bytes-2 c = search needs
@@ -85,23 +46,11 @@ shared-slice-read-time-bytes-2 c = search needs
 time-bytes-requires : tie.Need-time-bytes-requires
 time-bytes-requires c κs = search needs
 
-add-size : tie.Need-add-size
-add-size c = search needs
-
-mul-size : tie.Need-mul-size
-mul-size c = search needs
-
 shared-slice-read-size : tie.Need-shared-slice-read-size
 shared-slice-read-size c = search needs
 
 size-requires-2 : tie.Need-size-requires-2
 size-requires-2 c κs = search needs
-
-add-size-2 : tie.Need-add-size-2
-add-size-2 c = search needs
-
-mul-size-2 : tie.Need-mul-size-2
-mul-size-2 c = search needs
 
 shared-slice-read-size-2 : tie.Need-shared-slice-read-size-2
 shared-slice-read-size-2 c = search needs
@@ -190,37 +139,20 @@ pub record-bytes-spec : {M : Type 1} → statement M
 record-bytes-spec =
     tie.close
     (tie.spec
-    mul-p
-    add-text-bytes
-    mul-text-bytes
     shared-slice-read-text-bytes
     text-bytes-requires
-    add-text-bytes-2
-    mul-text-bytes-2
     shared-slice-read-text-bytes-2
     text-bytes-requires-2
-    add-text-bytes-3
-    mul-text-bytes-3
     shared-slice-read-text-bytes-3
     text-bytes-requires-3
-    add-scale-of
-    mul-scale-of
     shared-slice-read-scale-of
     scale-of-requires
     size-requires
-    add-time-bytes
-    mul-time-bytes
     shared-slice-read-time-bytes
-    add-time-bytes-2
-    mul-time-bytes-2
     shared-slice-read-time-bytes-2
     time-bytes-requires
-    add-size
-    mul-size
     shared-slice-read-size
     size-requires-2
-    add-size-2
-    mul-size-2
     shared-slice-read-size-2
     size-requires-3
     add-result

@@ -8,23 +8,8 @@ use Rattle.wire.proofs.ZigzagLaws.{fitted-inv, fitted-wide}
 use Rattle.locmaf_write_events.proofs.records.time_fits.Statement.{statement}
 use Rattle.locmaf_write_events.proofs.records.time_fits.Tie as tie
 
-mul-p : tie.Need-mul-p
-mul-p c = search needs
-
-add-time-number : tie.Need-add-time-number
-add-time-number c = search needs
-
-mul-time-number : tie.Need-mul-time-number
-mul-time-number c = search needs
-
 shared-slice-read-time-number : tie.Need-shared-slice-read-time-number
 shared-slice-read-time-number c = search needs
-
-add-time-number-2 : tie.Need-add-time-number-2
-add-time-number-2 c = search needs
-
-mul-time-number-2 : tie.Need-mul-time-number-2
-mul-time-number-2 c = search needs
 
 shared-slice-read-time-number-2 : tie.Need-shared-slice-read-time-number-2
 shared-slice-read-time-number-2 c = search needs
@@ -52,12 +37,7 @@ pub time-fits-spec : {M : Type 1} → statement M
 time-fits-spec =
     tie.close
     (tie.spec
-    mul-p
-    add-time-number
-    mul-time-number
     shared-slice-read-time-number
-    add-time-number-2
-    mul-time-number-2
     shared-slice-read-time-number-2
     time-number-requires
     enum-told

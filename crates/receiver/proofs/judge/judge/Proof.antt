@@ -1,6 +1,7 @@
 -- `receiver::judge::judge` meets its contract: the block, the set and the values, each asked where none before it refuses. Assumes nothing.
 use borrow.Author.Needs.{needs}
-use Rattle.receiver.proofs.ClimbLaws.{refuses-split, split-of, set-lent, refuses-set, set-holds, set-words, judged-on}
+use Rattle.wire.specs.Form.{rows}
+use Rattle.receiver.proofs.ClimbLaws.{own-track, refuses-split, split-of, set-lent, refuses-set, read-of, judged-on}
 use Rattle.receiver.proofs.judge.judge.Statement.{statement}
 use Rattle.receiver.proofs.judge.judge.Tie as tie
 
@@ -9,7 +10,7 @@ abbrev start : tie.After-slice-known5 → tie.Start
 start h = h .before .before .before .before .before .before .before .before .before .before .before .before
 
 split-requires : tie.Need-split-requires
-split-requires c κs = search needs
+split-requires c κs = let b = c .before .before .before .before .before .before .before in (own-track (b .pre .0), (b .pre .1 .0, b .pre .1 .1))
 
 refused-requires : tie.Need-refused-requires
 refused-requires c κs = search needs
@@ -77,10 +78,10 @@ judge-values-requires c κs =
     let k = c .before .before .before .before .before .before .before .before .before .before .if1 .left in
     let n = c .before .before .before .if2 .left in
     let rd = c .before .before .before .before .before .before .read-set .ensures in
-    (j, (split-of j sa k, (set-holds j sa k rd n, set-words j sa k rd n)))
+    (rows (b .args .form), read-of j sa k rd n)
 
 same-length-6 : tie.Need-same-length-6
-same-length-6 c = search (needs, c .before .before .before .before .before .before .before .before .before .before .before .before .before .before .before .before .before .before .before .before .split .kept .1 .1 .1 .1 .1 .0)
+same-length-6 c = search (needs, c .before .before .before .before .before .before .before .before .before .before .before .before .before .before .before .before .before .before .before .before .split .kept .1 .1 .1 .1 .0)
 
 same-length-7 : tie.Need-same-length-7
 same-length-7 c = search needs
@@ -97,7 +98,7 @@ returns-3 c =
     let k = c .before .before .before .before .before .before .before .before .before .before .before .before .before .before .before .if1 .left in
     let rd = c .before .before .before .before .before .before .before .before .before .before .before .read-set .ensures in
     let n = c .before .before .before .before .before .before .before .before .if2 .left in
-    judged-on j sa k rd n _ _ _ (c .before .before .before .before .judge-values .ensures)
+    judged-on j sa k rd n _ _ _ (c .before .before .before .before .judge-values .ensures (rows (b .args .form)) (read-of j sa k rd n))
 
 pub judge-spec : {M : Type 1} → statement M
 judge-spec =

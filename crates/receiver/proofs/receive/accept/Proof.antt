@@ -5,6 +5,7 @@ use Rattle.laws.proofs.GateLaws.{failed, held}
 use Rattle.field_set.proofs.TidyLaws.{lawful-tidy}
 use Rattle.slots.specs.declared.lawful.Side.the-variants.{Receiver}
 use Rattle.reference.proofs.OpenLaws.{share-tidy}
+use Rattle.cmaf_write_front.proofs.FrontLaws.{weighable}
 use Rattle.receiver.proofs.JudgeLaws.{end-inside}
 use Rattle.receiver.proofs.AcceptLaws.{count-small, sequence-is, writable, room, short, done-is}
 use borrow.Author.Needs.{needs}
@@ -15,7 +16,7 @@ add-to : tie.Need-add-to
 add-to c = search needs
 
 sub-payload : tie.Need-sub-payload
-sub-payload c = end-inside (c .before .before .before .before .before .before .before .pre .0)
+sub-payload c = end-inside (c .before .before .before .before .before .before .before .pre .1 .head)
 
 sub-names : tie.Need-sub-names
 sub-names c = search needs
@@ -29,7 +30,7 @@ part-names-end c = search needs
 front-length-requires : tie.Need-front-length-requires
 front-length-requires c κs =
     let b = c .before .before .before .before .before .before .before .before in
-    writable _ _ _ _ _ (b .pre .0) _ _ _ (b .pre .1)
+    weighable (writable _ _ _ _ _ (b .pre .1 .head) _ _ _ (b .pre .1 .ready))
 
 has-room-requires : tie.Need-has-room-requires
 has-room-requires c κs = search needs
@@ -40,17 +41,15 @@ refuse-requires c κs = search needs
 same-length : tie.Need-same-length
 same-length c = search needs
 
-same-length-2 : tie.Need-same-length-2
-same-length-2 c = search needs
-
 returns : tie.Need-returns
 returns c =
-    let h = c .before .before .before .before .before .before .before .before .before .before in
+    let h = c .before .before .before .before .before .before .before in
     let f = h .before in
     let b = f .before .before .before .before .before .before .before .before .before in
-    c .before .before .before .before .refuse .ensures
-    ∙ short _ _ _ _ _ (b .pre .0) _ _ _ (b .pre .1) (now (b .args .output)) _ (f .front-length .ensures)
-    (failed (h .has-room .ensures) (c .before .before .before .before .before .before .before .before .before .if1 .taken))
+    λ F v.
+    c .before .before .refuse .ensures (now (b .args .output))
+    ∙ short _ _ _ _ _ (v .head) _ _ _ (v .ready) (now (b .args .output)) _ (λ q. f .front-length .ensures q _ _ (v .ready .writable .events))
+    (failed (h .has-room .ensures) (c .before .before .before .before .before .before .if1 .taken))
 
 slice-read-count : tie.Need-slice-read-count
 slice-read-count c = search needs
@@ -58,43 +57,43 @@ slice-read-count c = search needs
 add-count : tie.Need-add-count
 add-count c =
     let b = c .before .before .before .before .before .before .before .before .before .before .before .before in
-    let z = count-small _ _ _ _ _ (b .pre .0) in
+    let z = count-small _ _ _ _ _ (b .pre .1 .head) in
     search needs
 
 put-front-requires : tie.Need-put-front-requires
 put-front-requires c κs =
     let h = c .before .before .before in
     let f = h .before in
-    let b = f .before .before .before .before .before .before .before .before .before in (
-      writable _ _ _ _ _ (b .pre .0) _ _ _ (b .pre .1),
-      room _ _ _ _ _ (b .pre .0) _ _ _ (b .pre .1) _ _ (f .front-length .ensures) (held (h .has-room .ensures) (c .before .before .if1 .left)) _,
+    let v = f .before .before .before .before .before .before .before .before .before .pre .1 in (
+      writable _ _ _ _ _ (v .head) _ _ _ (v .ready),
+      room _ _ _ _ _ (v .head) _ _ _ (v .ready) _ _ (λ q. f .front-length .ensures q _ _ (v .ready .writable .events)) (held (h .has-room .ensures) (c .before .before .if1 .left)) _,
     )
 
 keep-requires : tie.Need-keep-requires
 keep-requires c κs =
     let b = c .before .before .before .before .before .before .before .before .before .before .before .before .before .before .before .before .before in
-    let a = b .pre .0 in
-    let r = b .pre .1 in
+    let a = b .pre .1 .head in
+    let r = b .pre .1 .ready in
     ((a .share, r .writable .set .long), (share-tidy Receiver _ (a .share) (a .lawful) (a .opened), lawful-tidy _ _ (r .writable .set .long) (r .good)))
 
 sub-result : tie.Need-sub-result
 sub-result c =
     let f = c .before .before .before .before .before .before .before .before .before .before .before in
-    end-inside (f .before .before .before .before .before .before .before .before .before .pre .0)
+    end-inside (f .before .before .before .before .before .before .before .before .before .pre .1 .head)
 
 part-result-start : tie.Need-part-result-start
 part-result-start c =
     let f = c .before .before .before .before .before .before .before .before .before .before .before in
-    end-inside (f .before .before .before .before .before .before .before .before .before .pre .0)
+    end-inside (f .before .before .before .before .before .before .before .before .before .pre .1 .head)
 
 part-result-end : tie.Need-part-result-end
 part-result-end c = search needs
 
+same-length-2 : tie.Need-same-length-2
+same-length-2 c = search needs
+
 same-length-3 : tie.Need-same-length-3
 same-length-3 c = search needs
-
-same-length-4 : tie.Need-same-length-4
-same-length-4 c = search needs
 
 returns-2 : tie.Need-returns-2
 returns-2 c =
@@ -102,8 +101,9 @@ returns-2 c =
     let h = w .before .before .before .before in
     let f = h .before in
     let b = f .before .before .before .before .before .before .before .before .before in
-    done-is _ _ _ _ _ (b .pre .0) _ _ _ (b .pre .1) (now (b .args .output)) _ _ _ _ (sequence-is _ _ _ _ _ (b .pre .0)) (w .put-front .ensures .0)
-    (room _ _ _ _ _ (b .pre .0) _ _ _ (b .pre .1) _ _ (f .front-length .ensures) (held (h .has-room .ensures) (w .before .before .before .if1 .left)) _) (w .put-front .ensures .1)
+    λ F v.
+    done-is _ _ _ _ _ (v .head) _ _ _ (v .ready) (now (b .args .output)) _ _ _ _ (sequence-is _ _ _ _ _ (v .head)) (w .put-front .ensures .0)
+    (room _ _ _ _ _ (v .head) _ _ _ (v .ready) _ _ (λ q. f .front-length .ensures q _ _ (v .ready .writable .events)) (held (h .has-room .ensures) (w .before .before .before .if1 .left)) _) (w .put-front .ensures .1)
     (c .before .before .before .keep .ensures)
 
 pub accept-spec : {M : Type 1} → statement M
@@ -119,7 +119,6 @@ accept-spec =
     has-room-requires
     refuse-requires
     same-length
-    same-length-2
     returns
     slice-read-count
     add-count
@@ -128,6 +127,6 @@ accept-spec =
     sub-result
     part-result-start
     part-result-end
+    same-length-2
     same-length-3
-    same-length-4
     returns-2)

@@ -2,7 +2,6 @@
 use Prim.Native.Nat.{ℕ}
 use mathlib.Core.Path.{ap}
 use mathlib.Core.List.{List, []}
-use denote.Ref.{now}
 use Rattle.slots.specs.Table.{out}
 use Rattle.answers.specs.Took.{took}
 use borrow.Author.Needs.{needs}
@@ -20,8 +19,8 @@ same-length c = search needs
 
 returns : tie.Need-returns
 returns c =
-    let a = c .before .before .before .before .before .before .before .before .args in
-    ap (λ (z : List ℕ). out (took (a .k) 0 [] (now (a .output))) z) (c .before .before .before .leave .ensures)
+    let a = c .before .before .before .before .before .before .before .args in
+    λ output. ap (λ (z : List ℕ). out (took (a .k) 0 [] output) z) (c .before .before .before .leave .ensures)
 
 pub refuse-spec : {M : Type 1} → statement M
 refuse-spec = tie.close (tie.spec leave-requires slice-aggregate-result same-length returns)

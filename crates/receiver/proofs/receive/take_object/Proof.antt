@@ -17,16 +17,13 @@ refuse-requires c κs = search needs
 same-length : tie.Need-same-length
 same-length c = search needs
 
-same-length-2 : tie.Need-same-length-2
-same-length-2 c = search needs
-
 returns : tie.Need-returns
 returns c =
-    let d = c .before .before .before .before .before .before .before .before .before .before in
+    let d = c .before .before .before .before .before .before .before in
     let a = d .before .before .before .before .before .args in
-    c .before .before .before .before .refuse .ensures
+    c .before .before .refuse .ensures (now (a .output))
     ∙ received-unlawful (rows (a .form)) (now (a .o)) (now (a .output)) (now (a .s))
-    (failed (d .is-lawful .ensures) (c .before .before .before .before .before .before .before .before .before .if1 .taken))
+    (failed (d .is-lawful .ensures) (c .before .before .before .before .before .before .if1 .taken))
 
 slice-read-if2 : tie.Need-slice-read-if2
 slice-read-if2 c = search needs
@@ -34,20 +31,17 @@ slice-read-if2 c = search needs
 refuse-requires-2 : tie.Need-refuse-requires-2
 refuse-requires-2 c κs = search needs
 
-same-length-3 : tie.Need-same-length-3
-same-length-3 c = search needs
-
-same-length-4 : tie.Need-same-length-4
-same-length-4 c = search needs
+same-length-2 : tie.Need-same-length-2
+same-length-2 c = search needs
 
 returns-2 : tie.Need-returns-2
 returns-2 c =
-    let i = c .before .before .before .before .before .before .before .before .before .before .before in
+    let i = c .before .before .before .before .before .before .before .before in
     let d = i .before in
     let a = d .before .before .before .before .before .args in
-    c .before .before .before .before .refuse2 .ensures
+    c .before .before .refuse2 .ensures (now (a .output))
     ∙ received-closed (rows (a .form)) (now (a .o)) (now (a .output)) (now (a .s)) (held (d .is-lawful .ensures) (i .if1 .left))
-    (c .before .before .before .before .before .before .before .before .before .if2 .taken)
+    (c .before .before .before .before .before .before .if2 .taken)
 
 track-of-requires : tie.Need-track-of-requires
 track-of-requires c κs =
@@ -77,22 +71,19 @@ slice-read-if3 c = search needs
 refuse-requires-4 : tie.Need-refuse-requires-4
 refuse-requires-4 c κs = search needs
 
-same-length-5 : tie.Need-same-length-5
-same-length-5 c = search needs
-
-same-length-6 : tie.Need-same-length-6
-same-length-6 c = search needs
+same-length-3 : tie.Need-same-length-3
+same-length-3 c = search needs
 
 returns-3 : tie.Need-returns-3
 returns-3 c =
-    let h = c .before .before .before .before .before .before .before .before .before .before .before .before .before .before .before in
+    let h = c .before .before .before .before .before .before .before .before .before .before .before .before in
     let d = h .before .before .before .before .before .before in
     let a = d .before .before .before .before .before .args in
-    c .before .before .before .before .refuse4 .ensures
+    c .before .before .refuse4 .ensures (now (a .output))
     ∙ received-unheld (rows (a .form)) (now (a .o)) (now (a .output)) (now (a .s))
     (held (d .is-lawful .ensures) (h .before .before .before .before .before .if1 .left)) (h .before .before .before .if2 .left) _
-    (sym (h .head-of .ensures) ∙ c .before .before .before .before .before .before .before .before .before .before .before .before .before .h2 .given .1)
-    (c .before .before .before .before .before .before .before .before .before .if3 .taken)
+    (sym (h .head-of .ensures) ∙ c .before .before .before .before .before .before .before .before .before .before .h2 .given .1)
+    (c .before .before .before .before .before .before .if3 .taken)
 
 take-block-requires : tie.Need-take-block-requires
 take-block-requires c κs =
@@ -105,27 +96,24 @@ take-block-requires c κs =
     (sym (h .head-of .ensures) ∙ c .before .before .before .before .before .before .before .before .h2 .given .1)
     (c .before .before .before .before .if3 .left) (b .pre) _ (h .before .track-of .ensures)
 
-same-length-7 : tie.Need-same-length-7
-same-length-7 c = search needs
-
-same-length-8 : tie.Need-same-length-8
-same-length-8 c = search needs
+same-length-4 : tie.Need-same-length-4
+same-length-4 c = search needs
 
 returns-4 : tie.Need-returns-4
 returns-4 c =
-    let h = c .before .before .before .before .before .before .before .before .before .before .before .before in
+    let h = c .before .before .before .before .before .before .before .before .before in
     let d = h .before .before .before .before .before .before in
     let a = d .before .before .before .before .before .args in
-    c .before .before .before .before .refuse3 .ensures
+    c .before .before .refuse3 .ensures (now (a .output))
     ∙ received-headless (rows (a .form)) (now (a .o)) (now (a .output)) (now (a .s))
     (held (d .is-lawful .ensures) (h .before .before .before .before .before .if1 .left)) (h .before .before .before .if2 .left) _
-    (sym (h .head-of .ensures) ∙ c .before .before .before .before .before .before .before .before .before .before .h .given .1)
+    (sym (h .head-of .ensures) ∙ c .before .before .before .before .before .before .before .h .given .1)
 
-same-length-9 : tie.Need-same-length-9
-same-length-9 c = search needs
+same-length-5 : tie.Need-same-length-5
+same-length-5 c = search needs
 
-same-length-10 : tie.Need-same-length-10
-same-length-10 c = search needs
+same-length-6 : tie.Need-same-length-6
+same-length-6 c = search needs
 
 returns-5 : tie.Need-returns-5
 returns-5 c =
@@ -145,12 +133,10 @@ take-object-spec =
     is-lawful-requires
     refuse-requires
     same-length
-    same-length-2
     returns
     slice-read-if2
     refuse-requires-2
-    same-length-3
-    same-length-4
+    same-length-2
     returns-2
     track-of-requires
     head-of-requires
@@ -159,13 +145,11 @@ take-object-spec =
     enum-known-h-2
     slice-read-if3
     refuse-requires-4
-    same-length-5
-    same-length-6
+    same-length-3
     returns-3
     take-block-requires
-    same-length-7
-    same-length-8
+    same-length-4
     returns-4
-    same-length-9
-    same-length-10
+    same-length-5
+    same-length-6
     returns-5)

@@ -1,14 +1,15 @@
 -- `slot_vectors::calls::left` is safe and ends: the index stays within the words. Assumes nothing.
-use Prim.Native.Nat.{_≤_, _-_}
+use Prim.Native.Nat.{_+_, _≤_, _-_}
+use Rattle.share_words.specs.Share.{tableLen}
 use borrow.Author.Needs.{needs}
 use Rattle.slot_vectors.proofs.calls.left.Statement.{statement}
 use Rattle.slot_vectors.proofs.calls.left.Tie as tie
 
 abbrev Inv-loop : tie.InvT-loop
-Inv-loop t slot i₀ i = i ≤ 7969
+Inv-loop t slot i₀ i = i ≤ tableLen + 1
 
 abbrev μ-loop : tie.MeasureT-loop
-μ-loop t slot i₀ i = 7969 - i
+μ-loop t slot i₀ i = tableLen + 1 - i
 
 loop-holds : tie.Need-loop-holds Inv-loop μ-loop
 loop-holds c = search needs

@@ -5,13 +5,19 @@ use Rattle.slot_vectors.proofs.shares.store.Statement.{statement}
 use Rattle.slot_vectors.proofs.shares.store.Tie as tie
 
 abbrev Inv-loop : tie.InvT-loop
-Inv-loop t₀ eight run share i₀ last t i = Unit {0}
+Inv-loop t₀ eight run share from i₀ last t i = Unit {0}
 
 abbrev μ-loop : tie.MeasureT-loop
-μ-loop t₀ eight run share i₀ last t i = last - i
+μ-loop t₀ eight run share from i₀ last t i = last - i
 
-mul-i : tie.Need-mul-i Inv-loop μ-loop
-mul-i c = search needs
+mul-from : tie.Need-mul-from Inv-loop μ-loop
+mul-from c = search needs
+
+counted-from-requires : tie.Need-counted-from-requires Inv-loop μ-loop
+counted-from-requires c κs = search needs
+
+add-from : tie.Need-add-from Inv-loop μ-loop
+add-from c = search needs
 
 add-i : tie.Need-add-i Inv-loop μ-loop
 add-i c = search needs
@@ -49,7 +55,9 @@ store-spec =
     (tie.spec
     Inv-loop
     μ-loop
-    mul-i
+    mul-from
+    counted-from-requires
+    add-from
     add-i
     add-last
     loop-holds

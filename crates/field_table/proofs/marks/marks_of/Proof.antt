@@ -1,10 +1,9 @@
--- `field_set::lawful::marks_of` meets its contract: the marks at the places of the table. Assumes nothing.
+-- `field_table::marks::marks_of` meets its contract: the marks at the places of the table. Assumes nothing.
 use mathlib.Core.Path.{refl}
-use Rattle.field_set.specs.Lawful.{marksOf}
-use Rattle.field_table.specs.Lines.{lines}
+use Rattle.field_table.specs.Lines.{lines, marksOf}
 use borrow.Author.Needs.{needs}
-use Rattle.field_set.proofs.lawful.marks_of.Statement.{statement}
-use Rattle.field_set.proofs.lawful.marks_of.Tie as tie
+use Rattle.field_table.proofs.marks.marks_of.Statement.{statement}
+use Rattle.field_table.proofs.marks.marks_of.Tie as tie
 
 shared-slice-read-t3 : tie.Need-shared-slice-read-t3
 shared-slice-read-t3 c = search needs
