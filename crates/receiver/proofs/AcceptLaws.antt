@@ -5,8 +5,7 @@ use mathlib.Core.Path.{_≡_, refl, sym, _∙_, ap, subst}
 use mathlib.Core.Bool.{true, false}
 use mathlib.Core.List.{List, _++_}
 use borrow.Author.Tests.{le-leb, leb-true}
-use lib.ListN.{length, getD, take, drop, length-drop}
-use lib.Seq.{take-all}
+use lib.ListN.{length, getD, take, drop}
 use Rattle.laws.specs.Ladder.{ladder}
 use Rattle.laws.proofs.LadderLaws.{broken, passed, top}
 use Rattle.laws.proofs.SliceLaws.{slice-lent}
@@ -29,7 +28,8 @@ use Rattle.receiver.specs.declared.judge.Judged.{Judged}
 use Rattle.receiver.specs.Object.{isDelta, blockEnd, payload}
 use Rattle.receiver.specs.Receive.{track, prft, brands, newSet, sequence, chunk, accepted, refusing, done, roomRungs}
 use Rattle.receiver.specs.Judge.{Judgeable, Ready}
-use Rattle.receiver.proofs.JudgeLaws.{payload-long}
+use Rattle.receiver.specs.Answered.{AnsweredAs}
+use Rattle.receiver.proofs.JudgeLaws.{end-inside, payload-long}
 
 module _ (F : List Row) (o s : List ℕ) (t : Track) (p : Place) (a : Judgeable F o s t p) where
   -- the payload stands behind the block
@@ -39,10 +39,6 @@ module _ (F : List Row) (o s : List ℕ) (t : Track) (p : Place) (a : Judgeable 
   behind-is : drop (p .end) o ≡ payload F o
   unfolding payload
   behind-is = ap (λ (z : ℕ). drop z o) end-is
-
-  -- as it is handed back
-  payload-is : take (length o - p .end) (drop (p .end) o) ≡ payload F o
-  payload-is = take-all (length o - p .end) (drop (p .end) o) (omega (arith, length-drop (p .end) o)) ∙ behind-is
 
   pub count-small : getD s acceptedAt 0 ≤ u32
   count-small = leb-true _ _ (opened-facts Receiver s (a .lawful) (a .opened) .accepted)
@@ -87,7 +83,7 @@ module _ (F : List Row) (o s : List ℕ) (t : Track) (p : Place) (a : Judgeable 
       -- there is
       pub done-is : (q n : ℕ) (after kept : List ℕ) → q ≡ sequence F o s → n ≡ length (written q) → length (written q) ≤ length output
           → after ≡ written q ++ drop n output → kept ≡ keptWords (p .delta) q (j .prft) x s
-          → out (took 0 n (take (length o - p .end) (drop (p .end) o)) after) kept ≡ ladder (roomRungs F o output s) (refusing output s) (done F o output s)
+          → AnsweredAs (ladder (roomRungs F o output s) (refusing output s) (done F o output s)) o (record { number = 0; front = n; payload = p .end }) after kept
       unfolding accepted
       done-is q n after kept u e h f g =
           let w : written q ≡ chunk F o s = ap written u ∙ front-is in
@@ -96,5 +92,9 @@ module _ (F : List Row) (o s : List ℕ) (t : Track) (p : Place) (a : Judgeable 
           let y : after ≡ chunk F o s ++ drop (length (chunk F o s)) output = f ∙ (λ i. w i ++ drop (l i) output) in
           let z : kept ≡ keptWords (isDelta F o) (sequence F o s) (prft F o s .prft) (newSet F o s) s =
           g ∙ (λ i. keptWords (d i) (u i) (r .time i) (r .words i) s) in
-          passed _ 17 _ _ _ (le-leb (length (chunk F o s)) (length output) (omega arith))
-          ((λ i. out (took 0 (l i) (payload-is i) (y i)) (z i)) ∙ top _ _)
+          record {
+            so =
+                passed _ 17 _ _ _ (le-leb (length (chunk F o s)) (length output) (omega arith))
+                ((λ i. out (took 0 (l i) (behind-is i) (y i)) (z i)) ∙ top _ _);
+            inside = end-inside a;
+          }

@@ -5,6 +5,7 @@ pub mod BrandLaws
 pub mod JudgeLaws
 pub mod ClimbLaws
 pub mod HeadRungs
+pub mod AnsweredLaws
 pub mod AcceptLaws
 pub mod ReceiveLaws
 pub mod PassedLaws

@@ -13,7 +13,7 @@ use Rattle.track.specs.declared.Track.{Track}
 use Rattle.track.specs.Track.{lawful as lawfulTrack}
 use Rattle.slots.specs.declared.lawful.Side.the-variants.{Receiver}
 use Rattle.share_words.specs.Share.{shareLen, trackAt, heldAt}
-use Rattle.slots.specs.Share.{askedOf, trackOf, lawful}
+use Rattle.slots.specs.Share.{askedOf, lawful}
 use Rattle.slots.specs.Table.{Out}
 use Rattle.slots.proofs.CallLaws.{shut, ajar}
 use Rattle.locmaf_read_set.specs.Read.{setRungs, fieldRungs}
@@ -24,8 +24,9 @@ use Rattle.answers.specs.Took.{Took}
 use Rattle.reference.proofs.OpenLaws.{opened-facts}
 use Rattle.receiver.specs.declared.judge.Judged.{Judged}
 use Rattle.receiver.specs.Object.{isDelta, headRungs}
-use Rattle.receiver.specs.Receive.{heldOk, splitRungs, valueRungs, judgeRungs, roomRungs, refusing, done, receiveRungs, receiving}
+use Rattle.receiver.specs.Receive.{heldOk, splitRungs, valueRungs, judgeRungs, roomRungs, refusing, written, taken, done, receiveRungs, receiving}
 use Rattle.receiver.specs.Judge.{Judgeable, JudgedAs}
+use Rattle.receiver.specs.Answered.{OpenedAs}
 use Rattle.receiver.proofs.HeadRungs.{head-stopped, head-opened}
 
 none-held : (d e : Bool) → (d && e) ≡ true → (not d || not e) ≡ false
@@ -38,52 +39,22 @@ some-held true true h = sym h
 some-held true false h = refl
 some-held false e h = refl
 
-module _ (F : List Row) (o output s : List ℕ) where
-  -- ---- an object whose head is read
+module _ (F : List Row) (o s : List ℕ) where
+  -- ---- before its block is read
 
-  abbrev judged : Out Took
-  judged = ladder (judgeRungs F o s ++ roomRungs F o output s) (refusing output s) (done F o output s)
-
-  -- none of its rungs refuses with 0
-  numbered : Numbered (judgeRungs F o s)
-  unfolding splitRungs setRungs fieldRungs valueRungs
-  numbered =
-      let r12 : _≡_ {A = ℕ} 12 0 → ⊥ = λ z. omega arith in
-      let r13 : _≡_ {A = ℕ} 13 0 → ⊥ = λ z. omega arith in
-      let r14 : _≡_ {A = ℕ} 14 0 → ⊥ = λ z. omega arith in
-      let r15 : _≡_ {A = ℕ} 15 0 → ⊥ = λ z. omega arith in
-      let r16 : _≡_ {A = ℕ} 16 0 → ⊥ = λ z. omega arith in
-      (r12, (r13, (r14, (r15, (r14, (r15, (r14, (r15, (r15, (r16, tt))))))))))
-
-  module _ (j : Judged) (ws x : List ℕ) (h : JudgedAs (judgeRungs F o s) F o s j ws x) where
-    pub judged-stops : (j .number ≡ 0 → ⊥) → refusing output s (j .number) ≡ judged
-    judged-stops n =
-        ap (refusing output s) (h .answered)
-        ∙ stopped-on (judgeRungs F o s) (roomRungs F o output s) (refusing output s) (done F o output s) (λ z. n (h .answered ∙ z))
-
-    pub judged-climbs : j .number ≡ 0 → ladder (roomRungs F o output s) (refusing output s) (done F o output s) ≡ judged
-    judged-climbs e =
-        climbed-on (judgeRungs F o s) (roomRungs F o output s) (refusing output s) (done F o output s)
-        (all-hold (judgeRungs F o s) numbered (sym (h .answered) ∙ e))
-
-  -- ---- an object on a share
-
-  pub received-unlawful : lawful Receiver s ≡ false → refusing output s 18 ≡ receiving F o output s
+  pub opened-unlawful : lawful Receiver s ≡ false → OpenedAs F o s (Refused 18)
   unfolding receiving receiveRungs
-  received-unlawful h = broken _ 18 _ _ _ h
+  opened-unlawful h output = broken _ 18 _ _ _ h
 
   module _ (h : lawful Receiver s ≡ true) where
-    pub received-closed : getD s trackAt 0 ≡ 0 → refusing output s 2 ≡ receiving F o output s
+    pub opened-closed : getD s trackAt 0 ≡ 0 → OpenedAs F o s (Refused 2)
     unfolding receiving receiveRungs
-    received-closed e = passed _ 18 _ _ _ h (broken _ 2 _ _ _ (shut s e))
+    opened-closed e output = passed _ 18 _ _ _ h (broken _ 2 _ _ _ (shut s e))
 
     module _ (e : getD s trackAt 0 ≡ 0 → ⊥) where
-      pub track-lawful : lawfulTrack (askedOf s) ≡ true
-      track-lawful = opened-facts Receiver s h (ajar s e) .track
-
-      pub received-headless : (k : ℕ) → headOf F o ≡ Refused k → refusing output s k ≡ receiving F o output s
+      pub opened-headless : (k : ℕ) → headOf F o ≡ Refused k → OpenedAs F o s (Refused k)
       unfolding receiving receiveRungs
-      received-headless k q =
+      opened-headless k q output =
           let z = head-stopped F o k q in
           passed _ 18 _ _ _ h (passed _ 2 _ _ _ (ajar s e)
           (ap (refusing output s) (sym (z .number)) ∙ stopped-on (headRungs F o) _ (refusing output s) _ (λ u. z .some (sym (z .number) ∙ u))))
@@ -101,31 +72,59 @@ module _ (F : List Row) (o output s : List ℕ) where
         held-true k = some-held (isDelta F o) (eqb (getD s heldAt 0) 0) (ap (λ (z : Bool). z && eqb (getD s heldAt 0) 0) (sym kind-is) ∙ k)
 
         -- the rungs from the reference on
-        climbs-head : {r : Out Took}
+        climbs-head : (output : List ℕ) {r : Out Took}
             → r ≡ ladder ((heldOk F o s else 11) ∷ (judgeRungs F o s ++ roomRungs F o output s)) (refusing output s) (done F o output s)
             → r ≡ receiving F o output s
         unfolding receiving receiveRungs
-        climbs-head d =
+        climbs-head output d =
             passed _ 18 _ _ _ h (passed _ 2 _ _ _ (ajar s e)
             (d ∙ climbed-on (headRungs F o) _ (refusing output s) (done F o output s) (head-opened F o p q .hold)))
 
-        pub received-unheld : p .delta && eqb (getD s heldAt 0) 0 ≡ true → refusing output s 11 ≡ receiving F o output s
-        received-unheld k = climbs-head (broken _ 11 _ _ _ (held-false k))
+        pub opened-unheld : p .delta && eqb (getD s heldAt 0) 0 ≡ true → OpenedAs F o s (Refused 11)
+        opened-unheld k output = climbs-head output (broken _ 11 _ _ _ (held-false k))
 
-        module _ (k : p .delta && eqb (getD s heldAt 0) 0 ≡ false) where
-          pub received-judged : judged ≡ receiving F o output s
-          received-judged = climbs-head (passed _ 11 _ _ _ (held-true k) refl)
+        pub opened-held : p .delta && eqb (getD s heldAt 0) 0 ≡ false → length s ≡ shareLen → OpenedAs F o s (Block p)
+        opened-held k l =
+            let z = head-opened F o p q in
+            record {
+              judgeable =
+                  record {
+                    share = l;
+                    lawful = h;
+                    opened = ajar s e;
+                    held = held-true k;
+                    track = refl;
+                    place = z .place;
+                    inside = z .inside;
+                    block = z .block;
+                  };
+              goes-on = λ output. climbs-head output (passed _ 11 _ _ _ (held-true k) refl);
+            }
 
-          pub judgeable : length s ≡ shareLen → (t : Track) → t ≡ trackOf s → Judgeable F o s t p
-          judgeable l t d =
-              let z = head-opened F o p q in
-              record {
-                share = l;
-                lawful = h;
-                opened = ajar s e;
-                held = held-true k;
-                track = d;
-                place = z .place;
-                inside = z .inside;
-                block = z .block;
-              }
+  -- the share of an object that goes on is open
+  pub track-lawful : {t : Track} {p : Place} → Judgeable F o s t p → lawfulTrack (askedOf s) ≡ true
+  track-lawful j = opened-facts Receiver s (j .lawful) (j .opened) .track
+
+  -- ---- its block
+
+  -- none of its rungs refuses with 0
+  numbered : Numbered (judgeRungs F o s)
+  unfolding splitRungs setRungs fieldRungs valueRungs
+  numbered =
+      let r12 : _≡_ {A = ℕ} 12 0 → ⊥ = λ z. omega arith in
+      let r13 : _≡_ {A = ℕ} 13 0 → ⊥ = λ z. omega arith in
+      let r14 : _≡_ {A = ℕ} 14 0 → ⊥ = λ z. omega arith in
+      let r15 : _≡_ {A = ℕ} 15 0 → ⊥ = λ z. omega arith in
+      let r16 : _≡_ {A = ℕ} 16 0 → ⊥ = λ z. omega arith in
+      (r12, (r13, (r14, (r15, (r14, (r15, (r14, (r15, (r15, (r16, tt))))))))))
+
+  module _ (output : List ℕ) (j : Judged) (ws x : List ℕ) (h : JudgedAs (judgeRungs F o s) F o s j ws x) where
+    pub judged-stops : (j .number ≡ 0 → ⊥) → refusing output s (j .number) ≡ taken F o output s
+    judged-stops n =
+        ap (refusing output s) (h .answered)
+        ∙ stopped-on (judgeRungs F o s) (roomRungs F o output s) (refusing output s) (done F o output s) (λ z. n (h .answered ∙ z))
+
+    pub judged-climbs : j .number ≡ 0 → written F o output s ≡ taken F o output s
+    judged-climbs e =
+        climbed-on (judgeRungs F o s) (roomRungs F o output s) (refusing output s) (done F o output s)
+        (all-hold (judgeRungs F o s) numbered (sym (h .answered) ∙ e))

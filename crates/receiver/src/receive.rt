@@ -11,6 +11,7 @@ ghost use Rattle.slots.specs.Table.{out, onTable};
 ghost use Rattle.answers.specs.Took.{took, refused};
 ghost use Rattle.receiver.specs.Receive.{refusing, written, taken, receiving};
 ghost use Rattle.receiver.specs.Judge.{Judgeable, Acceptable};
+ghost use Rattle.receiver.specs.Answered.{AnsweredAs, OpenedAs};
 use crate::judge;
 use crate::judge::Judged;
 use answers::room;
@@ -28,37 +29,43 @@ use slots::lawful::Side;
 use track::Track;
 use wire::form::Form;
 
+// What an object is answered with: the number, the front's length, and where the payload begins: at the object's end if it is refused.
+struct Answer {
+    number: u64,
+    front: u64,
+    payload: usize,
+}
+
 // A refusal: 12 to 16 drop the reference, every other number changes nothing. Whatever the output holds, it stays.
-fn refuse<'a>(o: &'a [u8], s: &mut [u64], k: u64, number: &mut u64, front: &mut u64) -> &'a [u8]
+fn refuse(o: &[u8], s: &mut [u64], number: u64) -> Answer
     requires { ⌜ length (now s) ≡ shareLen ⌝ }
-    ensures { λ r. ⌜ ((output : List ℕ)
-        → out (took (now (number .exit)) (now (front .exit)) (now r) output) (now (s .exit))
-        ≡ refusing output (now (s .entry)) k) ⌝ }
+    ensures { λ a. ⌜ ((output : List ℕ)
+        → AnsweredAs (refusing output (now (s .entry)) number) (now (o .entry)) a output (now (s .exit))) ⌝ }
 {
-    *number = k;
-    *front = 0;
-    answers::refusals::leave(k, s);
-    &o[..0]
+    answers::refusals::leave(number, s);
+    Answer {
+        number,
+        front: 0,
+        payload: o.len(),
+    }
 }
 
 // The front into the output, if there is room for it, and the reference into the share. As in `judge_values`, no form is asked for.
-fn accept<'a>(
+fn accept(
     t: Track,
     p: Place,
-    o: &'a [u8],
+    o: &[u8],
     s: &mut [u64],
     j: Judged,
     list: &[u64],
     x: &[u64],
     output: &mut [u8],
-    number: &mut u64,
-    front: &mut u64,
-) -> &'a [u8]
+) -> Answer
     requires { ⌜ ((F : List Row) × Acceptable F (now o) (now s) t p j (now list) (now x)) ⌝ }
-    ensures { λ r. ⌜ ((F : List Row)
+    ensures { λ a. ⌜ ((F : List Row)
         → Acceptable F (now (o .entry)) (now (s .entry)) t p j (now (list .entry)) (now (x .entry))
-        → out (took (now (number .exit)) (now (front .exit)) (now r) (now (output .exit))) (now (s .exit))
-        ≡ written F (now (o .entry)) (now (output .entry)) (now (s .entry))) ⌝ }
+        → AnsweredAs (written F (now (o .entry)) (now (output .entry)) (now (s .entry)))
+        (now (o .entry)) a (now (output .exit)) (now (s .exit))) ⌝ }
 {
     let from = j.brands.at;
     let to = from + j.brands.len;
@@ -69,30 +76,23 @@ fn accept<'a>(
     let names = &o[from..to];
     let need = front_length(t, x, prft, list, k, names);
     if !room::has_room(need, output.len()) {
-        return refuse(o, s, 17, number, front);
+        return refuse(o, s, 17);
     }
     let count = (s[share::ACCEPTED] + 1) % 4294967296;
     let n = put_front(t, count, x, payload, prft, o, list, k, names, &mut *output);
     reference::keep::keep(s, p.delta, prft, count, x);
-    *number = 0;
-    *front = n as u64;
-    &o[end..]
+    Answer {
+        number: 0,
+        front: n as u64,
+        payload: end,
+    }
 }
 
 // An object with its head read, on an open share: number first, then act.
-fn take_block<'a>(
-    form: Form,
-    t: Track,
-    p: Place,
-    o: &'a [u8],
-    s: &mut [u64],
-    output: &mut [u8],
-    number: &mut u64,
-    front: &mut u64,
-) -> &'a [u8]
+fn take_block(form: Form, t: Track, p: Place, o: &[u8], s: &mut [u64], output: &mut [u8]) -> Answer
     requires { ⌜ Judgeable (rows form) (now o) (now s) t p ⌝ }
-    ensures { λ r. ⌜ out (took (now (number .exit)) (now (front .exit)) (now r) (now (output .exit))) (now (s .exit))
-        ≡ taken (rows form) (now (o .entry)) (now (output .entry)) (now (s .entry)) ⌝ }
+    ensures { λ a. ⌜ AnsweredAs (taken (rows form) (now (o .entry)) (now (output .entry)) (now (s .entry)))
+        (now (o .entry)) a (now (output .exit)) (now (s .exit)) ⌝ }
 {
     let mut index = [0u64; places::INDEX];
     let mut events = [0u64; event_value::ALL_WORDS];
@@ -100,12 +100,51 @@ fn take_block<'a>(
     let j = judge::judge(form, t, o, p, s, &mut index, &mut events, &mut x);
     let k = j.number;
     if k != 0 {
-        return refuse(o, s, k, number, front);
+        return refuse(o, s, k);
     }
-    accept(t, p, o, s, j, &events, &x, output, number, front)
+    accept(t, p, o, s, j, &events, &x, output)
 }
 
-// An object on a share.
+// All that is asked before the block is read: the share, the head, and whether there is a reference for a delta.
+fn opened(form: Form, o: &[u8], s: &[u64]) -> Head
+    requires { ⌜ length (now s) ≡ shareLen ⌝ }
+    ensures { λ h. ⌜ OpenedAs (rows form) (now (o .entry)) (now (s .entry)) h ⌝ }
+{
+    if !lawful::is_lawful(Side::Receiver, s) {
+        return Head::Refused(18);
+    }
+    if s[share::TRACK] == 0 {
+        return Head::Refused(2);
+    }
+    let h = locmaf_read_head::head::head_of(form, o);
+    match h {
+        Head::Refused(k) => Head::Refused(k),
+        Head::Block(p) => {
+            if p.delta & (s[share::HELD] == 0) {
+                return Head::Refused(11);
+            }
+            Head::Block(p)
+        }
+    }
+}
+
+// An object on a share: what comes before the block first, then the block.
+fn take_share(form: Form, o: &[u8], s: &mut [u64], output: &mut [u8]) -> Answer
+    requires { ⌜ length (now s) ≡ shareLen ⌝ }
+    ensures { λ a. ⌜ AnsweredAs (receiving (rows form) (now (o .entry)) (now (output .entry)) (now (s .entry)))
+        (now (o .entry)) a (now (output .exit)) (now (s .exit)) ⌝ }
+{
+    let h = opened(form, o, s);
+    match h {
+        Head::Refused(k) => refuse(o, s, k),
+        Head::Block(p) => {
+            let t = lawful::track_of(s);
+            take_block(form, t, p, o, s, output)
+        }
+    }
+}
+
+// The answer handed out, and the payload as a part of the object.
 fn take_object<'a>(
     form: Form,
     o: &'a [u8],
@@ -118,23 +157,11 @@ fn take_object<'a>(
     ensures { λ r. ⌜ out (took (now (number .exit)) (now (front .exit)) (now r) (now (output .exit))) (now (s .exit))
         ≡ receiving (rows form) (now (o .entry)) (now (output .entry)) (now (s .entry)) ⌝ }
 {
-    if !lawful::is_lawful(Side::Receiver, s) {
-        return refuse(o, s, 18, number, front);
-    }
-    if s[share::TRACK] == 0 {
-        return refuse(o, s, 2, number, front);
-    }
-    let t = lawful::track_of(s);
-    let h = locmaf_read_head::head::head_of(form, o);
-    match h {
-        Head::Refused(k) => refuse(o, s, k, number, front),
-        Head::Block(p) => {
-            if p.delta & (s[share::HELD] == 0) {
-                return refuse(o, s, 11, number, front);
-            }
-            take_block(form, t, p, o, s, output, number, front)
-        }
-    }
+    let a = take_share(form, o, s, output);
+    *number = a.number;
+    *front = a.front;
+    let from = a.payload;
+    &o[from..]
 }
 
 // One object into the front of a chunk: the number, the front's length, and the payload as the part of the object that it is.

@@ -1,5 +1,4 @@
 -- `receiver::receive::accept` meets its contract, by the laws of `proofs/AcceptLaws.antt`. Assumes nothing.
-use mathlib.Core.Path.{_∙_}
 use denote.Ref.{now}
 use Rattle.laws.proofs.GateLaws.{failed, held}
 use Rattle.field_set.proofs.TidyLaws.{lawful-tidy}
@@ -7,6 +6,7 @@ use Rattle.slots.specs.declared.lawful.Side.the-variants.{Receiver}
 use Rattle.reference.proofs.OpenLaws.{share-tidy}
 use Rattle.cmaf_write_front.proofs.FrontLaws.{weighable}
 use Rattle.receiver.proofs.JudgeLaws.{end-inside}
+use Rattle.receiver.proofs.AnsweredLaws.{answered-on}
 use Rattle.receiver.proofs.AcceptLaws.{count-small, sequence-is, writable, room, short, done-is}
 use borrow.Author.Needs.{needs}
 use Rattle.receiver.proofs.receive.accept.Statement.{statement}
@@ -43,13 +43,13 @@ same-length c = search needs
 
 returns : tie.Need-returns
 returns c =
-    let h = c .before .before .before .before .before .before .before in
+    let h = c .before .before .before .before .before in
     let f = h .before in
     let b = f .before .before .before .before .before .before .before .before .before in
     λ F v.
-    c .before .before .refuse .ensures (now (b .args .output))
-    ∙ short _ _ _ _ _ (v .head) _ _ _ (v .ready) (now (b .args .output)) _ (λ q. f .front-length .ensures q _ _ (v .ready .writable .events))
-    (failed (h .has-room .ensures) (c .before .before .before .before .before .before .if1 .taken))
+    answered-on (c .before .before .refuse .ensures (now (b .args .output)))
+    (short _ _ _ _ _ (v .head) _ _ _ (v .ready) (now (b .args .output)) _ (λ q. f .front-length .ensures q _ _ (v .ready .writable .events))
+    (failed (h .has-room .ensures) (c .before .before .before .before .if1 .taken)))
 
 slice-read-count : tie.Need-slice-read-count
 slice-read-count c = search needs
@@ -76,19 +76,6 @@ keep-requires c κs =
     let r = b .pre .1 .ready in
     ((a .share, r .writable .set .long), (share-tidy Receiver _ (a .share) (a .lawful) (a .opened), lawful-tidy _ _ (r .writable .set .long) (r .good)))
 
-sub-result : tie.Need-sub-result
-sub-result c =
-    let f = c .before .before .before .before .before .before .before .before .before .before .before in
-    end-inside (f .before .before .before .before .before .before .before .before .before .pre .1 .head)
-
-part-result-start : tie.Need-part-result-start
-part-result-start c =
-    let f = c .before .before .before .before .before .before .before .before .before .before .before in
-    end-inside (f .before .before .before .before .before .before .before .before .before .pre .1 .head)
-
-part-result-end : tie.Need-part-result-end
-part-result-end c = search needs
-
 same-length-2 : tie.Need-same-length-2
 same-length-2 c = search needs
 
@@ -97,14 +84,14 @@ same-length-3 c = search needs
 
 returns-2 : tie.Need-returns-2
 returns-2 c =
-    let w = c .before .before .before .before .before .before .before in
+    let w = c .before .before .before .before .before .before in
     let h = w .before .before .before .before in
     let f = h .before in
     let b = f .before .before .before .before .before .before .before .before .before in
     λ F v.
     done-is _ _ _ _ _ (v .head) _ _ _ (v .ready) (now (b .args .output)) _ _ _ _ (sequence-is _ _ _ _ _ (v .head)) (w .put-front .ensures .0)
     (room _ _ _ _ _ (v .head) _ _ _ (v .ready) _ _ (λ q. f .front-length .ensures q _ _ (v .ready .writable .events)) (held (h .has-room .ensures) (w .before .before .before .if1 .left)) _) (w .put-front .ensures .1)
-    (c .before .before .before .keep .ensures)
+    (c .before .before .keep .ensures)
 
 pub accept-spec : {M : Type 1} → statement M
 accept-spec =
@@ -124,9 +111,6 @@ accept-spec =
     add-count
     put-front-requires
     keep-requires
-    sub-result
-    part-result-start
-    part-result-end
     same-length-2
     same-length-3
     returns-2)

@@ -1,7 +1,8 @@
 -- `receiver::receive::take_block` meets its contract, by the laws of `proofs/ReceiveLaws.antt`. Assumes nothing.
-use mathlib.Core.Path.{refl, _∙_}
+use mathlib.Core.Path.{refl}
 use denote.Ref.{now}
 use Rattle.wire.specs.Form.{rows}
+use Rattle.receiver.proofs.AnsweredLaws.{answered-on}
 use Rattle.receiver.proofs.ReceiveLaws.{judged-stops, judged-climbs}
 use borrow.Author.Needs.{needs}
 use Rattle.receiver.proofs.receive.take_block.Statement.{statement}
@@ -27,11 +28,9 @@ same-length c = search needs
 
 returns : tie.Need-returns
 returns c =
-    let j = c .before .before .before .before .before .before .before .before .before .before in
+    let j = c .before .before .before .before .before .before .before .before in
     let output = now (j .before .before .before .before .before .before .before .before .args .output) in
-    c .before .before .refuse .ensures output
-    ∙ judged-stops _ _ output _ _ _ _ (j .judge .ensures)
-    (c .before .before .before .before .before .before .if1 .taken)
+    answered-on (c .before .before .refuse .ensures output) (judged-stops _ _ _ output _ _ _ (j .judge .ensures) (c .before .before .before .before .if1 .taken))
 
 slice-aggregate-accept : tie.Need-slice-aggregate-accept
 slice-aggregate-accept c = search needs
@@ -41,9 +40,9 @@ slice-aggregate-accept-2 c = search needs
 
 accept-requires : tie.Need-accept-requires
 accept-requires c κs =
-    let j = c .before .before .before .before .before .before .before .before .before .before in
+    let j = c .before .before .before .before .before .before .before .before in
     let b = j .before .before .before .before .before .before .before .before in
-    (rows (b .args .form), record { head = b .pre; ready = j .judge .ensures .ready (c .before .before .before .before .before .before .if1 .left) })
+    (rows (b .args .form), record { head = b .pre; ready = j .judge .ensures .ready (c .before .before .before .before .if1 .left) })
 
 same-length-2 : tie.Need-same-length-2
 same-length-2 c = search needs
@@ -53,11 +52,11 @@ same-length-3 c = search needs
 
 returns-2 : tie.Need-returns-2
 returns-2 c =
-    let j = c .before .before .before .before .before .before .before .before .before .before .before .before .before .before .before in
+    let j = c .before .before .before .before .before .before .before .before .before .before .before .before .before in
     let b = j .before .before .before .before .before .before .before .before in
-    let z = c .before .before .before .before .before .before .before .before .before .before .before .if1 .left in
-    c .before .before .before .before .accept .ensures (rows (b .args .form)) (record { head = b .pre; ready = j .judge .ensures .ready z })
-    ∙ judged-climbs _ _ (now (b .args .output)) _ _ _ _ (j .judge .ensures) z
+    let z = c .before .before .before .before .before .before .before .before .before .if1 .left in
+    answered-on (c .before .before .before .before .accept .ensures (rows (b .args .form)) (record { head = b .pre; ready = j .judge .ensures .ready z }))
+    (judged-climbs _ _ _ (now (b .args .output)) _ _ _ (j .judge .ensures) z)
 
 pub take-block-spec : {M : Type 1} → statement M
 take-block-spec =
