@@ -6,7 +6,6 @@ use mathlib.Core.Bool.{true, false}
 use mathlib.Core.List.{List, _++_}
 use borrow.Author.Tests.{le-leb, leb-true}
 use lib.ListN.{length, getD, take, drop}
-use Rattle.laws.specs.Ladder.{ladder}
 use Rattle.laws.proofs.LadderLaws.{broken, passed, top}
 use Rattle.laws.proofs.SliceLaws.{slice-lent}
 use Rattle.wire.specs.declared.form.Row.{Row}
@@ -26,7 +25,7 @@ use Rattle.reference.specs.Kept.{keptWords}
 use Rattle.reference.proofs.OpenLaws.{opened-facts}
 use Rattle.receiver.specs.declared.judge.Judged.{Judged}
 use Rattle.receiver.specs.Object.{isDelta, blockEnd, payload}
-use Rattle.receiver.specs.Receive.{track, prft, brands, newSet, sequence, chunk, accepted, refusing, done, roomRungs}
+use Rattle.receiver.specs.Receive.{track, prft, brands, newSet, sequence, chunk, accepted, refusing, done, written}
 use Rattle.receiver.specs.Judge.{Judgeable, Ready}
 use Rattle.receiver.specs.Answered.{AnsweredAs}
 use Rattle.receiver.proofs.JudgeLaws.{end-inside, payload-long}
@@ -49,52 +48,50 @@ module _ (F : List Row) (o s : List ℕ) (t : Track) (p : Place) (a : Judgeable 
 
   module _ (j : Judged) (ws x : List ℕ) (r : Ready F o s j ws x) where
     -- the brands as they are lent
-    abbrev named : List ℕ
-    named = take (j .brands .at + j .brands .len - j .brands .at) (drop (j .brands .at) o)
+    pub brands-lent : take (j .brands .at + j .brands .len - j .brands .at) (drop (j .brands .at) o) ≡ brands F o s
+    brands-lent = slice-lent (j .brands .at) (j .brands .at + j .brands .len) o (omega arith) (r .inside) ∙ r .named
 
-    brands-are : named ≡ brands F o s
-    brands-are = slice-lent (j .brands .at) (j .brands .at + j .brands .len) o (omega arith) (r .inside) ∙ r .named
+    module _ {names : List ℕ} (e : names ≡ brands F o s) where
+      pub writable : Writable t x (length o - p .end) (j .prft) o ws (j .events) names
+      writable =
+          subst (λ (z : Track). Writable z x (length o - p .end) (j .prft) o ws (j .events) names) (sym (a .track))
+          (subst (λ (z : ℕ). Writable (track F o s) x z (j .prft) o ws (j .events) names) (sym (payload-long a))
+          (subst (λ (z : List ℕ). Writable (track F o s) x (length (payload F o)) (j .prft) o ws (j .events) z) (sym e) (r .writable)))
 
-    pub writable : Writable t x (length o - p .end) (j .prft) o ws (j .events) named
-    writable =
-        subst (λ (z : Track). Writable z x (length o - p .end) (j .prft) o ws (j .events) named) (sym (a .track))
-        (subst (λ (z : ℕ). Writable (track F o s) x z (j .prft) o ws (j .events) named) (sym (payload-long a))
-        (subst (λ (z : List ℕ). Writable (track F o s) x (length (payload F o)) (j .prft) o ws (j .events) z) (sym brands-are) (r .writable)))
+      abbrev fronted : ℕ → List ℕ
+      fronted q = front t q x (length o - p .end) (j .prft) (eventsOf o ws (j .events)) names
 
-    abbrev written : ℕ → List ℕ
-    written q = front t q x (length o - p .end) (j .prft) (eventsOf o ws (j .events)) named
+      front-is : fronted (sequence F o s) ≡ chunk F o s
+      unfolding chunk
+      front-is = λ i. front (a .track i) (sequence F o s) (r .words i) (payload-long a i) (r .time i) (r .list i) (e i)
 
-    front-is : written (sequence F o s) ≡ chunk F o s
-    unfolding chunk
-    front-is = λ i. front (a .track i) (sequence F o s) (r .words i) (payload-long a i) (r .time i) (r .list i) (brands-are i)
+      -- its length is the same, whatever the sequence number
+      pub long-is : (n : ℕ) → ((q : ℕ) → n ≡ length (fronted q)) → n ≡ length (chunk F o s)
+      long-is n h = h (sequence F o s) ∙ ap length front-is
 
-    -- what its length is, whatever the sequence number, is at most as much as there is
-    pub room : (n m : ℕ) → ((q : ℕ) → n ≡ length (written q)) → fits n m ≡ true → (q : ℕ) → length (written q) ≤ m
-    room n m e h q = let l = leb-true n m h in omega (arith, e q)
+      pub room-for : (q m : ℕ) → q ≡ sequence F o s → length (chunk F o s) ≤ m → length (fronted q) ≤ m
+      room-for q m u h = subst (λ (z : List ℕ). length z ≤ m) (sym (ap fronted u ∙ front-is)) h
 
-    module _ (output : List ℕ) where
-      -- there is no room for it
-      pub short : (n : ℕ) → ((q : ℕ) → n ≡ length (written q)) → fits n (length output) ≡ false
-          → refusing output s 17 ≡ ladder (roomRungs F o output s) (refusing output s) (done F o output s)
-      short n e h =
-          let l : length (chunk F o s) ≡ n = sym (e (sequence F o s) ∙ ap length front-is) in
-          broken _ 17 _ _ _ (ap (λ (z : ℕ). fits z (length output)) l ∙ h)
-
-      -- there is
-      pub done-is : (q n : ℕ) (after kept : List ℕ) → q ≡ sequence F o s → n ≡ length (written q) → length (written q) ≤ length output
-          → after ≡ written q ++ drop n output → kept ≡ keptWords (p .delta) q (j .prft) x s
-          → AnsweredAs (ladder (roomRungs F o output s) (refusing output s) (done F o output s)) o (record { number = 0; front = n; payload = p .end }) after kept
+      pub done-is : (output : List ℕ) (q n : ℕ) (after kept : List ℕ) → q ≡ sequence F o s → n ≡ length (fronted q)
+          → after ≡ fronted q ++ drop n output → kept ≡ keptWords (p .delta) q (j .prft) x s
+          → AnsweredAs (done F o output s) o (record { number = 0; front = n; payload = p .end }) after kept
       unfolding accepted
-      done-is q n after kept u e h f g =
-          let w : written q ≡ chunk F o s = ap written u ∙ front-is in
-          let l : n ≡ length (chunk F o s) = e ∙ ap length w in
+      done-is output q n after kept u h f g =
+          let w : fronted q ≡ chunk F o s = ap fronted u ∙ front-is in
+          let l : n ≡ length (chunk F o s) = h ∙ ap length w in
           let d : p .delta ≡ isDelta F o = ap (λ (z : Place). z .delta) (a .place) in
           let y : after ≡ chunk F o s ++ drop (length (chunk F o s)) output = f ∙ (λ i. w i ++ drop (l i) output) in
           let z : kept ≡ keptWords (isDelta F o) (sequence F o s) (prft F o s .prft) (newSet F o s) s =
           g ∙ (λ i. keptWords (d i) (u i) (r .time i) (r .words i) s) in
-          record {
-            so =
-                passed _ 17 _ _ _ (le-leb (length (chunk F o s)) (length output) (omega arith))
-                ((λ i. out (took 0 (l i) (behind-is i) (y i)) (z i)) ∙ top _ _);
-            inside = end-inside a;
-          }
+          record { so = λ i. out (took 0 (l i) (behind-is i) (y i)) (z i); inside = end-inside a }
+
+-- there is room for so many bytes, or there isn't
+module _ (F : List Row) (o s output : List ℕ) (n : ℕ) (e : n ≡ length (chunk F o s)) where
+  pub short : fits n (length output) ≡ false → refusing output s 17 ≡ written F o output s
+  short h = broken _ 17 _ _ _ (ap (λ (z : ℕ). fits z (length output)) (sym e) ∙ h)
+
+  pub room : fits n (length output) ≡ true → length (chunk F o s) ≤ length output
+  room h = let l = leb-true n (length output) h in omega arith
+
+  pub long-enough : fits n (length output) ≡ true → done F o output s ≡ written F o output s
+  long-enough h = passed _ 17 _ _ _ (ap (λ (z : ℕ). fits z (length output)) (sym e) ∙ h) (top _ _)

@@ -31,7 +31,7 @@ use Rattle.byte_parts.specs.declared.Part.{Part}
 use Rattle.receiver.specs.declared.judge.Judged.{Judged}
 use Rattle.receiver.specs.declared.judge.Values.{Values}
 use Rattle.receiver.specs.Object.{isDelta, blockAt, blockEnd, blockLength, saying, payload}
-use Rattle.receiver.specs.Receive.{track, reference, bmdt, prft, events, brands, newSet, heldOk, splitRungs, valueRungs, judgeRungs}
+use Rattle.receiver.specs.Receive.{track, reference, bmdt, prft, events, brands, newSet, chunk, heldOk, splitRungs, valueRungs, judgeRungs}
 
 -- the bytes of an odd id, by the index
 unfoldable pub partIn : List ℕ → ℕ → Part
@@ -97,6 +97,12 @@ pub record Ready (F : List Row) (o s : List ℕ) (j : Judged) (ws x : List ℕ) 
 pub record Acceptable (F : List Row) (o s : List ℕ) (t : Track) (p : Place) (j : Judged) (ws x : List ℕ) : Type 0 where
   pub head : Judgeable F o s t p
   pub ready : Ready F o s j ws x
+
+-- and the output has room for the front, whose brands are lent as such
+pub record Roomy (F : List Row) (o s : List ℕ) (t : Track) (p : Place) (j : Judged) (ws x names output : List ℕ) : Type 0 where
+  pub acceptable : Acceptable F o s t p j ws x
+  pub named : names ≡ brands F o s
+  pub room : length (chunk F o s) ≤ length output
 
 pub record JudgedAs (rungs : List Rung) (F : List Row) (o s : List ℕ) (j : Judged) (ws x : List ℕ) : Type 0 where
   pub answered : j .number ≡ ladder rungs (λ k. k) 0

@@ -9,8 +9,8 @@ ghost use Rattle.wire.specs.declared.form.Form.the-variants.{Rfc9000};
 ghost use Rattle.share_words.specs.Share.{shareLen};
 ghost use Rattle.slots.specs.Table.{out, onTable};
 ghost use Rattle.answers.specs.Took.{took, refused};
-ghost use Rattle.receiver.specs.Receive.{refusing, written, taken, receiving};
-ghost use Rattle.receiver.specs.Judge.{Judgeable, Acceptable};
+ghost use Rattle.receiver.specs.Receive.{refusing, done, written, taken, receiving};
+ghost use Rattle.receiver.specs.Judge.{Judgeable, Acceptable, Roomy};
 ghost use Rattle.receiver.specs.Answered.{AnsweredAs, OpenedAs};
 use crate::judge;
 use crate::judge::Judged;
@@ -50,7 +50,50 @@ fn refuse(o: &[u8], s: &mut [u64], number: u64) -> Answer
     }
 }
 
-// The front into the output, if there is room for it, and the reference into the share. As in `judge_values`, no form is asked for.
+// The front into the output, and the reference into the share. As in `judge_values`, no form is asked for.
+fn write(
+    t: Track,
+    p: Place,
+    o: &[u8],
+    s: &mut [u64],
+    j: Judged,
+    list: &[u64],
+    x: &[u64],
+    names: &[u8],
+    output: &mut [u8],
+) -> Answer
+    requires { ⌜ ((F : List Row) × Roomy F (now o) (now s) t p j (now list) (now x) (now names) (now output)) ⌝ }
+    ensures { λ a. ⌜ ((F : List Row)
+        → Roomy F (now (o .entry)) (now (s .entry)) t p j (now (list .entry)) (now (x .entry)) (now (names .entry))
+        (now (output .entry))
+        → AnsweredAs (done F (now (o .entry)) (now (output .entry)) (now (s .entry)))
+        (now (o .entry)) a (now (output .exit)) (now (s .exit))) ⌝ }
+{
+    let prft = j.prft;
+    let end = p.end;
+    let payload = (o.len() - end) as u64;
+    let count = (s[share::ACCEPTED] + 1) % 4294967296;
+    let n = put_front(
+        t,
+        count,
+        x,
+        payload,
+        prft,
+        o,
+        list,
+        j.events,
+        names,
+        &mut *output,
+    );
+    reference::keep::keep(s, p.delta, prft, count, x);
+    Answer {
+        number: 0,
+        front: n as u64,
+        payload: end,
+    }
+}
+
+// It is written if there is room for it.
 fn accept(
     t: Track,
     p: Place,
@@ -69,23 +112,13 @@ fn accept(
 {
     let from = j.brands.at;
     let to = from + j.brands.len;
-    let end = p.end;
     let prft = j.prft;
-    let k = j.events;
-    let payload = (o.len() - end) as u64;
     let names = &o[from..to];
-    let need = front_length(t, x, prft, list, k, names);
+    let need = front_length(t, x, prft, list, j.events, names);
     if !room::has_room(need, output.len()) {
         return refuse(o, s, 17);
     }
-    let count = (s[share::ACCEPTED] + 1) % 4294967296;
-    let n = put_front(t, count, x, payload, prft, o, list, k, names, &mut *output);
-    reference::keep::keep(s, p.delta, prft, count, x);
-    Answer {
-        number: 0,
-        front: n as u64,
-        payload: end,
-    }
+    write(t, p, o, s, j, list, x, names, output)
 }
 
 // An object with its head read, on an open share: number first, then act.
