@@ -90,11 +90,12 @@ pub fn pass(
         };
     }
     let n = e.end;
-    let r = calls::received(receiver, calls::FIRST, &object[..n], &mut *rebuilt);
+    let o = &object[..n];
+    let r = calls::received(receiver, calls::FIRST, o, &mut *rebuilt);
     let m = r.end;
-    let same = comes_back(encoder, wish, &object[..n], r.number, &rebuilt[..m]);
+    let same = comes_back(encoder, wish, o, r.number, &rebuilt[..m]);
     Passage {
-        passed: counted(chunk.len(), &object[..n], e.front, same),
+        passed: counted(chunk.len(), o, e.front, same),
         object: n,
         rebuilt: r,
     }
