@@ -19,6 +19,8 @@ use Rattle.locmaf_read_block.specs.declared.records.Recorded.{Recorded}
 use Rattle.locmaf_read_block.specs.declared.records.Recorded.the-variants.{One, Cut}
 use Rattle.locmaf_read_block.specs.declared.records.Text.{Text}
 use Rattle.locmaf_read_block.specs.declared.records.Text.the-variants.{At, Cut as NoText}
+use Rattle.locmaf_read_block.specs.declared.records.Names.{Names}
+use Rattle.locmaf_read_block.specs.declared.records.Names.the-variants.{At as NamesAt, Cut as NoNames}
 use Rattle.locmaf_read_block.specs.declared.records.Marks.{Marks}
 use Rattle.locmaf_read_block.specs.declared.records.Marked.{Marked}
 use Rattle.locmaf_read_block.specs.declared.records.Marked.the-variants.{At as MarkedAt, Cut as NoMarks}
@@ -101,6 +103,17 @@ unfoldable pub recordsF : List Row → ℕ → List ℕ → Option (List Record)
 recordsF F base s = wholly (recordsRun F base s)
 
 -- ==== What only mirrors the code
+
+abbrev pub onNames : {A : Type 0} → Names → (Part → Part → ℕ → A) → A → A
+onNames (NamesAt scheme value next) f z = f scheme value next
+onNames NoNames f z = z
+
+-- the two texts off the front of s, whose first byte has the place base, and the place after them
+unfoldable pub namesAt : List Row → ℕ → List ℕ → Names
+namesAt F base s =
+    onText (textAt F base 0 s)
+    (λ scheme a. onText (textAt F base a s) (λ value b. NamesAt scheme value b) NoNames)
+    NoNames
 
 -- the ten words that a record is kept in
 abbrev pub recordWords : Record → List ℕ

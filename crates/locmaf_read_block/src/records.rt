@@ -8,7 +8,8 @@ ghost use lib.ListN.{length};
 ghost use lib.Seq.{sets};
 ghost use Rattle.wire.specs.Form.{rows};
 ghost use Rattle.event_value.specs.Events.{eventsLen};
-ghost use Rattle.locmaf_read_block.specs.Records.{textAt, marksAt, recordF, kept, Listable, ListedAs, recordsRun};
+ghost use Rattle.locmaf_read_block.specs.Records.{textAt, namesAt, marksAt, recordF, recordsRun};
+ghost use Rattle.locmaf_read_block.specs.Records.{kept, Listable, ListedAs};
 use crate::numbers::Counted;
 use crate::walk;
 use byte_parts::Part;
@@ -36,6 +37,12 @@ pub enum Recorded {
 // A length with so many bytes after it: their part, and the place after them.
 pub enum Text {
     At(Part, usize),
+    Cut,
+}
+
+// The two texts in front of a record's numbers: their parts, and the place after them.
+enum Names {
+    At(Part, Part, usize),
     Cut,
 }
 
@@ -67,6 +74,22 @@ fn text_at(form: Form, s: &[u8], base: usize, q: usize) -> Text
     }
     let len = n as usize;
     Text::At(Part { at: base + p, len }, p + len)
+}
+
+// The two texts off the front of s.
+fn names_at(form: Form, s: &[u8], base: usize) -> Names
+    requires { ⌜ base + length (now s) < 2 ^ 63 ⌝ }
+    ensures { λ r. ⌜ r ≡ namesAt (rows form) base (now (s .entry)) ⌝ }
+{
+    let a = text_at(form, s, base, 0);
+    let Text::At(scheme, a1) = a else {
+        return Names::Cut;
+    };
+    let b = text_at(form, s, base, a1);
+    let Text::At(value, b1) = b else {
+        return Names::Cut;
+    };
+    Names::At(scheme, value, b1)
 }
 
 // The four numbers at the place q of s.
@@ -105,12 +128,8 @@ pub fn record_of(form: Form, s: &[u8], base: usize) -> Recorded
     requires { ⌜ base + length (now s) < 2 ^ 63 ⌝ }
     ensures { λ r. ⌜ r ≡ recordF (rows form) base (now (s .entry)) ⌝ }
 {
-    let a = text_at(form, s, base, 0);
-    let Text::At(scheme, a1) = a else {
-        return Recorded::Cut;
-    };
-    let b = text_at(form, s, base, a1);
-    let Text::At(value, b1) = b else {
+    let a = names_at(form, s, base);
+    let Names::At(scheme, value, b1) = a else {
         return Recorded::Cut;
     };
     let m = marks_at(form, s, b1);

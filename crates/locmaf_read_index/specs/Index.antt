@@ -1,5 +1,5 @@
 -- The index of a block by id: three words for each id from 0 to 27, and the records of the emsg list.
-use Prim.Native.Nat.{ℕ, _+_, _-_, _*_, _≤_}
+use Prim.Native.Nat.{ℕ, _+_, _-_, _≤_, _<_}
 use mathlib.Core.Path.{_≡_}
 use mathlib.Core.Bool.{Bool, true, false, cond, _&&_}
 use mathlib.Core.List.{List, [], _∷_}
@@ -15,10 +15,12 @@ use Rattle.locmaf_read_block.specs.declared.tuples.Kind.the-variants.{Scalar, N
 use Rattle.locmaf_read_block.specs.declared.tuples.Tuple.{Tuple}
 use Rattle.locmaf_read_block.specs.declared.numbers.Counted.{Counted}
 use Rattle.locmaf_read_block.specs.declared.numbers.Counted.the-variants.{Whole}
+use Rattle.locmaf_read_index.specs.declared.index.Entry.{Entry}
+use Rattle.locmaf_read_index.specs.declared.index.Entry.the-variants.{One, Cut as NoEntry}
 use Rattle.locmaf_read_index.specs.declared.index.Indexed.{Indexed}
 use Rattle.locmaf_read_index.specs.declared.index.Indexed.the-variants.{Clean, Stray, Cut}
 use Rattle.locmaf_read_block.specs.Front.{Series}
-use Rattle.locmaf_read_block.specs.Tuples.{partOf, bytesOf, tuplesRun}
+use Rattle.locmaf_read_block.specs.Tuples.{partOf, bytesOf, onTaken, tupleAt, tuplesRun}
 use Rattle.locmaf_read_block.specs.Entries.{known}
 use Rattle.locmaf_read_block.specs.Numbers.{counted, countAt, onCounted}
 use Rattle.locmaf_read_block.specs.Records.{recordsRun, wordsOf}
@@ -38,6 +40,15 @@ heard F s (Scalar p) events = events
 heard F s (Numbers p) events = events
 heard F s (Raw p) events = events
 heard F s (Records p) events = sets events 0 (wordsOf (take eventsMost (recordsRun F (p .at) (bytesOf s p) .items)))
+
+-- the tuple from the place at, that ends before the place end, with its count
+unfoldable pub entryAt : List Row → List ℕ → ℕ → ℕ → Entry
+entryAt F s at end =
+    onTaken (tupleAt F s at end) (λ t next. onCounted (weighed F s (t .kind)) (λ count. One t count next) NoEntry) NoEntry
+
+-- the words of the events after it
+unfoldable pub heardAt : List Row → List ℕ → ℕ → ℕ → List ℕ → List ℕ
+heardAt F s at end events = onTaken (tupleAt F s at end) (λ t next. heard F s (t .kind) events) events
 
 -- the id is known and has no tuple yet
 unfoldable pub fresh : List ℕ → ℕ → Bool
@@ -81,6 +92,13 @@ indexAt F s at end words events = indexRun F s (tuplesRun F at (slice at end s))
 pub record Weighable (s : List ℕ) (k : Kind) (events : List ℕ) : Type 0 where
   pub inside : partOf k .at + partOf k .len ≤ length s
   pub block : partOf k .len ≤ blockMost
+  pub list : length events ≡ eventsLen
+
+-- what a call of `entry_at` is lent
+pub record Enterable (s : List ℕ) (at end : ℕ) (events : List ℕ) : Type 0 where
+  pub some : at < end
+  pub inside : end ≤ length s
+  pub block : end - at ≤ blockMost
   pub list : length events ≡ eventsLen
 
 -- what a call of `index` is lent. 01: "property block 16,384 bytes", which is tested before.

@@ -7,7 +7,8 @@ ghost use Rattle.wire.specs.Form.{rows};
 ghost use Rattle.locmaf_read_block.specs.Tuples.{partOf};
 ghost use Rattle.locmaf_read_block.specs.Entries.{known};
 ghost use Rattle.locmaf_read_index.specs.Places.{indexLen};
-ghost use Rattle.locmaf_read_index.specs.Index.{fresh, noted, weighed, heard, Indexable, Weighable, indexAt};
+ghost use Rattle.locmaf_read_index.specs.Index.{fresh, noted, weighed, heard, entryAt, heardAt, indexAt};
+ghost use Rattle.locmaf_read_index.specs.Index.{Weighable, Enterable, Indexable};
 use crate::places;
 use byte_parts::Part;
 use locmaf_read_block::numbers::Counted;
@@ -59,6 +60,30 @@ fn weigh(form: Form, s: &[u8], k: Kind, events: &mut [u64]) -> Counted
     }
 }
 
+// The tuple, how many numbers it has and the place after it, or that it or a list in it ends too early.
+enum Entry {
+    One(Tuple, usize, usize),
+    Cut,
+}
+
+// The tuple from the place at, which ends before the place end, with its count. The records of events are kept.
+fn entry_at(form: Form, s: &[u8], at: usize, end: usize, events: &mut [u64]) -> Entry
+    requires { ⌜ Enterable (now s) at end (now events) ⌝ }
+    ensures { λ r. ⌜ (r ≡ entryAt (rows form) (now (s .entry)) at end)
+        × (now (events .exit) ≡ heardAt (rows form) (now (s .entry)) at end (now (events .entry))) ⌝ }
+{
+    let g = locmaf_read_block::tuples::tuple_at(form, s, at, end);
+    let Taken::One(t, next) = g else {
+        return Entry::Cut;
+    };
+    let kind = t.kind;
+    let m = weigh(form, s, kind, &mut *events);
+    let Counted::Whole(count) = m else {
+        return Entry::Cut;
+    };
+    Entry::One(t, count, next)
+}
+
 // Notes a tuple with its count in the words of its id, and says whether the id is known and had none.
 fn note(out: &mut [u64], t: Tuple, count: usize) -> bool
     requires { ⌜ (length (now out) ≡ indexLen) × (partOf (t .kind) .at + 1 < 2 ^ 64) ⌝ }
@@ -96,13 +121,8 @@ pub fn index(
     let mut clean = true;
     let mut p = at;
     while p < end {
-        let g = locmaf_read_block::tuples::tuple_at(form, s, p, end);
-        let Taken::One(t, next) = g else {
-            return Indexed::Cut;
-        };
-        let kind = t.kind;
-        let m = weigh(form, s, kind, &mut *events);
-        let Counted::Whole(count) = m else {
+        let g = entry_at(form, s, p, end, &mut *events);
+        let Entry::One(t, count, next) = g else {
             return Indexed::Cut;
         };
         clean = note(&mut *out, t, count) & clean;

@@ -1,5 +1,5 @@
 -- The ids that a delta deletes: which of them have a line, what marking one does, and the loop over those that id 27 lists. Assumes nothing.
-use Prim.Native.Nat.{ℕ, zero, suc, _+_, _-_, _*_, _≤_, _<_}
+use Prim.Native.Nat.{ℕ, zero, suc, _+_, _-_, _≤_, _<_}
 use native.Mathlib.Nat.{add-zero, not-suc-le-zero, le-of-suc-le-suc}
 use native.Mathlib.Omega.{arith}
 use mathlib.Core.Path.{_≡_, refl, sym, _∙_, ap}
@@ -31,7 +31,7 @@ use Rattle.locmaf_read_block.proofs.ReadLaws.{Found}
 use Rattle.locmaf_read_block.proofs.NumberLaws.{numbers-cut, numbers-empty, numbers-nil, numbers-inv, wholly-inv}
 use Rattle.locmaf_read_said.specs.Said.{Says, saysIn, Telling, Gone}
 use Rattle.field_rules.specs.Fields.{numbers}
-use Rattle.locmaf_read_said.specs.Deletions.{moofField, isNone, deletionsOk, strikable, StruckAs, MarkedAs}
+use Rattle.locmaf_read_said.specs.Deletions.{moofField, isNone, deletionsOk, strikable, StruckAs, ListedAt, MarkedAs}
 
 -- ---- the ids that have a line
 
@@ -236,12 +236,18 @@ module _ (F : List Row) (o index : List ℕ) (t : Telling F o index) where
       go none e k = absurd (n (k 0 (omega arith)))
       go (some zs) e k = (zs, e, k)
 
-  -- its bytes stand in the object
-  pub list-inside : (getD index (standsAt 27) 0 ≡ 0 → ⊥) → getD index (standsAt 27) 0 - 1 + getD index (numberAt 27) 0 ≤ length o
-  list-inside n =
+  -- where they stand in the object
+  pub listed-at : (getD index (standsAt 27) 0 ≡ 0 → ⊥)
+      → ListedAt F o index (getD index (standsAt 27) 0 - 1) (getD index (standsAt 27) 0 - 1 + getD index (numberAt 27) 0)
+  unfolding body
+  listed-at n =
+      let zs = listed n .0 in
+      let e : saysIn F o index 27 ≡ some zs = listed n .1 in
       let k = listed n .2 in
-      let i : k .place + getD index (numberAt 27) 0 ≤ length o = k .inside (λ e. omega arith) in
-      omega (arith, k .first)
+      let p : getD index (standsAt 27) 0 - 1 ≡ k .place = omega (arith, k .first) in
+      let b : numbersF F (slice (k .place) (k .place + getD index (numberAt 27) 0) o) ≡ some zs = k .bytes (λ u. omega arith) in
+      let i : k .place + getD index (numberAt 27) 0 ≤ length o = k .inside (λ u. omega arith) in
+      record { inside = omega arith; ids = rw (p, e) b }
 
   module _ (r gone : List ℕ) (h : (length r ≡ setLen) × (gone ≡ replicate idCount 0)) where
     -- nothing is listed
@@ -253,29 +259,25 @@ module _ (F : List Row) (o index : List ℕ) (t : Telling F o index) where
         go none e k = record { answered = rw e; marked = λ u. rw e (gone-none gone (h .1)) }
         go (some zs) e k = absurd (omega (arith, k .first))
 
-    -- all are to come
-    pub start : (getD index (standsAt 27) 0 ≡ 0 → ⊥) → Marking F o index r gone gone (getD index (standsAt 27) 0 - 1 + getD index (numberAt 27) 0) (getD index (standsAt 27) 0 - 1)
-    unfolding body among
-    start n =
-        let zs = listed n .0 in
-        let e : saysIn F o index 27 ≡ some zs = listed n .1 in
-        let k = listed n .2 in
-        let p : getD index (standsAt 27) 0 - 1 ≡ k .place = omega (arith, k .first) in
-        let b : numbersF F (slice (k .place) (k .place + getD index (numberAt 27) 0) o) ≡ some zs = k .bytes (λ u. omega arith) in
-        record {
-          telling = t;
-          bytes = list-inside n;
-          set = h .0;
-          words = t .words;
-          ids₀ = rw (h .1);
-          ids = rw (h .1);
-          seen = [];
-          left = zs;
-          rest = rw p b;
-          marked = gone-none gone (h .1);
-          all = λ id. rw e;
-          whole = rw e;
-        }
+-- all are to come
+pub start : (F : List Row) (o index : List ℕ) (from end : ℕ) → Telling F o index → ListedAt F o index from end
+    → (r gone : List ℕ) → (length r ≡ setLen) × (gone ≡ replicate idCount 0) → Marking F o index r gone gone end from
+unfolding among
+start F o index from end t l r gone h =
+    record {
+      telling = t;
+      bytes = l .inside;
+      set = h .0;
+      words = t .words;
+      ids₀ = rw (h .1);
+      ids = rw (h .1);
+      seen = [];
+      left = numbers (saysIn F o index 27);
+      rest = l .ids;
+      marked = gone-none gone (h .1);
+      all = λ id. refl;
+      whole = refl;
+    }
 
 module _ (F : List Row) (o index r gone₀ gone : List ℕ) (end p : ℕ) (m : Marking F o index r gone₀ gone end p) where
   -- all are marked

@@ -1,15 +1,18 @@
 -- The ids that a delta deletes. 01: "a vanished one is listed in id 27".
-use Prim.Native.Nat.{ℕ, _*_}
+use Prim.Native.Nat.{ℕ, _≤_}
 use mathlib.Core.Path.{_≡_}
 use mathlib.Core.Bool.{Bool, true, false, not, _&&_}
 use mathlib.Core.List.{List, [], _∷_}
 use mathlib.Core.Option.{Option, none, some}
 use lib.Dec.{eqb, leb}
 use lib.ListN.{length, getD, set}
+use lib.Seq.{slice}
 use Rattle.laws.specs.Tests.{_and_, among}
+use Rattle.wire.specs.declared.form.Row.{Row}
 use Rattle.field_set.specs.Lawful.{has}
+use Rattle.locmaf_read_block.specs.Numbers.{numbersF}
 use Rattle.locmaf_read_index.specs.Places.{standsAt}
-use Rattle.locmaf_read_said.specs.Said.{Says, Gone}
+use Rattle.locmaf_read_said.specs.Said.{Says, saysIn, Gone}
 use Rattle.field_rules.specs.Fields.{numbers}
 
 -- ==== The rules
@@ -40,6 +43,11 @@ pub record StruckAs (index r : List ℕ) (d : ℕ) (before : List ℕ) (answer :
   pub answered : answer ≡ strikable index r d before
   pub marked : answer ≡ true → after ≡ set before d 1
   pub long : length after ≡ length before
+
+-- the ids of id 27 stand in an object from one place up to another
+pub record ListedAt (F : List Row) (o index : List ℕ) (from end : ℕ) : Type 0 where
+  pub inside : end ≤ length o
+  pub ids : numbersF F (slice from end o) ≡ some (numbers (saysIn F o index 27))
 
 -- all ids of id 27 were marked where all may be deleted
 pub record MarkedAs (r : List ℕ) (says : Says) (answer : Bool) (gone : List ℕ) : Type 0 where

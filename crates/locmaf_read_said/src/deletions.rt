@@ -7,7 +7,7 @@ ghost use Rattle.wire.specs.Form.{rows};
 ghost use Rattle.field_table.specs.Lines.{setLen};
 ghost use Rattle.locmaf_read_index.specs.Places.{indexLen};
 ghost use Rattle.locmaf_read_said.specs.Said.{saysIn, Telling};
-ghost use Rattle.locmaf_read_said.specs.Deletions.{StruckAs, MarkedAs};
+ghost use Rattle.locmaf_read_said.specs.Deletions.{StruckAs, ListedAt, MarkedAs};
 use field_table::lines;
 use locmaf_read_index::places;
 use wire::form::Form;
@@ -31,18 +31,21 @@ fn strike(index: &[u64], r: &[u64], d: u64, gone: &mut [u64]) -> bool
     true
 }
 
-// Whether each id of the tuple 27 may be deleted; each is then marked.
-pub fn mark(form: Form, o: &[u8], index: &[u64], r: &[u64], gone: &mut [u64]) -> bool
-    requires { ⌜ Telling (rows form) (now o) (now index) ⌝ }
+// Marks the ids that the object lists from the place from up to the place end, as long as each may be deleted.
+fn strike_all(
+    form: Form,
+    o: &[u8],
+    from: usize,
+    end: usize,
+    index: &[u64],
+    r: &[u64],
+    gone: &mut [u64],
+) -> bool
+    requires { ⌜ Telling (rows form) (now o) (now index) × ListedAt (rows form) (now o) (now index) from end ⌝ }
     requires { ⌜ (length (now r) ≡ setLen) × (now gone ≡ replicate idCount 0) ⌝ }
     ensures { λ b. ⌜ MarkedAs (now (r .entry)) (saysIn (rows form) (now (o .entry)) (now (index .entry)))
         b (now (gone .exit)) ⌝ }
 {
-    if index[places::DELETIONS] == 0 {
-        return true;
-    }
-    let from = (index[places::DELETIONS] - 1) as usize;
-    let end = from + index[places::DELETIONS_LENGTH] as usize;
     let mut p = from;
     while p < end {
         let g = wire::varint::read(form, o, p, end);
@@ -55,4 +58,19 @@ pub fn mark(form: Form, o: &[u8], index: &[u64], r: &[u64], gone: &mut [u64]) ->
         p = next;
     }
     true
+}
+
+// Whether each id of the tuple 27 may be deleted; each is then marked.
+pub fn mark(form: Form, o: &[u8], index: &[u64], r: &[u64], gone: &mut [u64]) -> bool
+    requires { ⌜ Telling (rows form) (now o) (now index) ⌝ }
+    requires { ⌜ (length (now r) ≡ setLen) × (now gone ≡ replicate idCount 0) ⌝ }
+    ensures { λ b. ⌜ MarkedAs (now (r .entry)) (saysIn (rows form) (now (o .entry)) (now (index .entry)))
+        b (now (gone .exit)) ⌝ }
+{
+    if index[places::DELETIONS] == 0 {
+        return true;
+    }
+    let from = (index[places::DELETIONS] - 1) as usize;
+    let end = from + index[places::DELETIONS_LENGTH] as usize;
+    strike_all(form, o, from, end, index, r, gone)
 }

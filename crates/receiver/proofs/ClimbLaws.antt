@@ -3,7 +3,7 @@ use Prim.Native.Nat.{ℕ, _≤_}
 use native.Mathlib.Omega.{arith}
 use mathlib.Core.Path.{_≡_, sym, _∙_, ap, subst}
 use mathlib.Core.Bool.{Bool, true}
-use mathlib.Core.List.{List, _++_}
+use mathlib.Core.List.{List, _++_, append-assoc}
 use borrow.Rule.Slice.PartAt.{part-to-end}
 use lib.ListN.{length}
 use Rattle.laws.specs.Ladder.{Hold}
@@ -21,7 +21,7 @@ use Rattle.reference.proofs.OpenLaws.{reference-long, lent}
 use Rattle.receiver.specs.declared.judge.Judged.{Judged}
 use Rattle.receiver.specs.Object.{isDelta, saying}
 use Rattle.receiver.specs.Receive.{track, reference, splitRungs, valueRungs, judgeRungs}
-use Rattle.receiver.specs.Judge.{noneJudged, Judgeable, Split, SplitAs, SetRead, JudgedAs}
+use Rattle.receiver.specs.Judge.{noneJudged, Judgeable, Split, SplitAs, readRungs, BlockReadAs, JudgedAs}
 use Rattle.receiver.proofs.JudgeLaws.{iv-small, delta-good, judged-none}
 
 -- no step answers 0 where it refuses
@@ -34,18 +34,25 @@ unfolding setRungs fieldRungs
 set-numbered t delta r says =
     ((λ e. omega arith), ((λ e. omega arith), ((λ e. omega arith), ((λ e. omega arith), ((λ e. omega arith), ((λ e. omega arith), tt))))))
 
+read-numbered : (F : List Row) (o s : List ℕ) → Numbered (readRungs F o s)
+unfolding splitRungs
+read-numbered F o s = ((λ e. omega arith), ((λ e. omega arith), set-numbered (track F o s) (isDelta F o) (reference F o s) (saying F o)))
+
 -- the track is the share's
 pub own-track : {F : List Row} {o s : List ℕ} {t : Track} {p : Place} → Judgeable F o s t p → Judgeable F o s (trackOf s) p
 own-track {F} {o} {s} {t} {p} j = subst (λ (u : Track). Judgeable F o s u p) (j .track) j
 
 module _ {F : List Row} {o s : List ℕ} {t : Track} {p : Place} (j : Judgeable F o s t p) {k : ℕ} {index ev : List ℕ} (sa : SplitAs F o s k index ev) where
   -- the block can't be split
-  pub refuses-split : (a : Judged) (ws x : List ℕ) → a ≡ noneJudged k → (k ≡ 0 → ⊥) → JudgedAs (judgeRungs F o s) F o s a ws x
-  refuses-split a ws x e n =
-      judged-none F o s (judgeRungs F o s) k a ws x e n
-      (sa .answered
-      ∙ stopped-on (splitRungs F o s) (setRungs (track F o s) (isDelta F o) (reference F o s) (saying F o) ++ valueRungs F o s) (λ i. i) 0
-      (λ z. n (sa .answered ∙ z)))
+  pub refuses-split : (x : List ℕ) → (k ≡ 0 → ⊥) → BlockReadAs F o s t p k index ev x
+  refuses-split x n =
+      record {
+        answered =
+            sa .answered
+            ∙ stopped-on (splitRungs F o s) (setRungs (track F o s) (isDelta F o) (reference F o s) (saying F o)) (λ i. i) 0
+            (λ z. n (sa .answered ∙ z));
+        read = λ z. absurd (n z);
+      }
 
   -- it can
   module _ (z : k ≡ 0) where
@@ -75,40 +82,42 @@ module _ {F : List Row} {o s : List ℕ} {t : Track} {p : Place} (j : Judgeable 
       track-is : n ≡ numberOf (setRungs (track F o s) (isDelta F o) (reference F o s) (saying F o))
       track-is = read-is ∙ ap (λ (u : Track). numberOf (setRungs u (isDelta F o) (reference F o s) (saying F o))) (j .track)
 
-      -- a rule of the set is broken
-      pub refuses-set : (a : Judged) (ws w : List ℕ) → a ≡ noneJudged n → (n ≡ 0 → ⊥) → JudgedAs (judgeRungs F o s) F o s a ws w
-      refuses-set a ws w e m =
-          judged-none F o s (judgeRungs F o s) n a ws w e m
-          (track-is
-          ∙ stopped-on (setRungs (track F o s) (isDelta F o) (reference F o s) (saying F o)) (valueRungs F o s) (λ i. i) 0 (λ y. m (track-is ∙ y))
-          ∙ climbed-on (splitRungs F o s) (setRungs (track F o s) (isDelta F o) (reference F o s) (saying F o) ++ valueRungs F o s) (λ i. i) 0 split-holds)
+      set-holds : n ≡ 0 → Hold (setRungs t (isDelta F o) (reference F o s) (saying F o))
+      set-holds y = all-hold _ (set-numbered t (isDelta F o) (reference F o s) (saying F o)) (sym read-is ∙ y)
 
-      -- none is
-      module _ (y : n ≡ 0) where
-        set-holds : Hold (setRungs t (isDelta F o) (reference F o s) (saying F o))
-        set-holds = all-hold _ (set-numbered t (isDelta F o) (reference F o s) (saying F o)) (sym read-is ∙ y)
+      set-words : n ≡ 0 → x ≡ newWords t (isDelta F o) (reference F o s) (saying F o) 0
+      set-words y =
+          rd .stored y
+          ∙ ap (λ (q : Place). newWords t (q .delta) (lent s) (saysIn F o index) 0) (j .place)
+          ∙ ap (λ (r : List ℕ). newWords t (isDelta F o) r (saysIn F o index) 0) (part-to-end s setAt)
+          ∙ ap (λ (f : Says). newWords t (isDelta F o) (reference F o s) f 0) (split-of .says)
 
-        set-words : x ≡ newWords t (isDelta F o) (reference F o s) (saying F o) 0
-        set-words =
-            rd .stored y
-            ∙ ap (λ (q : Place). newWords t (q .delta) (lent s) (saysIn F o index) 0) (j .place)
-            ∙ ap (λ (r : List ℕ). newWords t (isDelta F o) r (saysIn F o index) 0) (part-to-end s setAt)
-            ∙ ap (λ (f : Says). newWords t (isDelta F o) (reference F o s) f 0) (split-of .says)
+      -- the number is the set's
+      pub read-of : BlockReadAs F o s t p n index ev x
+      read-of =
+          record {
+            answered =
+                track-is
+                ∙ climbed-on (splitRungs F o s) (setRungs (track F o s) (isDelta F o) (reference F o s) (saying F o)) (λ i. i) 0 split-holds;
+            read = λ y. record { head = j; split = split-of; hold = set-holds y; words = set-words y };
+          }
 
-        pub read-of : SetRead F o s t p index ev x
-        read-of = record { head = j; split = split-of; hold = set-holds; words = set-words }
+-- the values' rules come last
+values-last : (F : List Row) (o s : List ℕ) → numberOf (readRungs F o s ++ valueRungs F o s) ≡ numberOf (judgeRungs F o s)
+values-last F o s = ap numberOf (append-assoc (splitRungs F o s) (setRungs (track F o s) (isDelta F o) (reference F o s) (saying F o)) (valueRungs F o s))
 
-        track-holds : Hold (setRungs (track F o s) (isDelta F o) (reference F o s) (saying F o))
-        track-holds = all-hold _ (set-numbered (track F o s) (isDelta F o) (reference F o s) (saying F o)) (sym track-is ∙ y)
+module _ {F : List Row} {o s : List ℕ} {t : Track} {p : Place} {n : ℕ} {index ev x : List ℕ} (b : BlockReadAs F o s t p n index ev x) where
+  -- a rule of the block or of its set is broken
+  pub refuses-read : (a : Judged) (ws w : List ℕ) → a ≡ noneJudged n → (n ≡ 0 → ⊥) → JudgedAs (judgeRungs F o s) F o s a ws w
+  refuses-read a ws w e m =
+      judged-none F o s (judgeRungs F o s) n a ws w e m
+      (b .answered ∙ stopped-on (readRungs F o s) (valueRungs F o s) (λ i. i) 0 (λ y. m (b .answered ∙ y)) ∙ values-last F o s)
 
-        -- the rest is the values'
-        pub judged-on : (a : Judged) (ws w : List ℕ) → JudgedAs (valueRungs F o s) F o s a ws w → JudgedAs (judgeRungs F o s) F o s a ws w
-        judged-on a ws w h =
-            record {
-              answered =
-                  h .answered
-                  ∙ climbed-on (setRungs (track F o s) (isDelta F o) (reference F o s) (saying F o)) (valueRungs F o s) (λ i. i) 0 track-holds
-                  ∙ climbed-on (splitRungs F o s) (setRungs (track F o s) (isDelta F o) (reference F o s) (saying F o) ++ valueRungs F o s) (λ i. i) 0
-                  split-holds;
-              ready = h .ready;
-            }
+  -- none is, and the rest is the values'
+  pub judged-on : n ≡ 0 → (a : Judged) (ws w : List ℕ) → JudgedAs (valueRungs F o s) F o s a ws w → JudgedAs (judgeRungs F o s) F o s a ws w
+  judged-on y a ws w h =
+      let k : Hold (readRungs F o s) = all-hold (readRungs F o s) (read-numbered F o s) (sym (b .answered) ∙ y) in
+      record {
+        answered = h .answered ∙ climbed-on (readRungs F o s) (valueRungs F o s) (λ i. i) 0 k ∙ values-last F o s;
+        ready = h .ready;
+      }

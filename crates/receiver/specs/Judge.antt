@@ -3,7 +3,7 @@
 use Prim.Native.Nat.{ℕ, _+_, _-_, _*_, _≤_}
 use mathlib.Core.Path.{_≡_}
 use mathlib.Core.Bool.{Bool, true, cond, _&&_}
-use mathlib.Core.List.{List}
+use mathlib.Core.List.{List, _++_}
 use lib.Dec.{eqb, leb}
 use lib.ListN.{length, getD, replicate, drop}
 use lib.Seq.{slice}
@@ -82,6 +82,15 @@ pub record SetRead (F : List Row) (o s : List ℕ) (t : Track) (p : Place) (inde
   pub split : Split F o index events
   pub hold : Hold (setRungs t (isDelta F o) (reference F o s) (saying F o))
   pub words : x ≡ newWords t (isDelta F o) (reference F o s) (saying F o) 0
+
+-- the rules of the block and of its set
+abbrev pub readRungs : List Row → List ℕ → List ℕ → List Rung
+readRungs F o s = splitRungs F o s ++ setRungs (track F o s) (isDelta F o) (reference F o s) (saying F o)
+
+-- both were asked: the number, and what was read where it is 0
+pub record BlockReadAs (F : List Row) (o s : List ℕ) (t : Track) (p : Place) (number : ℕ) (index events x : List ℕ) : Type 0 where
+  pub answered : number ≡ ladder (readRungs F o s) (λ k. k) 0
+  pub read : number ≡ 0 → SetRead F o s t p index events x
 
 -- the scratch words have all that the front is made of
 pub record Ready (F : List Row) (o s : List ℕ) (j : Judged) (ws x : List ℕ) : Type 0 where

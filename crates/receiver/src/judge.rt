@@ -17,7 +17,7 @@ ghost use Rattle.effective.specs.Sums.{sizesOk, protectedOk};
 ghost use Rattle.laws.specs.Tests.{_and_};
 ghost use Rattle.share_words.specs.Share.{shareLen, setAt};
 ghost use Rattle.slots.specs.Share.{trackOf};
-ghost use Rattle.receiver.specs.Judge.{partIn, noneJudged, Judgeable, SplitAs, SetRead};
+ghost use Rattle.receiver.specs.Judge.{partIn, noneJudged, Judgeable, SplitAs, SetRead, BlockReadAs};
 ghost use Rattle.receiver.specs.Judge.{ValuesTold, AllJudged, ValuesJudged};
 use byte_parts::Part;
 use constants::ids;
@@ -119,6 +119,31 @@ fn split(form: Form, o: &[u8], p: Place, s: &[u64], index: &mut [u64], events: &
     13
 }
 
+// The block split and its set read: 12 to 15 or 0.
+fn read_block(
+    form: Form,
+    t: Track,
+    o: &[u8],
+    p: Place,
+    s: &[u64],
+    index: &mut [u64],
+    events: &mut [u64],
+    x: &mut [u64],
+) -> u64
+    requires { ⌜ Judgeable (rows form) (now o) (now s) t p ⌝ }
+    requires { ⌜ (now index ≡ replicate indexLen 0) × (now events ≡ replicate eventsLen 0)
+        × (now x ≡ replicate setLen 0) ⌝ }
+    ensures { λ k. ⌜ BlockReadAs (rows form) (now (o .entry)) (now (s .entry)) t p k (now (index .exit))
+        (now (events .exit)) (now (x .exit)) ⌝ }
+{
+    let k = split(form, o, p, s, &mut *index, &mut *events);
+    if k != 0 {
+        return k;
+    }
+    let r = &s[share::SET..];
+    locmaf_read_set::read::read_set(form, t, p.delta, o, index, r, &mut *x)
+}
+
 // The number of an object whose head is read.
 pub fn judge(
     form: Form,
@@ -135,12 +160,7 @@ pub fn judge(
         × (now x ≡ replicate setLen 0) ⌝ }
     ensures { λ j. ⌜ AllJudged (rows form) (now (o .entry)) (now (s .entry)) j (now (events .exit)) (now (x .exit)) ⌝ }
 {
-    let k = split(form, o, p, s, &mut *index, &mut *events);
-    if k != 0 {
-        return refused(k);
-    }
-    let r = &s[share::SET..];
-    let n = locmaf_read_set::read::read_set(form, t, p.delta, o, index, r, &mut *x);
+    let n = read_block(form, t, o, p, s, &mut *index, &mut *events, &mut *x);
     if n != 0 {
         return refused(n);
     }

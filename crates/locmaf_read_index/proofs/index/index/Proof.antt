@@ -5,8 +5,7 @@ use native.Mathlib.Omega.{arith}
 use mathlib.Core.Path.{sym, _∙_}
 use denote.Ref.{now}
 use Rattle.wire.specs.Form.{rows}
-use Rattle.locmaf_read_index.proofs.IndexLoop.{Indexing, start, done, cut, lends, short, more}
-use Rattle.locmaf_read_block.proofs.TupleRuns.{Took, took}
+use Rattle.locmaf_read_index.proofs.IndexLoop.{Indexing, Entered, entered, start, done, enters, cut, more}
 use Rattle.locmaf_read_index.proofs.index.index.Statement.{statement}
 use Rattle.locmaf_read_index.proofs.index.index.Tie as tie
 
@@ -19,8 +18,8 @@ abbrev μ-loop : tie.MeasureT-loop
 loop-holds : tie.Need-loop-holds Inv-loop μ-loop
 loop-holds c = start _ _ _ _ _ _ (c .before .before .before .pre)
 
-tuple-at-requires : tie.Need-tuple-at-requires Inv-loop μ-loop
-tuple-at-requires c κs = search needs
+entry-at-requires : tie.Need-entry-at-requires Inv-loop μ-loop
+entry-at-requires c κs = enters _ _ _ _ _ _ _ _ _ _ (c .before .before .loop .inv) (c .before .loop-test .taken)
 
 enum-known-g : tie.Need-enum-known-g Inv-loop μ-loop
 enum-known-g c = search needs
@@ -36,27 +35,32 @@ same-length-2 c = search needs
 
 returns : tie.Need-returns Inv-loop μ-loop
 returns c =
-    cut _ _ _ _ _ _ _ _ _ _ (c .before .before .before .before .loop .inv) (c .before .before .before .loop-test .taken) (sym (c .enum-told .given .1) ∙ c .before .before .tuple-at .ensures)
+    let w = c .before .before .before .before .entry-at .ensures in
+    rw (w .1) (cut _ _ _ _ _ _ _ _ _ _ (c .before .before .before .before .before .before .before .loop .inv) (c .before .before .before .before .before .before .loop-test .taken) (sym (c .enum-told .given .1) ∙ w .0))
 
--- the tuple that was read
-took-of : (c : tie.After-known-told Inv-loop μ-loop)
-    → let l = c .before .before .before .before .before in let a = l .before .before .before .before .args in let g = c .before .g .given .0 in
-    Took (rows (a .form)) (now (a .s)) (l .loop .p) (a .end) (g .0) (g .1 .0)
-took-of c =
-    let l = c .before .before .before .before .before in
-    took _ _ _ _ _ _ (l .loop .inv .bytes) (c .before .before .before .before .loop-test .taken) (sym (c .before .g .given .1) ∙ c .before .before .before .tuple-at .ensures)
+-- the tuple that was read, with its count
+entered-of : (c : tie.After-known-told Inv-loop μ-loop)
+    → let l = c .before .before .before .before .before .before .before .before in let a = l .before .before .before .before .args in let g = c .before .g .given .0 in
+    Entered (rows (a .form)) (now (a .s)) (l .loop .p) (a .end) (l .loop .events) (g .0) (g .1 .0) (g .1 .1 .0)
+entered-of c =
+    entered _ _ _ _ _ (enters _ _ _ _ _ _ _ _ _ _ (c .before .before .before .before .before .before .before .before .loop .inv) (c .before .before .before .before .before .before .before .loop-test .taken)) _ _ _ (sym (c .before .g .given .1) ∙ c .before .before .before .before .before .entry-at .ensures .0)
 
-weigh-requires : tie.Need-weigh-requires Inv-loop μ-loop
-weigh-requires c κs =
+note-requires : tie.Need-note-requires Inv-loop μ-loop
+note-requires c κs =
     let k = c .before in
-    let l = k .before .before .before .before .before in
-    lends _ _ _ _ _ _ _ _ _ _ (l .loop .inv) (k .before .before .before .before .loop-test .taken) _ _ (took-of k)
+    let l = k .before .before .before .before .before .before .before .before in
+    let z = entered-of k .took in
+    (l .loop .inv .room, omega (arith, z .ends, z .within, l .loop .inv .bytes, l .before .before .before .before .good))
 
-enum-known-m : tie.Need-enum-known-m Inv-loop μ-loop
-enum-known-m c = search needs
+loop-less : tie.Need-loop-less Inv-loop μ-loop
+loop-less c = let z = entered-of (c .before .before .before .before) .took in omega (arith, z .two, z .within)
 
-enum-told-2 : tie.Need-enum-told-2 Inv-loop μ-loop
-enum-told-2 c = search needs
+loop-again : tie.Need-loop-again Inv-loop μ-loop
+loop-again c =
+    let k = c .before .before .before .before in
+    let w = c .before .before .before .before .before .before .before .before .before .entry-at .ensures in
+    let n = c .before .before .note .ensures in
+    rw (n .1, n .0, w .1) (more _ _ _ _ _ _ _ _ _ _ (k .before .before .before .before .before .before .before .before .loop .inv) (k .before .before .before .before .before .before .before .loop-test .taken) _ _ _ (entered-of k))
 
 same-length-3 : tie.Need-same-length-3 Inv-loop μ-loop
 same-length-3 c = search needs
@@ -65,29 +69,7 @@ same-length-4 : tie.Need-same-length-4 Inv-loop μ-loop
 same-length-4 c = search needs
 
 returns-2 : tie.Need-returns-2 Inv-loop μ-loop
-returns-2 c =
-    let k = c .before .before .before .before .before .before in
-    let w = c .before .before .before .before .weigh .ensures in
-    rw (w .1)
-    (short _ _ _ _ _ _ _ _ _ _ (k .before .before .before .before .before .loop .inv) (k .before .before .before .before .loop-test .taken) _ _ (took-of k) (sym (c .enum-told2 .given .1) ∙ w .0))
-
-note-requires : tie.Need-note-requires Inv-loop μ-loop
-note-requires c κs =
-    let k = c .before .before .before .before .before .before .before .before in
-    let l = k .before .before .before .before .before in
-    let z = took-of k in
-    (l .loop .inv .room, omega (arith, z .ends, z .within, l .loop .inv .bytes, l .before .before .before .before .good))
-
-loop-less : tie.Need-loop-less Inv-loop μ-loop
-loop-less c = omega (arith, took-of (c .before .before .before .before .before .before .before .before .before .before .before) .two, took-of (c .before .before .before .before .before .before .before .before .before .before .before) .within)
-
-loop-again : tie.Need-loop-again Inv-loop μ-loop
-loop-again c =
-    let k = c .before .before .before .before .before .before .before .before .before .before .before in
-    let w = c .before .before .before .before .before .before .before .before .before .weigh .ensures in
-    let n = c .before .before .note .ensures in
-    rw (n .1, n .0, w .1)
-    (more _ _ _ _ _ _ _ _ _ _ (k .before .before .before .before .before .loop .inv) (k .before .before .before .before .loop-test .taken) _ _ (took-of k) _ (sym (c .before .before .before .before .before .m .given .1) ∙ w .0))
+returns-2 c = rw (c .if1 .taken) at (done _ _ _ _ _ _ _ _ _ _ (c .before .before .loop .inv) (c .before .loop-test .left))
 
 same-length-5 : tie.Need-same-length-5 Inv-loop μ-loop
 same-length-5 c = search needs
@@ -96,16 +78,7 @@ same-length-6 : tie.Need-same-length-6 Inv-loop μ-loop
 same-length-6 c = search needs
 
 returns-3 : tie.Need-returns-3 Inv-loop μ-loop
-returns-3 c = rw (c .if1 .taken) at (done _ _ _ _ _ _ _ _ _ _ (c .before .before .loop .inv) (c .before .loop-test .left))
-
-same-length-7 : tie.Need-same-length-7 Inv-loop μ-loop
-same-length-7 c = search needs
-
-same-length-8 : tie.Need-same-length-8 Inv-loop μ-loop
-same-length-8 c = search needs
-
-returns-4 : tie.Need-returns-4 Inv-loop μ-loop
-returns-4 c = rw (c .if1 .left) at (done _ _ _ _ _ _ _ _ _ _ (c .before .before .loop .inv) (c .before .loop-test .left))
+returns-3 c = rw (c .if1 .left) at (done _ _ _ _ _ _ _ _ _ _ (c .before .before .loop .inv) (c .before .loop-test .left))
 
 pub index-spec : {M : Type 1} → statement M
 index-spec =
@@ -114,24 +87,18 @@ index-spec =
     Inv-loop
     μ-loop
     loop-holds
-    tuple-at-requires
+    entry-at-requires
     enum-known-g
     enum-told
     same-length
     same-length-2
     returns
-    weigh-requires
-    enum-known-m
-    enum-told-2
-    same-length-3
-    same-length-4
-    returns-2
     note-requires
     loop-less
     loop-again
+    same-length-3
+    same-length-4
+    returns-2
     same-length-5
     same-length-6
-    returns-3
-    same-length-7
-    same-length-8
-    returns-4)
+    returns-3)
