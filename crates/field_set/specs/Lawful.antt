@@ -13,6 +13,7 @@ use Rattle.track.specs.Track.{none, cenc}
 use Rattle.field_table.specs.declared.lines.Line.{Line}
 use Rattle.field_table.specs.declared.lines.Measure.{Measure}
 use Rattle.field_set.specs.declared.lawful.Tally.{Tally}
+use Rattle.field_set.specs.declared.rules.Stands.{Stands}
 use Rattle.field_table.specs.Lines.{lines, placeOf, lineFor, lineNumber, marksOf, wanted, bmdtAt, countAt, lineCount}
 
 -- ==== The rules
@@ -98,6 +99,25 @@ lawful t w =
     and sameIvSize t w
 
 -- ==== What only mirrors the code
+
+-- which of the fields that the rules speak of stand, by the marks of all
+unfoldable pub standsOf : List ℕ → Stands
+standsOf marks =
+    record {
+      sizes = at 1;
+      durations = at 3;
+      offsets = at 5;
+      size = at 6;
+      flags = at 7;
+      «first_flags» = at 12;
+      ivs = at 9;
+      subsamples = at 11;
+      clear = at 13;
+      protected = at 15;
+    }
+  where
+    at : ℕ → Bool
+    at id = not (eqb (getD marks (lineNumber id lines) 0) 0)
 
 -- what a tally says of a list of words, of which there are no more than samples, and each of which counts less than 64
 pub record TallyOf (r : Tally) (most : ℕ) (s : List ℕ) : Type 0 where

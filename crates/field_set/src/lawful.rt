@@ -9,11 +9,11 @@ ghost use lib.Seq.{slice};
 ghost use Rattle.constants.specs.Maxima.{samplesMost, entryMost};
 ghost use Rattle.field_table.specs.Lines.{lines, setLen, lineCount, subsamplesAt, Small};
 ghost use Rattle.field_set.specs.Lawful.{TallyOf, regionsOk, setRules, sameIvSize, valuesOf, measureOf, inUse, lawful};
+use crate::rules;
 use constants::maxima;
 use field_table::lines;
 use field_table::lines::Measure;
 use field_table::marks::marks_of;
-use field_table::order;
 use track::Track;
 use word_spans::scan;
 
@@ -80,34 +80,6 @@ fn regions_ok(w: &[u64], m: Measure) -> bool
     ok & ((rest | scan::bits(w, free, lines::SET)) == 0)
 }
 
-// Whether the fields that stand, by their marks, may stand together.
-pub fn rules_ok(t: Track, n: u64, marks: &[u64]) -> bool
-    requires { ⌜ length (now marks) ≡ lineCount ⌝ }
-    ensures { λ r. ⌜ r ≡ setRules t n (now (marks .entry)) ⌝ }
-{
-    let sizes = marks[order::SIZES] != 0;
-    let size = marks[order::SIZE] != 0;
-    let flags = marks[order::FLAGS] != 0;
-    let first = marks[order::FIRST_FLAGS] != 0;
-    let ivs = marks[order::IVS] != 0;
-    let subsamples = marks[order::SUBSAMPLES] != 0;
-    let clear = marks[order::CLEAR] != 0;
-    let protected = marks[order::PROTECTED] != 0;
-    let lists = sizes
-        | ((marks[order::DURATIONS] != 0)
-            | ((marks[order::OFFSETS] != 0) | (flags | (subsamples | (clear | protected)))));
-    let cenc = t.protection as u64 == track::CENC;
-    ((n != 0) | !(lists | (ivs | first)))
-        & (((n != 1) | !(sizes | size))
-            & (!(sizes & size)
-                & (!(flags & first)
-                    & ((subsamples == clear)
-                        & ((clear == protected)
-                            & ((!subsamples | (t.protection as u64 != track::NONE))
-                                & ((ivs == (cenc & (n != 0)))
-                                    & ((n <= 1) | ((sizes | size) | (t.size != 0))))))))))
-}
-
 // The subsample counts of a set of n samples, by the mark of id 11.
 pub fn tally_of(t: Track, w: &[u64], mark: u64, n: usize) -> Tally
     requires { ⌜ length (now w) ≡ setLen ⌝ }
@@ -170,5 +142,5 @@ pub fn is_lawful(t: Track, w: &[u64]) -> bool
     };
     (w[lines::BMDT] <= maxima::NUMBER)
         & ((c.sum <= maxima::SUBSAMPLES)
-            & ((regions_ok(w, m) & same_iv_size(t, w)) & rules_ok(t, n, &marks_of(w))))
+            & ((regions_ok(w, m) & same_iv_size(t, w)) & rules::rules_ok(t, n, &marks_of(w))))
 }

@@ -19,6 +19,7 @@ ghost use Rattle.locmaf_read_set.specs.Read.{countFrom, countReached, br
 use constants::ids;
 use constants::maxima;
 use field_set::lawful;
+use field_set::rules;
 use field_table::lines;
 use field_table::lines::Measure;
 use locmaf_read_field::cells;
@@ -211,7 +212,7 @@ fn take_fields(
         lines::LINES,
         &mut *x,
     );
-    let rules = lawful::rules_ok(t, n, &standing(index, gone, a.held, r));
+    let rules = rules::rules_ok(t, n, &standing(index, gone, a.held, r));
     if !(e.second & (b.second & (d.second & rules))) {
         return 14;
     }

@@ -6,8 +6,8 @@ ghost use lib.ListN.{length};
 ghost use lib.Seq.{slice};
 ghost use Rattle.laws.specs.Tests.{allBits};
 
-// The bits that are set in some of the four words from a place on, of the sixteen, and of the sixty-four: a long run is taken in such steps, so
-// that a loop has few turns.
+// The bits that are set in some of the four words from a place on, of the sixteen, and of the sixty-four: a run is taken in the longest such steps
+// that it has left, so that loops have few turns.
 fn four(w: &[u64], i: usize) -> u64
     requires { ⌜ i + 4 ≤ length (now w) ⌝ }
     ensures { λ r. ⌜ r ≡ allBits (slice i (i + 4) (now (w .entry))) ⌝ }
@@ -42,6 +42,10 @@ pub fn bits(w: &[u64], from: usize, to: usize) -> u64
     while 64 <= to - i {
         all = all | sixty_four(w, i);
         i += 64;
+    }
+    while 16 <= to - i {
+        all = all | sixteen(w, i);
+        i += 16;
     }
     while i < to {
         all = all | w[i];

@@ -18,49 +18,75 @@ Inv-loop2 w from to all₀ i₀ all i = Collecting w from to all i
 abbrev μ-loop2 : tie.MeasureT-loop2
 μ-loop2 w from to all₀ i₀ all i = to - i
 
-returns : tie.Need-returns Inv-loop μ-loop Inv-loop2 μ-loop2
+abbrev Inv-loop3 : tie.InvT-loop3
+Inv-loop3 w from to all₀ i₀ all i = Collecting w from to all i
+
+abbrev μ-loop3 : tie.MeasureT-loop3
+μ-loop3 w from to all₀ i₀ all i = to - i
+
+returns : tie.Need-returns Inv-loop μ-loop Inv-loop2 μ-loop2 Inv-loop3 μ-loop3
 returns c = collect-none _ _ _ (c .if1 .taken)
 
-loop-holds : tie.Need-loop-holds Inv-loop μ-loop Inv-loop2 μ-loop2
+loop-holds : tie.Need-loop-holds Inv-loop μ-loop Inv-loop2 μ-loop2 Inv-loop3 μ-loop3
 loop-holds c = collect-start _ _ _ (c .before .before .pre) (c .if1 .left)
 
-sub-loop : tie.Need-sub-loop Inv-loop μ-loop Inv-loop2 μ-loop2
+sub-loop : tie.Need-sub-loop Inv-loop μ-loop Inv-loop2 μ-loop2 Inv-loop3 μ-loop3
 sub-loop c = search needs
 
-sixty-four-requires : tie.Need-sixty-four-requires Inv-loop μ-loop Inv-loop2 μ-loop2
+sixty-four-requires : tie.Need-sixty-four-requires Inv-loop μ-loop Inv-loop2 μ-loop2 Inv-loop3 μ-loop3
 sixty-four-requires c κs = search needs
 
-add-i : tie.Need-add-i Inv-loop μ-loop Inv-loop2 μ-loop2
+add-i : tie.Need-add-i Inv-loop μ-loop Inv-loop2 μ-loop2 Inv-loop3 μ-loop3
 add-i c = search needs
 
-loop-less : tie.Need-loop-less Inv-loop μ-loop Inv-loop2 μ-loop2
+loop-less : tie.Need-loop-less Inv-loop μ-loop Inv-loop2 μ-loop2 Inv-loop3 μ-loop3
 loop-less c = search needs
 
-loop-again : tie.Need-loop-again Inv-loop μ-loop Inv-loop2 μ-loop2
+loop-again : tie.Need-loop-again Inv-loop μ-loop Inv-loop2 μ-loop2 Inv-loop3 μ-loop3
 loop-again c =
     let h = c .before .before .loop .inv in
     collect-run _ _ _ _ _ h _ (omega arith) (search needs) (c .«sixty-four» .ensures)
 
-loop2-holds : tie.Need-loop2-holds Inv-loop μ-loop Inv-loop2 μ-loop2
+loop2-holds : tie.Need-loop2-holds Inv-loop μ-loop Inv-loop2 μ-loop2 Inv-loop3 μ-loop3
 loop2-holds c = search needs
 
-mul-all : tie.Need-mul-all Inv-loop μ-loop Inv-loop2 μ-loop2
-mul-all c = search needs
+sub-loop2 : tie.Need-sub-loop2 Inv-loop μ-loop Inv-loop2 μ-loop2 Inv-loop3 μ-loop3
+sub-loop2 c = search needs
 
-shared-slice-read-all : tie.Need-shared-slice-read-all Inv-loop μ-loop Inv-loop2 μ-loop2
-shared-slice-read-all c = search needs
+sixteen-requires : tie.Need-sixteen-requires Inv-loop μ-loop Inv-loop2 μ-loop2 Inv-loop3 μ-loop3
+sixteen-requires c κs = search needs
 
-add-i-2 : tie.Need-add-i-2 Inv-loop μ-loop Inv-loop2 μ-loop2
+add-i-2 : tie.Need-add-i-2 Inv-loop μ-loop Inv-loop2 μ-loop2 Inv-loop3 μ-loop3
 add-i-2 c = search needs
 
-loop2-less : tie.Need-loop2-less Inv-loop μ-loop Inv-loop2 μ-loop2
+loop2-less : tie.Need-loop2-less Inv-loop μ-loop Inv-loop2 μ-loop2 Inv-loop3 μ-loop3
 loop2-less c = search needs
 
-loop2-again : tie.Need-loop2-again Inv-loop μ-loop Inv-loop2 μ-loop2
-loop2-again c = collect-word _ _ _ _ _ (c .before .before .loop2 .inv) (c .before .loop2-test .taken)
+loop2-again : tie.Need-loop2-again Inv-loop μ-loop Inv-loop2 μ-loop2 Inv-loop3 μ-loop3
+loop2-again c =
+    let h = c .before .before .loop2 .inv in
+    collect-run _ _ _ _ _ h _ (omega arith) (search needs) (c .sixteen .ensures)
 
-returns-2 : tie.Need-returns-2 Inv-loop μ-loop Inv-loop2 μ-loop2
-returns-2 c = collect-end _ _ _ _ _ (c .before .loop2 .inv) (c .loop2-test .left)
+loop3-holds : tie.Need-loop3-holds Inv-loop μ-loop Inv-loop2 μ-loop2 Inv-loop3 μ-loop3
+loop3-holds c = search needs
+
+mul-all : tie.Need-mul-all Inv-loop μ-loop Inv-loop2 μ-loop2 Inv-loop3 μ-loop3
+mul-all c = search needs
+
+shared-slice-read-all : tie.Need-shared-slice-read-all Inv-loop μ-loop Inv-loop2 μ-loop2 Inv-loop3 μ-loop3
+shared-slice-read-all c = search needs
+
+add-i-3 : tie.Need-add-i-3 Inv-loop μ-loop Inv-loop2 μ-loop2 Inv-loop3 μ-loop3
+add-i-3 c = search needs
+
+loop3-less : tie.Need-loop3-less Inv-loop μ-loop Inv-loop2 μ-loop2 Inv-loop3 μ-loop3
+loop3-less c = search needs
+
+loop3-again : tie.Need-loop3-again Inv-loop μ-loop Inv-loop2 μ-loop2 Inv-loop3 μ-loop3
+loop3-again c = collect-word _ _ _ _ _ (c .before .before .loop3 .inv) (c .before .loop3-test .taken)
+
+returns-2 : tie.Need-returns-2 Inv-loop μ-loop Inv-loop2 μ-loop2 Inv-loop3 μ-loop3
+returns-2 c = collect-end _ _ _ _ _ (c .before .loop3 .inv) (c .loop3-test .left)
 
 pub bits-spec : {M : Type 1} → statement M
 bits-spec =
@@ -70,6 +96,8 @@ bits-spec =
     μ-loop
     Inv-loop2
     μ-loop2
+    Inv-loop3
+    μ-loop3
     returns
     loop-holds
     sub-loop
@@ -78,9 +106,15 @@ bits-spec =
     loop-less
     loop-again
     loop2-holds
-    mul-all
-    shared-slice-read-all
+    sub-loop2
+    sixteen-requires
     add-i-2
     loop2-less
     loop2-again
+    loop3-holds
+    mul-all
+    shared-slice-read-all
+    add-i-3
+    loop3-less
+    loop3-again
     returns-2)
