@@ -1,2 +1,3 @@
 pub mod TookLaws
+pub mod AnsweredLaws
 pub mod RefusalLaws

@@ -1,3 +1,4 @@
 pub mod Took
+pub mod Answered
 pub mod Refusals
 pub mod Room

@@ -6,8 +6,9 @@ use mathlib.Core.Bool.{true, false}
 use mathlib.Core.List.{List, _++_}
 use borrow.Author.Tests.{le-leb, leb-true}
 use lib.ListN.{length, getD, take, drop}
+use lib.Seq.{slice}
 use Rattle.laws.proofs.LadderLaws.{broken, passed, top}
-use Rattle.laws.proofs.SliceLaws.{slice-lent}
+use Rattle.laws.proofs.SliceLaws.{slice-lent, slice-to-end}
 use Rattle.wire.specs.declared.form.Row.{Row}
 use Rattle.track.specs.declared.Track.{Track}
 use Rattle.track.specs.Track.{u32}
@@ -20,6 +21,7 @@ use Rattle.cmaf_write_front.specs.Front.{front}
 use Rattle.cmaf_write_front.specs.Writable.{Writable}
 use Rattle.locmaf_read_head.specs.declared.head.Place.{Place}
 use Rattle.answers.specs.Took.{took}
+use Rattle.answers.specs.Answered.{AnsweredAs}
 use Rattle.answers.specs.Room.{fits}
 use Rattle.reference.specs.Kept.{keptWords}
 use Rattle.reference.proofs.OpenLaws.{opened-facts}
@@ -27,7 +29,6 @@ use Rattle.receiver.specs.declared.judge.Judged.{Judged}
 use Rattle.receiver.specs.Object.{isDelta, blockEnd, payload}
 use Rattle.receiver.specs.Receive.{track, prft, brands, newSet, sequence, chunk, accepted, refusing, done, written}
 use Rattle.receiver.specs.Judge.{Judgeable, Ready}
-use Rattle.receiver.specs.Answered.{AnsweredAs}
 use Rattle.receiver.proofs.JudgeLaws.{end-inside, payload-long}
 
 module _ (F : List Row) (o s : List ℕ) (t : Track) (p : Place) (a : Judgeable F o s t p) where
@@ -35,9 +36,15 @@ module _ (F : List Row) (o s : List ℕ) (t : Track) (p : Place) (a : Judgeable 
   end-is : p .end ≡ blockEnd F o
   end-is = ap (λ (z : Place). z .end) (a .place)
 
-  behind-is : drop (p .end) o ≡ payload F o
+  -- as it is told
+  rest-long : p .end + (length o - p .end) ≡ length o
+  rest-long = let h = end-inside a in omega arith
+
+  behind-is : slice (p .end) (p .end + (length o - p .end)) o ≡ payload F o
   unfolding payload
-  behind-is = ap (λ (z : ℕ). drop z o) end-is
+  behind-is =
+      slice-to-end (p .end) (p .end + (length o - p .end)) o (sym rest-long)
+      ∙ ap (λ (z : ℕ). drop z o) end-is
 
   pub count-small : getD s acceptedAt 0 ≤ u32
   count-small = leb-true _ _ (opened-facts Receiver s (a .lawful) (a .opened) .accepted)
@@ -74,7 +81,7 @@ module _ (F : List Row) (o s : List ℕ) (t : Track) (p : Place) (a : Judgeable 
 
       pub done-is : (output : List ℕ) (q n : ℕ) (after kept : List ℕ) → q ≡ sequence F o s → n ≡ length (fronted q)
           → after ≡ fronted q ++ drop n output → kept ≡ keptWords (p .delta) q (j .prft) x s
-          → AnsweredAs (done F o output s) o (record { number = 0; front = n; payload = p .end }) after kept
+          → AnsweredAs (done F o output s) o (record { number = 0; front = n; payload = record { at = p .end; len = length o - p .end } }) after kept
       unfolding accepted
       done-is output q n after kept u h f g =
           let w : fronted q ≡ chunk F o s = ap fronted u ∙ front-is in
@@ -83,7 +90,7 @@ module _ (F : List Row) (o s : List ℕ) (t : Track) (p : Place) (a : Judgeable 
           let y : after ≡ chunk F o s ++ drop (length (chunk F o s)) output = f ∙ (λ i. w i ++ drop (l i) output) in
           let z : kept ≡ keptWords (isDelta F o) (sequence F o s) (prft F o s .prft) (newSet F o s) s =
           g ∙ (λ i. keptWords (d i) (u i) (r .time i) (r .words i) s) in
-          record { so = λ i. out (took 0 (l i) (behind-is i) (y i)) (z i); inside = end-inside a }
+          record { so = λ i. out (took 0 (l i) (behind-is i) (y i)) (z i); inside = omega (arith, rest-long) }
 
 -- there is room for so many bytes, or there isn't
 module _ (F : List Row) (o s output : List ℕ) (n : ℕ) (e : n ≡ length (chunk F o s)) where

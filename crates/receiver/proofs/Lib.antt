@@ -5,7 +5,6 @@ pub mod BrandLaws
 pub mod JudgeLaws
 pub mod ClimbLaws
 pub mod HeadRungs
-pub mod AnsweredLaws
 pub mod AcceptLaws
 pub mod ReceiveLaws
 pub mod PassedLaws

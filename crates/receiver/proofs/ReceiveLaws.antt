@@ -26,7 +26,7 @@ use Rattle.receiver.specs.declared.judge.Judged.{Judged}
 use Rattle.receiver.specs.Object.{isDelta, headRungs}
 use Rattle.receiver.specs.Receive.{heldOk, splitRungs, valueRungs, judgeRungs, roomRungs, refusing, written, taken, done, receiveRungs, receiving}
 use Rattle.receiver.specs.Judge.{Judgeable, JudgedAs}
-use Rattle.receiver.specs.Answered.{OpenedAs}
+use Rattle.receiver.specs.Opened.{OpenedAs}
 use Rattle.receiver.proofs.HeadRungs.{head-stopped, head-opened}
 
 none-held : (d e : Bool) → (d && e) ≡ true → (not d || not e) ≡ false

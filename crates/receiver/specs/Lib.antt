@@ -1,6 +1,6 @@
 pub mod Object
 pub mod Receive
 pub mod Judge
-pub mod Answered
+pub mod Opened
 pub mod Laws
 pub mod Parts

@@ -151,20 +151,19 @@ pub fn judge(
     o: &[u8],
     p: Place,
     s: &[u64],
-    index: &mut [u64],
     events: &mut [u64],
     x: &mut [u64],
 ) -> Judged
     requires { ⌜ Judgeable (rows form) (now o) (now s) t p ⌝ }
-    requires { ⌜ (now index ≡ replicate indexLen 0) × (now events ≡ replicate eventsLen 0)
-        × (now x ≡ replicate setLen 0) ⌝ }
+    requires { ⌜ (now events ≡ replicate eventsLen 0) × (now x ≡ replicate setLen 0) ⌝ }
     ensures { λ j. ⌜ AllJudged (rows form) (now (o .entry)) (now (s .entry)) j (now (events .exit)) (now (x .exit)) ⌝ }
 {
-    let n = read_block(form, t, o, p, s, &mut *index, &mut *events, &mut *x);
+    let mut index = [0u64; places::INDEX];
+    let n = read_block(form, t, o, p, s, &mut index, &mut *events, &mut *x);
     if n != 0 {
         return refused(n);
     }
-    judge_values(t, o, p, s, index, events, x)
+    judge_values(t, o, p, s, &index, events, x)
 }
 
 // From the values of what isn't a moof field on. What stands on the wire is in the scratch words by now, so that no form is asked for: the promise

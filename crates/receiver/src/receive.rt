@@ -9,18 +9,21 @@ ghost use Rattle.wire.specs.declared.form.Form.the-variants.{Rfc9000};
 ghost use Rattle.share_words.specs.Share.{shareLen};
 ghost use Rattle.slots.specs.Table.{out, onTable};
 ghost use Rattle.answers.specs.Took.{took, refused};
+ghost use Rattle.answers.specs.Answered.{AnsweredAs};
 ghost use Rattle.receiver.specs.Receive.{refusing, done, written, taken, receiving};
 ghost use Rattle.receiver.specs.Judge.{Judgeable, Acceptable, Roomy};
-ghost use Rattle.receiver.specs.Answered.{AnsweredAs, OpenedAs};
+ghost use Rattle.receiver.specs.Opened.{OpenedAs};
 use crate::judge;
 use crate::judge::Judged;
+use answers::answer;
+use answers::answer::Answer;
 use answers::room;
+use byte_parts::Part;
 use cmaf_write_front::front::front_length;
 use cmaf_write_front::front::put_front;
 use field_table::lines;
 use locmaf_read_head::head::Head;
 use locmaf_read_head::head::Place;
-use locmaf_read_index::places;
 use share_words::share;
 use share_words::share::SHARE;
 use share_words::share::TABLE;
@@ -29,25 +32,14 @@ use slots::lawful::Side;
 use track::Track;
 use wire::form::Form;
 
-// What an object is answered with: the number, the front's length, and where the payload begins: at the object's end if it is refused.
-struct Answer {
-    number: u64,
-    front: u64,
-    payload: usize,
-}
-
 // A refusal: 12 to 16 drop the reference, every other number changes nothing. Whatever the output holds, it stays.
-fn refuse(o: &[u8], s: &mut [u64], number: u64) -> Answer
+fn refuse(s: &mut [u64], number: u64) -> Answer
     requires { ⌜ length (now s) ≡ shareLen ⌝ }
-    ensures { λ a. ⌜ ((output : List ℕ)
-        → AnsweredAs (refusing output (now (s .entry)) number) (now (o .entry)) a output (now (s .exit))) ⌝ }
+    ensures { λ a. ⌜ ((o output : List ℕ)
+        → AnsweredAs (refusing output (now (s .entry)) number) o a output (now (s .exit))) ⌝ }
 {
     answers::refusals::leave(number, s);
-    Answer {
-        number,
-        front: 0,
-        payload: o.len(),
-    }
+    answer::refused(number)
 }
 
 // The front into the output, and the reference into the share. As in `judge_values`, no form is asked for.
@@ -89,7 +81,10 @@ fn write(
     Answer {
         number: 0,
         front: n as u64,
-        payload: end,
+        payload: Part {
+            at: end,
+            len: payload as usize,
+        },
     }
 }
 
@@ -116,7 +111,7 @@ fn accept(
     let names = &o[from..to];
     let need = front_length(t, x, prft, list, j.events, names);
     if !room::has_room(need, output.len()) {
-        return refuse(o, s, 17);
+        return refuse(s, 17);
     }
     write(t, p, o, s, j, list, x, names, output)
 }
@@ -127,13 +122,12 @@ fn take_block(form: Form, t: Track, p: Place, o: &[u8], s: &mut [u64], output: &
     ensures { λ a. ⌜ AnsweredAs (taken (rows form) (now (o .entry)) (now (output .entry)) (now (s .entry)))
         (now (o .entry)) a (now (output .exit)) (now (s .exit)) ⌝ }
 {
-    let mut index = [0u64; places::INDEX];
     let mut events = [0u64; event_value::ALL_WORDS];
     let mut x = [0u64; lines::SET];
-    let j = judge::judge(form, t, o, p, s, &mut index, &mut events, &mut x);
+    let j = judge::judge(form, t, o, p, s, &mut events, &mut x);
     let k = j.number;
     if k != 0 {
-        return refuse(o, s, k);
+        return refuse(s, k);
     }
     accept(t, p, o, s, j, &events, &x, output)
 }
@@ -169,7 +163,7 @@ fn take_share(form: Form, o: &[u8], s: &mut [u64], output: &mut [u8]) -> Answer
 {
     let h = opened(form, o, s);
     match h {
-        Head::Refused(k) => refuse(o, s, k),
+        Head::Refused(k) => refuse(s, k),
         Head::Block(p) => {
             let t = lawful::track_of(s);
             take_block(form, t, p, o, s, output)
@@ -193,8 +187,9 @@ fn take_object<'a>(
     let a = take_share(form, o, s, output);
     *number = a.number;
     *front = a.front;
-    let from = a.payload;
-    &o[from..]
+    let from = a.payload.at;
+    let end = from + a.payload.len;
+    &o[from..end]
 }
 
 // One object into the front of a chunk: the number, the front's length, and the payload as the part of the object that it is.

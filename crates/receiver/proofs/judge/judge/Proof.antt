@@ -1,12 +1,16 @@
 -- `receiver::judge::judge` meets its contract: the block with its set, and the values where neither refuses. Assumes nothing.
-use borrow.Author.Needs.{needs}
+use mathlib.Core.Path.{refl}
 use Rattle.wire.specs.Form.{rows}
 use Rattle.receiver.proofs.ClimbLaws.{refuses-read, judged-on}
+use borrow.Author.Needs.{needs}
 use Rattle.receiver.proofs.judge.judge.Statement.{statement}
 use Rattle.receiver.proofs.judge.judge.Tie as tie
 
+slice-aggregate-read-block : tie.Need-slice-aggregate-read-block
+slice-aggregate-read-block c = search needs
+
 read-block-requires : tie.Need-read-block-requires
-read-block-requires c κs = search needs
+read-block-requires c κs = let b = c .before .before .before .before .before .before .before in (b .pre .0, (refl, b .pre .1 .0, b .pre .1 .1))
 
 refused-requires : tie.Need-refused-requires
 refused-requires c κs = search needs
@@ -17,42 +21,42 @@ same-length c = search needs
 same-length-2 : tie.Need-same-length-2
 same-length-2 c = search needs
 
-same-length-3 : tie.Need-same-length-3
-same-length-3 c = search needs
-
 returns : tie.Need-returns
-returns c = refuses-read (c .before .before .before .before .before .before .before .before .read-block .ensures) _ _ _ (c .refused .ensures) (c .before .if1 .taken)
+returns c = refuses-read (c .before .before .before .before .before .before .before .read-block .ensures) _ _ _ (c .refused .ensures) (c .before .if1 .taken)
+
+slice-aggregate-judge-values : tie.Need-slice-aggregate-judge-values
+slice-aggregate-judge-values c = search needs
 
 judge-values-requires : tie.Need-judge-values-requires
-judge-values-requires c κs = (rows (c .before .before .before .before .before .before .before .before .before .before .before .before .before .before .before .before .before .before .before .args .form), c .before .before .before .before .before .before .before .before .before .before .read-block .ensures .read (c .before .before .before .if1 .left))
+judge-values-requires c κs =
+    let r = c .before .before .before .before .before .before .before .before .before in
+    (rows (r .before .before .before .before .before .before .before .before .args .form), r .read-block .ensures .read (c .before .before .before .if1 .left))
+
+same-length-3 : tie.Need-same-length-3
+same-length-3 c = search needs
 
 same-length-4 : tie.Need-same-length-4
 same-length-4 c = search needs
 
-same-length-5 : tie.Need-same-length-5
-same-length-5 c = search needs
-
-same-length-6 : tie.Need-same-length-6
-same-length-6 c = search needs
-
 returns-2 : tie.Need-returns-2
 returns-2 c =
-    let b = c .before .before .before .before .before .before .before .before .before .before .before .before .before .before .before .read-block .ensures in
+    let r = c .before .before .before .before .before .before .before .before .before .before .before .before .before .before in
+    let b = r .read-block .ensures in
     let n = c .before .before .before .before .before .before .before .before .if1 .left in
-    judged-on b n _ _ _ (c .before .before .before .before .judge-values .ensures (rows (c .before .before .before .before .before .before .before .before .before .before .before .before .before .before .before .before .before .before .before .before .before .before .before .before .args .form)) (b .read n))
+    judged-on b n _ _ _ (c .before .before .before .before .judge-values .ensures (rows (r .before .before .before .before .before .before .before .before .args .form)) (b .read n))
 
 pub judge-spec : {M : Type 1} → statement M
 judge-spec =
     tie.close
     (tie.spec
+    slice-aggregate-read-block
     read-block-requires
     refused-requires
     same-length
     same-length-2
-    same-length-3
     returns
+    slice-aggregate-judge-values
     judge-values-requires
+    same-length-3
     same-length-4
-    same-length-5
-    same-length-6
     returns-2)

@@ -2,7 +2,7 @@
 use denote.Ref.{now}
 use Rattle.laws.proofs.GateLaws.{failed, held}
 use Rattle.cmaf_write_front.proofs.FrontLaws.{weighable}
-use Rattle.receiver.proofs.AnsweredLaws.{answered-on}
+use Rattle.answers.proofs.AnsweredLaws.{answered-on}
 use Rattle.receiver.proofs.AcceptLaws.{brands-lent, writable, long-is, short, room, long-enough}
 use borrow.Author.Needs.{needs}
 use Rattle.receiver.proofs.receive.accept.Statement.{statement}
@@ -42,7 +42,7 @@ returns c =
     λ F v.
     let e = long-is _ _ _ _ _ (v .head) _ _ _ (v .ready) (brands-lent _ _ _ _ _ (v .head) _ _ _ (v .ready)) _
     (λ q. f .front-length .ensures q _ _ (v .ready .writable .events)) in
-    answered-on (c .before .before .refuse .ensures output) (short _ _ _ output _ e (failed (h .has-room .ensures) (c .before .before .before .before .if1 .taken)))
+    answered-on (c .before .before .refuse .ensures _ output) (short _ _ _ output _ e (failed (h .has-room .ensures) (c .before .before .before .before .if1 .taken)))
 
 write-requires : tie.Need-write-requires
 write-requires c κs =

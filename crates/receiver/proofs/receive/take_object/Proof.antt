@@ -1,11 +1,5 @@
 -- `receiver::receive::take_object` meets its contract: the answer handed out, the payload as the part of the object that is lent. Assumes nothing.
-use Prim.Native.Nat.{ℕ}
-use mathlib.Core.Path.{_∙_, ap}
-use mathlib.Core.List.{List}
-use denote.Ref.{now}
-use Rattle.slots.specs.Table.{out}
-use Rattle.answers.specs.Took.{took}
-use Rattle.receiver.proofs.AnsweredLaws.{tail-lent}
+use Rattle.answers.proofs.AnsweredLaws.{handed-out}
 use borrow.Author.Needs.{needs}
 use Rattle.receiver.proofs.receive.take_object.Statement.{statement}
 use Rattle.receiver.proofs.receive.take_object.Tie as tie
@@ -13,14 +7,21 @@ use Rattle.receiver.proofs.receive.take_object.Tie as tie
 take-share-requires : tie.Need-take-share-requires
 take-share-requires c κs = search needs
 
+add-end : tie.Need-add-end
+add-end c =
+    let t = c .before .before .before .before .before in
+    let i = t .take-share .ensures .inside in
+    let l = t .before .before .before .before .before .before .good .1 .1 .0 in
+    search needs
+
 sub-result : tie.Need-sub-result
-sub-result c = let i = c .before .before .before .before .take-share .ensures .inside in search needs
+sub-result c = search needs
 
 part-result-start : tie.Need-part-result-start
-part-result-start c = let i = c .before .before .before .before .take-share .ensures .inside in search needs
+part-result-start c = let i = c .before .before .before .before .before .take-share .ensures .inside in search needs
 
 part-result-end : tie.Need-part-result-end
-part-result-end c = search needs
+part-result-end c = let i = c .before .before .before .before .before .take-share .ensures .inside in search needs
 
 same-length : tie.Need-same-length
 same-length c = search needs
@@ -29,18 +30,14 @@ same-length-2 : tie.Need-same-length-2
 same-length-2 c = search needs
 
 returns : tie.Need-returns
-returns c =
-    let h = c .before .before .before .before .before in
-    let a = h .take-share .result in
-    let o = now (h .before .before .before .before .before .before .args .o) in
-    ap (λ (p : List ℕ). out (took (a .number) (a .front) p (h .take-share .last .1 .1 .1 .0)) (h .take-share .last .1 .1 .0)) (tail-lent (a .payload) o)
-    ∙ h .take-share .ensures .so
+returns c = handed-out (c .before .before .before .before .before .before .take-share .ensures)
 
 pub take-object-spec : {M : Type 1} → statement M
 take-object-spec =
     tie.close
     (tie.spec
     take-share-requires
+    add-end
     sub-result
     part-result-start
     part-result-end

@@ -4,8 +4,8 @@ use denote.Ref.{now}
 use Rattle.wire.specs.Form.{rows}
 use Rattle.track.specs.declared.Track.{Track}
 use Rattle.receiver.specs.Judge.{Judgeable}
-use Rattle.receiver.specs.Answered.{OpenedAs}
-use Rattle.receiver.proofs.AnsweredLaws.{answered-on}
+use Rattle.receiver.specs.Opened.{OpenedAs}
+use Rattle.answers.proofs.AnsweredLaws.{answered-on}
 use Rattle.receiver.proofs.ReceiveLaws.{track-lawful}
 use borrow.Author.Needs.{needs}
 use Rattle.receiver.proofs.receive.take_share.Statement.{statement}
@@ -47,7 +47,7 @@ returns c =
     let h = c .before .before .before .before .before .before .before in
     let a = h .before .before .before .before .before .args in
     let z = subst (OpenedAs (rows (a .form)) (now (a .o)) (now (a .s))) (c .before .before .before .before .before .h .given .1) (h .opened .ensures) in
-    answered-on (c .before .before .refuse .ensures (now (a .output))) (z (now (a .output)))
+    answered-on (c .before .before .refuse .ensures _ (now (a .output))) (z (now (a .output)))
 
 same-length-2 : tie.Need-same-length-2
 same-length-2 c = search needs
