@@ -7,7 +7,6 @@ use mathlib.Core.List.{List}
 use borrow.Author.Tests.{le-leb, lt-leb, not-false}
 use lib.ListN.{length, getD}
 use Rattle.laws.specs.Writes.{Wrote}
-use Rattle.laws.proofs.SliceLaws.{slice-none}
 use Rattle.laws.proofs.GateLaws.{failed, held}
 use Rattle.laws.proofs.LadderLaws.{broken, passed, top}
 use Rattle.laws.proofs.WriteLaws.{wrote-front, wrote-as}
@@ -19,31 +18,19 @@ use Rattle.byte_parts.specs.declared.Part.{Part}
 use Rattle.cmaf_read_shape.specs.Parts.{bodyOf, endOf}
 use Rattle.share_words.specs.Share.{acceptedAt}
 use Rattle.slots.specs.Share.{trackOf}
-use Rattle.slots.specs.Table.{Out, out}
-use Rattle.answers.specs.Took.{Took, took}
+use Rattle.slots.specs.Table.{out}
+use Rattle.answers.specs.Took.{took}
+use Rattle.answers.specs.Answered.{AnsweredAs}
 use Rattle.reference.specs.Kept.{keptWords}
 use Rattle.cmaf_read_chunk.specs.declared.read.Chunk.{Chunk}
 use Rattle.cmaf_read_chunk.specs.Accepted.{bytesAt, prft, payload, fields}
 use Rattle.cmaf_read_chunk.specs.Accepted as A
 use Rattle.encoder.specs.declared.front.Plan.{Plan}
-use Rattle.encoder.specs.declared.encode.Answer.{Answer}
 use Rattle.encoder.specs.Object.{givesDelta, objectOf, front}
-use Rattle.encoder.specs.Encode.{refusing, lastRungs, kept, onAccepted, refusedWith, answered, AnsweredAs}
+use Rattle.encoder.specs.Encode.{refusing, lastRungs, kept, onAccepted}
 use Rattle.encoder.specs.Planned.{Encodable, frontBytes, PlannedAs}
 use Rattle.cmaf_read_chunk.proofs.ChunkFacts.{payload-in}
 use Rattle.encoder.proofs.FrontLaws.{planned-front, front-length}
-
--- a refusal, where the rules give one
-pub refused-as : (c output s : List ℕ) (k : ℕ) {a : Answer} {e : Out Took} → a ≡ refusedWith k → refusing output s k ≡ e → AnsweredAs e c a output s
-refused-as c output s k {a} q h =
-    record {
-      so = ap (λ (z : Answer). answered c z output s) q ∙ ap (λ (p : List ℕ). out (took k 0 p output) s) (slice-none 0 0 c (omega arith)) ∙ h;
-      inside = subst (λ (z : Answer). endOf (z .payload) ≤ length c) (sym q) (omega arith);
-    }
-
--- the same answer, where two rules give the same
-pub answered-on : {c output s : List ℕ} {a : Answer} {e f : Out Took} → AnsweredAs e c a output s → e ≡ f → AnsweredAs f c a output s
-answered-on h q = record { so = h .so ∙ q; inside = h .inside }
 
 module _ (form : Form) (t : Track) (s c : List ℕ) (k : Chunk) (ws x : List ℕ) (e : Encodable (rows form) t s c k ws x) where
   abbrev F : List Row

@@ -1,7 +1,6 @@
 -- One chunk, by 01's order of answers.
 -- ==== The rules
-use Prim.Native.Nat.{ℕ, _≤_}
-use mathlib.Core.Path.{_≡_}
+use Prim.Native.Nat.{ℕ}
 use mathlib.Core.Bool.{Bool, not}
 use mathlib.Core.List.{List, [], _∷_, _++_}
 use lib.Dec.{eqb, leb}
@@ -14,9 +13,7 @@ use Rattle.slots.specs.Table.{Out, out}
 use Rattle.slots.specs.Calls.{openedRungs}
 use Rattle.answers.specs.Took.{Took, took, refused}
 use Rattle.reference.specs.Kept.{keptWords}
-use Rattle.cmaf_read_shape.specs.Parts.{endOf}
-use Rattle.cmaf_read_chunk.specs.Accepted.{bytesAt, prft, payload, fields, acceptRungs}
-use Rattle.encoder.specs.declared.encode.Answer.{Answer}
+use Rattle.cmaf_read_chunk.specs.Accepted.{prft, payload, fields, acceptRungs}
 use Rattle.encoder.specs.Object.{track, givesDelta, fitsOk, front}
 
 -- the wish 0 is for a full object, any other for a delta (D55)
@@ -52,17 +49,6 @@ module _ (F : List Row) (wish : Bool) (c output s : List ℕ) where
   encoding = ladder encodeRungs (refusing output s) done
 
 -- ==== What only mirrors the code
-
--- what the code hands up: the payload is told by its place in the chunk
-abbrev pub refusedWith : ℕ → Answer
-refusedWith k = record { number = k; front = 0; payload = record { at = 0; len = 0 } }
-
-abbrev pub answered : List ℕ → Answer → List ℕ → List ℕ → Out Took
-answered c a output s = out (took (a .number) (a .front) (bytesAt c (a .payload)) output) s
-
-pub record AnsweredAs (is : Out Took) (c : List ℕ) (a : Answer) (output s : List ℕ) : Type 0 where
-  pub so : answered c a output s ≡ is
-  pub inside : endOf (a .payload) ≤ length c
 
 module _ (F : List Row) (wish : Bool) (c output s : List ℕ) where
   -- from a place of the order on: of a chunk on an open share, and of one that was accepted

@@ -7,10 +7,12 @@ ghost use Rattle.share_words.specs.Share.{shareLen};
 ghost use Rattle.slots.specs.Table.{out, onTable};
 ghost use Rattle.answers.specs.Took.{took};
 ghost use Rattle.answers.specs.Took as T;
-ghost use Rattle.encoder.specs.Encode.{wished, encoding, onOpen, onAccepted, refusedWith, AnsweredAs};
+ghost use Rattle.answers.specs.Answered.{AnsweredAs};
+ghost use Rattle.encoder.specs.Encode.{wished, encoding, onOpen, onAccepted};
 ghost use Rattle.encoder.specs.Planned.{Encodable, OnShare};
 use crate::front;
-use byte_parts::Part;
+use answers::answer;
+use answers::answer::Answer;
 use cmaf_read_chunk::read::Chunk;
 use constants::maxima;
 use field_table::lines;
@@ -22,25 +24,8 @@ use slots::lawful::Side;
 use track::Track;
 use wire::form::Form;
 
-// What a chunk is answered with: the number, the front's length, and where the payload stands in the chunk.
-struct Answer {
-    number: u64,
-    front: u64,
-    payload: Part,
-}
-
-// A refusal changes nothing, neither the output nor the share.
-fn refused(number: u64) -> Answer
-    ensures { λ a. ⌜ a ≡ refusedWith number ⌝ }
-{
-    Answer {
-        number,
-        front: 0,
-        payload: Part { at: 0, len: 0 },
-    }
-}
-
-// The front into the output, if there is one and there is room for it, and the reference into the share.
+// The front into the output, if there is one and there is room for it, and the reference into the share. A refusal changes nothing, neither the
+// output nor the share.
 fn write(
     form: Form,
     t: Track,
@@ -58,10 +43,10 @@ fn write(
 {
     let a = front::choose(form, t, wish, s, k, events, x);
     if !a.fits {
-        return refused(9);
+        return answer::refused(9);
     }
     if output.len() < front::front_length(form, a) {
-        return refused(17);
+        return answer::refused(17);
     }
     let n = front::put_front(form, t, a, s, c, k, events, x, &mut *output);
     let prft = k.prft;
@@ -92,10 +77,10 @@ fn take_chunk(
     let mut x = [0u64; lines::SET];
     let k = cmaf_read_chunk::read::read_chunk(form, t, c, &mut events, &mut x);
     if k.number != 0 {
-        return refused(k.number);
+        return answer::refused(k.number);
     }
     if maxima::NUMBER < x[lines::BMDT] {
-        return refused(9);
+        return answer::refused(9);
     }
     write(form, t, wish, c, s, k, &events, &x, output)
 }
@@ -107,10 +92,10 @@ fn take_share(form: Form, wish: bool, c: &[u8], s: &mut [u64], output: &mut [u8]
         (now (c .entry)) a (now (output .exit)) (now (s .exit)) ⌝ }
 {
     if !lawful::is_lawful(Side::Encoder, s) {
-        return refused(18);
+        return answer::refused(18);
     }
     if s[share::TRACK] == 0 {
-        return refused(2);
+        return answer::refused(2);
     }
     let t = lawful::track_of(s);
     take_chunk(form, t, wish, c, s, output)
@@ -124,10 +109,10 @@ fn take_table(table: &mut [u64], slot: u64, wish: bool, c: &[u8], output: &mut [
         (now (c .entry)) a (now (output .exit)) (now (table .exit)) ⌝ }
 {
     if table.len() != TABLE {
-        return refused(18);
+        return answer::refused(18);
     }
     if 7 < slot {
-        return refused(1);
+        return answer::refused(1);
     }
     let at = share::start_of(slot);
     take_share(Form::Rfc9000, wish, c, &mut table[at..at + SHARE], output)

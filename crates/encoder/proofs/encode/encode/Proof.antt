@@ -1,13 +1,5 @@
 -- `encoder::encode::encode` meets its contract: what the table is answered with, handed out; the payload as the part of the chunk that is lent. Assumes nothing.
-use Prim.Native.Nat.{_+_}
-use native.Mathlib.Omega.{arith}
-use mathlib.Core.Path.{_∙_, ap}
-use mathlib.Core.List.{List}
-use Prim.Native.Nat.{ℕ}
-use denote.Ref.{now}
-use Rattle.laws.proofs.SliceLaws.{slice-lent}
-use Rattle.slots.specs.Table.{out}
-use Rattle.answers.specs.Took.{took}
+use Rattle.answers.proofs.AnsweredLaws.{handed-out}
 use borrow.Author.Needs.{needs}
 use Rattle.encoder.proofs.encode.encode.Statement.{statement}
 use Rattle.encoder.proofs.encode.encode.Tie as tie
@@ -38,14 +30,7 @@ same-length-2 : tie.Need-same-length-2
 same-length-2 c = search needs
 
 returns : tie.Need-returns
-returns c =
-    let t = c .before .before .before .before .before .before in
-    let e = t .take-table .ensures in
-    let a = t .take-table .result in
-    let b = t .before .before .before .before .before .before .args in
-    ap (λ (p : List ℕ). out (took (a .number) (a .front) p (t .take-table .last .1 .1 .1 .1 .0)) (t .take-table .last .0))
-    (slice-lent (a .payload .at) (a .payload .at + a .payload .len) (now (b .chunk)) (omega arith) (e .inside))
-    ∙ e .so
+returns c = handed-out (c .before .before .before .before .before .before .take-table .ensures)
 
 pub encode-spec : {M : Type 1} → statement M
 encode-spec =

@@ -2,7 +2,7 @@
 use mathlib.Core.Path.{refl}
 use denote.Ref.{now}
 use Rattle.laws.proofs.TestLaws.{all-bytes}
-use Rattle.encoder.proofs.WriteLaws.{refused-as, answered-on}
+use Rattle.answers.proofs.AnsweredLaws.{refused-as, answered-on}
 use Rattle.encoder.proofs.EncodeLaws.{iv-small, chunk-stops, chunk-late, encodable, chunk-climbs}
 use borrow.Author.Needs.{needs}
 use Rattle.encoder.proofs.encode.take_chunk.Statement.{statement}

@@ -2,7 +2,7 @@
 use denote.Ref.{now}
 use Rattle.laws.proofs.GateLaws.{failed, held}
 use Rattle.wire.specs.Form.{rows}
-use Rattle.encoder.proofs.WriteLaws.{refused-as, answered-on}
+use Rattle.answers.proofs.AnsweredLaws.{refused-as, answered-on}
 use Rattle.encoder.proofs.EncodeLaws.{share-unlawful, share-closed, track-lawful, share-open, on-share-is}
 use borrow.Author.Needs.{needs}
 use Rattle.encoder.proofs.encode.take_share.Statement.{statement}

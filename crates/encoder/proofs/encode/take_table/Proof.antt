@@ -5,7 +5,7 @@ use Rattle.wire.specs.Form.{rows}
 use Rattle.slots.proofs.TableLaws.{wrong-length, wrong-slot, on-share}
 use Rattle.answers.specs.Took.{refused}
 use Rattle.encoder.specs.Encode.{encoding}
-use Rattle.encoder.proofs.WriteLaws.{refused-as}
+use Rattle.answers.proofs.AnsweredLaws.{refused-as}
 use borrow.Author.Needs.{needs}
 use Rattle.encoder.proofs.encode.take_table.Statement.{statement}
 use Rattle.encoder.proofs.encode.take_table.Tie as tie

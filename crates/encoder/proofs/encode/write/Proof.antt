@@ -5,7 +5,8 @@ use Rattle.field_set.proofs.TidyLaws.{lawful-tidy}
 use Rattle.slots.specs.declared.lawful.Side.the-variants.{Encoder}
 use Rattle.reference.proofs.OpenLaws.{share-tidy}
 use Rattle.encoder.proofs.FrontLaws.{planned-sendable}
-use Rattle.encoder.proofs.WriteLaws.{refused-as, unfit, room, short, done-is}
+use Rattle.answers.proofs.AnsweredLaws.{refused-as}
+use Rattle.encoder.proofs.WriteLaws.{unfit, room, short, done-is}
 use borrow.Author.Needs.{needs}
 use Rattle.encoder.proofs.encode.write.Statement.{statement}
 use Rattle.encoder.proofs.encode.write.Tie as tie
