@@ -7,10 +7,12 @@ use mathlib.Core.List.{List}
 use borrow.Author.Tests.{eqb-true, eq-eqb, ne-eqb}
 use lib.Dec.{eqb}
 use Rattle.laws.proofs.TestLaws.{right, and-is, either}
+use Rattle.media.specs.Flags.{wideOf}
+use Rattle.track.specs.declared.Track.{Track}
 use Rattle.byte_parts.specs.declared.Part.{Part}
 use Rattle.cmaf_read_shape.specs.Words.{wordOf, bitOf}
 use Rattle.cmaf_read_tree.specs.Numbers.{u32}
-use Rattle.cmaf_read_moof.specs.Defaults.{fieldsIn, tfhdFlagsOk, tfhdOk, isField, fieldOf}
+use Rattle.cmaf_read_moof.specs.Defaults.{fieldsIn, tfhdFlagsOk, tfhdOk, isField, fieldOf, defaultsOf}
 use Rattle.cmaf_read_shape.proofs.WordLaws.{fails, four-less}
 
 -- ---- the four flags
@@ -81,3 +83,9 @@ module _ (c : List ℕ) (b : Part) where
   unfolding fieldOf
   field-own flag other word n r e h k s =
       s ∙ ap (λ (m : ℕ). u32 c (b .at + 16 + 4 * m)) k ∙ sym (simp (sym e, ne-eqb (bitOf word flag) 0 h))
+
+  -- what was found, field by field
+  pub defaults-are : (t : Track) {n d u s g : ℕ} → n ≡ u32 c (b .at + 12) → d ≡ fieldOf c b 0x2 (t .description) → u ≡ fieldOf c b 0x8 (t .duration)
+      → s ≡ fieldOf c b 0x10 (t .size) → g ≡ fieldOf c b 0x20 (wideOf (t .flags))
+      → record { track = n; description = d; duration = u; size = s; flags = g } ≡ defaultsOf t c b
+  defaults-are t hn hd hu hs hg = rw (hn, hd, hu, hs, hg) refl

@@ -13,7 +13,7 @@ use Rattle.laws.proofs.PartLaws.{joined}
 use Rattle.boxes.specs.Box.{words}
 use Rattle.boxes.proofs.BoxLaws.{length-fullBox, fullBox-head}
 use Rattle.boxes.specs.Box as B
-use Rattle.cmaf_write_emsg.specs.Emsg.{emsgBox, emsgBoxes, emsgMost, EventShort, EventsShort}
+use Rattle.cmaf_write_emsg.specs.Emsg.{emsgBox, emsgBoxes, emsgHead, emsgMost, EventShort, EventsShort}
 use Rattle.event_value.specs.Events.{Event, eventAt, eventsFrom, EventFits, EventsFit, eventWords, eventSchemeLen, eventValueLen, eventMessageLen}
 use Rattle.event_value.proofs.PartLaws.{part-length}
 use Rattle.constants.specs.Maxima.{eventsMost}
@@ -43,9 +43,7 @@ pub events-short : {o ws : List ℕ} {k : ℕ} → EventsFit o ws k → EventsSh
 events-short h = record { few = h .few; each = λ i lt. fits-short (h .each i lt) }
 
 abbrev pub emsgParts : Event → ℕ → List (List ℕ)
-emsgParts e size =
-    words (size ∷ B.emsg ∷ 0x100_0000 ∷ e .timescale ∷ (e .time / 2 ^ 32) ∷ e .time ∷ e .duration ∷ e .id ∷ [])
-    ∷ (e .scheme ++ (0 ∷ [])) ∷ (e .value ++ (0 ∷ [])) ∷ e .message ∷ []
+emsgParts e size = emsgHead size e ∷ (e .scheme ++ (0 ∷ [])) ∷ (e .value ++ (0 ∷ [])) ∷ e .message ∷ []
 
 module _ (e : Event) where
   abbrev strings : List ℕ
@@ -63,7 +61,7 @@ module _ (e : Event) where
       ∙ ap (λ (l : List ℕ). be 4 (e .timescale) ++ (be 8 (e .time) ++ (be 4 (e .duration) ++ (be 4 (e .id) ++ l)))) ended
 
   pub emsg-parts : (size : ℕ) → size ≡ length (emsgBox e) → joined (emsgParts e size) ≡ emsgBox e
-  unfolding emsgBox
+  unfolding emsgBox emsgHead
   emsg-parts size h =
       fullBox-head B.emsg 1 0 size 0x100_0000 (e .timescale ∷ (e .time / 2 ^ 32) ∷ e .time ∷ e .duration ∷ e .id ∷ []) strings emsg-words refl (h ∙ emsg-whole e)
 

@@ -1,9 +1,9 @@
 -- The `emsg` boxes, written.
-use Prim.Native.Nat.{ℕ, _+_, _*_, _≤_, _<_}
+use Prim.Native.Nat.{ℕ, _+_, _*_, _/_, _^_, _≤_, _<_}
 use mathlib.Core.List.{List, [], _∷_, _++_}
 use lib.ListN.{length, getD}
 use Rattle.laws.specs.Bytes.{be}
-use Rattle.boxes.specs.Box.{fullBox}
+use Rattle.boxes.specs.Box.{fullBox, words}
 use Rattle.boxes.specs.Box as B
 use Rattle.constants.specs.Maxima.{eventsMost, blockMost}
 use Rattle.event_value.specs.Events.{Event, eventWords, eventSchemeLen, eventValueLen, eventMessageLen}
@@ -21,6 +21,10 @@ emsgBoxes [] = []
 emsgBoxes (e ∷ es) = emsgBox e ++ emsgBoxes es
 
 -- ==== What only mirrors the code
+
+-- all of a box of so many bytes before its strings, as words of four bytes
+unfoldable pub emsgHead : ℕ → Event → List ℕ
+emsgHead size e = words (size ∷ B.emsg ∷ 0x100_0000 ∷ e .timescale ∷ (e .time / 2 ^ 32) ∷ e .time ∷ e .duration ∷ e .id ∷ [])
 
 -- no box is longer, since none of an event's parts has more bytes than a block
 abbrev pub emsgMost : ℕ

@@ -6,8 +6,8 @@ ghost use Prim.Native.Nat.{ℕ, _+_, _*_, _≤_};
 ghost use lib.ListN.{length};
 ghost use Rattle.laws.specs.Writes.{Wrote};
 ghost use Rattle.constants.specs.Maxima.{eventsMost};
-ghost use Rattle.event_value.specs.Events.{part, eventAt, eventsOf, Inside, EventFits, EventsFit};
-ghost use Rattle.cmaf_write_emsg.specs.Emsg.{emsgBox, emsgBoxes, emsgMost, EventShort, EventsShort};
+ghost use Rattle.event_value.specs.Events.{part, eventWords, eventAt, eventsOf, Inside, EventFits, EventsFit};
+ghost use Rattle.cmaf_write_emsg.specs.Emsg.{emsgBox, emsgBoxes, emsgHead, emsgMost, EventShort, EventsShort};
 use boxes::kinds;
 use boxes::put;
 
@@ -43,15 +43,16 @@ fn emsg_length(event: &[u64]) -> usize
     34 + scheme + value + message
 }
 
-fn put_emsg(o: &[u8], event: &[u64], out: &mut [u8], at: usize) -> usize
-    requires { ⌜ EventFits (now o) (now event) 0 ⌝ }
-    requires { ⌜ at + length (emsgBox (eventAt (now o) (now event) 0)) ≤ length (now out) ⌝ }
-    ensures { λ r. ⌜ Wrote (now (out .entry)) at (emsgBox (eventAt (now (o .entry)) (now (event .entry)) 0))
+// The head of the event's `emsg`, which has so many bytes, and its numbers: all before its strings.
+fn put_head(event: &[u64], size: usize, out: &mut [u8], at: usize) -> usize
+    requires { ⌜ eventWords ≤ length (now event) ⌝ }
+    requires { ⌜ at + length (emsgHead size (eventAt [] (now event) 0)) ≤ length (now out) ⌝ }
+    ensures { λ r. ⌜ Wrote (now (out .entry)) at (emsgHead size (eventAt [] (now (event .entry)) 0))
         (now (out .exit)) r ⌝ }
 {
     let time = event[event_value::TIME];
     let head: [u64; 8] = [
-        emsg_length(event) as u64,
+        size as u64,
         kinds::EMSG,
         0x100_0000,
         event[event_value::TIMESCALE],
@@ -60,7 +61,16 @@ fn put_emsg(o: &[u8], event: &[u64], out: &mut [u8], at: usize) -> usize
         event[event_value::DURATION],
         event[event_value::ID],
     ];
-    let a = put::put_words(out, at, &head);
+    put::put_words(out, at, &head)
+}
+
+fn put_emsg(o: &[u8], event: &[u64], out: &mut [u8], at: usize) -> usize
+    requires { ⌜ EventFits (now o) (now event) 0 ⌝ }
+    requires { ⌜ at + length (emsgBox (eventAt (now o) (now event) 0)) ≤ length (now out) ⌝ }
+    ensures { λ r. ⌜ Wrote (now (out .entry)) at (emsgBox (eventAt (now (o .entry)) (now (event .entry)) 0))
+        (now (out .exit)) r ⌝ }
+{
+    let a = put_head(event, emsg_length(event), out, at);
     let b = put_string(
         o,
         event[event_value::SCHEME] as usize,

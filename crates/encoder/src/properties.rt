@@ -1,5 +1,5 @@
 // The property block of an object: its tuples ascending by id, weighed first and then written.
-// Letters: `t` the track, `s` the words of a share, `c` a chunk's bytes, `k` what was read of a chunk, `x` the words of the new set.
+// Letters: `t` the track, `s` the words of a share, `c` a chunk's bytes, `k` what was read of a chunk, `x` the words of the new set, `p` a prft.
 ghost use mathlib.Core.Path.{_≡_};
 ghost use mathlib.Core.Bool.{true};
 ghost use mathlib.Core.List.{List};
@@ -8,11 +8,12 @@ ghost use lib.ListN.{length};
 ghost use Rattle.wire.specs.Form.{rows};
 ghost use Rattle.laws.specs.Options.{isSome};
 ghost use Rattle.constants.specs.Maxima.{brandBytesMost, eventBytesMost};
+ghost use Rattle.share_words.specs.Share.{shareLen};
 ghost use Rattle.cmaf_read_shape.specs.Parts.{endOf};
 ghost use Rattle.locmaf_write_events.specs.Records.{AllWords, sentOf};
 ghost use Rattle.locmaf_write_tuples.specs.Items.{pairMost, weightMost, WeighedAs, RoomFor, WroteItems};
 ghost use Rattle.encoder.specs.Object.{brandItems, eventItems, blockItems};
-ghost use Rattle.encoder.specs.Planned.{BrandBytes, brandsAt, Recorded, Encodable, ReadOfOne, OfEach, Held};
+ghost use Rattle.encoder.specs.Planned.{BrandBytes, brandsAt, outsideItems, Recorded, Encodable, ReadOfOne, OfEach, Held};
 use byte_parts::Part;
 use cmaf_read_chunk::read::Chunk;
 use constants::ids;
@@ -23,6 +24,7 @@ use locmaf_write_prft::prft;
 use locmaf_write_tuples::tuples;
 use locmaf_write_tuples::tuples::Weight;
 use media::clocks::TrackTicks;
+use prft_value::Prft;
 use share_words::share;
 use track::Track;
 use wire::form::Form;
@@ -141,6 +143,31 @@ pub fn block_size(
     )
 }
 
+// The `prft` and the brands, ids 18 to 24: what stands between the fields of the `moof` and the events.
+fn put_outside(
+    form: Form,
+    delta: bool,
+    p: Prft,
+    s: &[u64],
+    c: &[u8],
+    body: Part,
+    out: &mut [u8],
+    at: usize,
+) -> usize
+    requires { ⌜ length (now s) ≡ shareLen ⌝ }
+    requires { ⌜ BrandBytes (body .len) × (endOf body ≤ length (now c)) ⌝ }
+    requires { ⌜ isSome (outsideItems (rows form) delta (now s) p (brandsAt (now c) body)) ≡ true ⌝ }
+    requires { ⌜ RoomFor (rows form) (outsideItems (rows form) delta (now s) p (brandsAt (now c) body)) (now out) at ⌝ }
+    ensures { λ r. ⌜ WroteItems (rows form)
+        (outsideItems (rows form) delta (now (s .entry)) p (brandsAt (now (c .entry)) body))
+        (now (out .entry)) at (now (out .exit)) r ⌝ }
+{
+    let u = prft::put_times(form, delta, p, s, out, at);
+    let v = prft::put_version(form, delta, p, s, out, u);
+    let w = put_brands(form, delta, c, body, out, v);
+    prft::put_flags(form, delta, p, s, out, w)
+}
+
 pub fn put_block(
     form: Form,
     t: Track,
@@ -164,11 +191,8 @@ pub fn put_block(
     let p = k.prft;
     let b = set::basis_of(t, delta, r, x);
     let u = set::put_set(form, t, b, r, x, out, at);
-    let v = prft::put_times(form, delta, p, s, out, u);
-    let w = prft::put_version(form, delta, p, s, out, v);
-    let y = put_brands(form, delta, c, k.brands, out, w);
-    let z = prft::put_flags(form, delta, p, s, out, y);
-    let e = put_events(
+    let v = put_outside(form, delta, p, s, c, k.brands, out, u);
+    let w = put_events(
         form,
         t,
         TrackTicks(x[lines::BMDT]),
@@ -177,7 +201,7 @@ pub fn put_block(
         k.events,
         k.list,
         out,
-        z,
+        v,
     );
-    deletions::put_deletions(form, b, r, x, out, e)
+    deletions::put_deletions(form, b, r, x, out, w)
 }

@@ -73,6 +73,19 @@ within-at i lt m w h =
 pub within : {l : Line} {m : Measure} {w : List ℕ} → ChunkLine l → Measured m w → Within l m w
 within {l} {m} {w} k h = rw (k .found) (within-at (k .number) (omega (arith, k .below)) m w h)
 
+-- the id of a line is low
+pub line-low : {l : Line} → ChunkLine l → l .id < idCount
+unfolding short
+line-low k = rw (k .found) (ltb-true _ _ (left _ _ (every-at short lines (k .number) spare all-short (omega (arith, line-count, k .below)))))
+
+-- a line with room for one value has one, which lies in a set's words
+pub line-single : {l : Line} {m : Measure} {r : List ℕ} (x : List ℕ) → ChunkLine l → Measured m r → length x ≡ setLen → l .room ≡ 1
+    → (l .place + 2 ≤ length r) × ((l .place + 2 ≤ length x) × (l .want ≡ One))
+line-single {l} x k h long e =
+    let one : l .room ≡ 1 → l .want ≡ One = rw (k .found) (shaped (k .number) (omega (arith, k .below)) .single) in
+    let w = within k h .region in
+    (omega (arith, w, e), (omega (arith, w, e, h .long, long), one e))
+
 -- a field of the table, in both sets
 pub record Field (t : Track) (b : Basis) (r x : List ℕ) (l : Line) : Type 0 where
   pub there : l .place + 1 + l .room ≤ length r

@@ -1,11 +1,12 @@
 -- What stands in an object of a field that is sent, by its line: IVs, one number, or a list. Assumes nothing.
 use Prim.Native.Nat.{ℕ, suc, _+_, _-_, _*_, _≤_}
 use native.Mathlib.Omega.{arith}
-use mathlib.Core.Path.{_≡_, sym, _∙_, ap}
+use mathlib.Core.Path.{_≡_, refl, sym, _∙_, ap}
 use mathlib.Core.Bool.{Bool, true, false}
 use mathlib.Core.List.{List, [], _∷_, _++_, append-assoc}
 use mathlib.Core.Option.{some}
-use borrow.Author.Tests.{eq-eqb, ne-eqb}
+use borrow.Author.Tests.{eqb-true, eqb-false, eq-eqb, ne-eqb}
+use lib.Dec.{eqb}
 use lib.ListN.{length, getD, take, drop}
 use lib.Seq.{slice, slice-cons, length-slice}
 use Rattle.laws.proofs.SliceLaws.{slice-lent}
@@ -29,7 +30,7 @@ use Rattle.field_rules.specs.Fields.{codingFor, codingOf, isIvs, oldValues}
 use Rattle.locmaf_write_tuples.specs.declared.tuples.Weight.{Weight}
 use Rattle.locmaf_write_block.specs.declared.cells.Basis.{Basis}
 use Rattle.locmaf_write_tuples.specs.Items.{itemsIf, numberItem, runItem, wideBytes, bytesOf, pairMost, WeighedAs}
-use Rattle.locmaf_write_block.specs.Changes.{news, olds, sentItems, listItem, lineMost}
+use Rattle.locmaf_write_block.specs.Changes.{news, olds, sentItems, listItem, codedItem, lineMost}
 use Rattle.locmaf_write_tuples.proofs.ItemLaws.{block-one, run-length}
 use Rattle.locmaf_write_block.proofs.WideLaws.{wide-length}
 use Rattle.locmaf_write_block.proofs.FieldLaws.{Field}
@@ -58,6 +59,14 @@ module _ (F : List Row) (t : Track) (delta : Bool) (r x : List ℕ) (l : Line) w
     unfolding sentItems
     list-is e = rw (no, ne-eqb (l .room) 1 e)
 
+-- how many values are lent
+pub lent-length : (l : Line) (x : List ℕ) (k : ℕ) → l .place + 1 + k ≤ length x
+    → length (take (l .place + 1 + k - (l .place + 1)) (drop (l .place + 1) x)) ≡ k
+lent-length l x k room =
+    ap length (slice-lent (l .place + 1) (l .place + 1 + k) x (omega arith) room)
+    ∙ length-slice (l .place + 1) (l .place + 1 + k) x room
+    ∙ omega arith
+
 module _ {t : Track} {b : Basis} {r x : List ℕ} {l : Line} (f : Field t b r x l) where
   -- k new values: they have room, and are few
   module _ (k : ℕ) (ek : k ≡ wanted (l .want) (b .now)) where
@@ -73,15 +82,9 @@ module _ {t : Track} {b : Basis} {r x : List ℕ} {l : Line} (f : Field t b r x 
         slice-lent (l .place + 1) (l .place + 1 + k) x (omega arith) new-room
         ∙ ap (λ (n : ℕ). slice (l .place + 1) (l .place + 1 + n) x) (ek ∙ ap (wanted (l .want)) (f .now-is))
 
-    pub lent-length : length (take (l .place + 1 + k - (l .place + 1)) (drop (l .place + 1) x)) ≡ k
-    lent-length =
-        ap length (slice-lent (l .place + 1) (l .place + 1 + k) x (omega arith) new-room)
-        ∙ length-slice (l .place + 1) (l .place + 1 + k) x new-room
-        ∙ omega arith
-
     -- their bytes, eight a word
     wide-many : 8 * k ≡ length (wideBytes (news t (b .delta) r x l))
-    wide-many = sym (wide-length (news t (b .delta) r x l) ∙ ap (λ (m : ℕ). 8 * m) (ap length (sym news-lent) ∙ lent-length))
+    wide-many = sym (wide-length (news t (b .delta) r x l) ∙ ap (λ (m : ℕ). 8 * m) (ap length (sym news-lent) ∙ lent-length l x k new-room))
 
     -- IVs
     module _ (ivs : isIvs (l .want) ≡ true) where
@@ -103,12 +106,12 @@ module _ {t : Track} {b : Basis} {r x : List ℕ} {l : Line} (f : Field t b r x 
           encode F (l .id) ++ encode F (8 * length ws) ++ wideBytes ws ≡ bytesOf F (sentItems t (b .delta) r x l F)
       ivs-wrote F =
           let ws : List ℕ = take (l .place + 1 + k - (l .place + 1)) (drop (l .place + 1) x) in
-          ap (λ (n : ℕ). encode F (l .id) ++ encode F (8 * n) ++ wideBytes ws) lent-length ∙ ivs-bytes F
+          ap (λ (n : ℕ). encode F (l .id) ++ encode F (8 * n) ++ wideBytes ws) (lent-length l x k new-room) ∙ ivs-bytes F
 
       pub ivs-room : (F : List Row) (out : List ℕ) (at : ℕ) → at + length (bytesOf F (sentItems t (b .delta) r x l F)) ≤ length out
           → let ws : List ℕ = take (l .place + 1 + k - (l .place + 1)) (drop (l .place + 1) x) in
           (length ws ≤ subsamplesMost) × (at + length (encode F (l .id) ++ encode F (8 * length ws) ++ wideBytes ws) ≤ length out)
-      ivs-room F out at h = (omega (arith, lent-length, new-few), omega (arith, h, ap length (ivs-wrote F)))
+      ivs-room F out at h = (omega (arith, lent-length l x k new-room, new-few), omega (arith, h, ap length (ivs-wrote F)))
 
       -- and weighed
       pub weighed-ivs : (form : Form) (n : ℕ) {w : Weight}
@@ -136,33 +139,43 @@ module _ {t : Track} {b : Basis} {r x : List ℕ} {l : Line} (f : Field t b r x 
 
   -- numbers, with what code found for its parameters
   module _ (F : List Row) (ivs : Bool) (ei : ivs ≡ isIvs (l .want)) (no : ivs ≡ false)
-      (co : Coding) (ec : co ≡ codingOf (codingFor (b .delta)) (l .absent)) (base : ℕ) (eb : base ≡ absentValue t (l .absent)) where
+      (co : Coding) (ec : co ≡ codingOf (codingFor (b .delta)) (l .absent)) (base : ℕ) (eb : base ≡ absentValue t (l .absent))
+      (k : ℕ) (ek : k ≡ wanted (l .want) (b .now)) where
     -- one
-    pub number-is : l .room ≡ 1 → (old : ℕ) → old ≡ first base (oldValues (b .delta) r (b .was) l)
-        → (z : Coded) → z ≡ codeOf F co old (getD x (l .place + 1) 0)
-        → itemsIf true (numberItem (l .id) z) ≡ sentItems t (b .delta) r x l F
-    unfolding itemsIf wanted
-    number-is e old eo z ez =
+    number-is : l .room ≡ 1
+        → numberItem (l .id) (codeOf F co (first base (oldValues (b .delta) r (b .was) l)) (getD x (l .place + 1) 0)) ≡ sentItems t (b .delta) r x l F
+    unfolding wanted
+    number-is e =
         let s : slice (l .place + 1) (l .place + 1 + 1) x ≡ getD x (l .place + 1) 0 ∷ slice (suc (l .place + 1)) (l .place + 1 + 1) x =
         slice-cons (l .place + 1) (l .place + 1 + 1) x 0 (omega arith) (omega (arith, f .here)) in
         let now : getD x (l .place + 1) 0 ≡ first 0 (news t (b .delta) r x l) = rw (f .single e, s) in
-        let was : old ≡ first (absentValue t (l .absent)) (olds t (b .delta) r x l) = eo ∙ rw (eb, f .was-is) in
-        ap (numberItem (l .id)) (ez ∙ rw (ec, was, now)) ∙ one-is F t (b .delta) r x l (sym ei ∙ no) e
+        rw (ec, eb, f .was-is, now) (one-is F t (b .delta) r x l (sym ei ∙ no) e)
 
     -- a list
-    pub list-lent : (l .room ≡ 1 → ⊥) → (k : ℕ) → k ≡ wanted (l .want) (b .now) → (u : ℕ)
-        → (l .place + 1 + u ≤ length r) × (oldValues (b .delta) r (b .was) l ≡ slice (l .place + 1) (l .place + 1 + u) r)
-        → runItem F co (l .id) base (take (l .place + 1 + u - (l .place + 1)) (drop (l .place + 1) r))
-        (take (l .place + 1 + k - (l .place + 1)) (drop (l .place + 1) x))
-        ≡ sentItems t (b .delta) r x l F
-    list-lent e k ek u h =
-        rw (olds-lent u h, news-lent k ek, ec, eb) (list-is F t (b .delta) r x l (sym ei ∙ no) e)
-
-    -- with its values as code finds them
-    pub list-found : (l .room ≡ 1 → ⊥) → (k : ℕ) → k ≡ wanted (l .want) (b .now) → listItem F co b r x l k base ≡ sentItems t (b .delta) r x l F
-    list-found e k ek =
+    list-found : (l .room ≡ 1 → ⊥) → listItem F co b r x l k base ≡ sentItems t (b .delta) r x l F
+    list-found e =
         let n : k ≡ wanted (l .want) (measureOf t x) = ek ∙ ap (wanted (l .want)) (f .now-is) in
         rw (f .was-is, n, ec, eb) (list-is F t (b .delta) r x l (sym ei ∙ no) e)
+
+    -- either
+    pub coded-is : codedItem F co b r x l k base ≡ sentItems t (b .delta) r x l F
+    unfolding codedItem
+    coded-is = go (eqb (l .room) 1) refl
+      where
+        go : (z : Bool) → eqb (l .room) 1 ≡ z → codedItem F co b r x l k base ≡ sentItems t (b .delta) r x l F
+        go true e = rw e (number-is (eqb-true _ _ e))
+        go false e = rw e (list-found (eqb-false _ _ e))
+
+-- numbers, one or a list
+module _ (F : List Row) (co : Coding) (b : Basis) (r x : List ℕ) (l : Line) (k base : ℕ) where
+  pub one-coded : l .room ≡ 1 → (z : Coded) → z ≡ codeOf F co (first base (oldValues (b .delta) r (b .was) l)) (getD x (l .place + 1) 0)
+      → itemsIf true (numberItem (l .id) z) ≡ codedItem F co b r x l k base
+  unfolding itemsIf codedItem
+  one-coded e z ez = rw (ez, eq-eqb (l .room) 1 e)
+
+  pub list-coded : (l .room ≡ 1 → ⊥) → listItem F co b r x l k base ≡ codedItem F co b r x l k base
+  unfolding codedItem
+  list-coded e = rw (ne-eqb (l .room) 1 e)
 
 -- a list as it is lent
 pub lent-list : (F : List Row) (co : Coding) (b : Basis) (r x : List ℕ) (l : Line) (k base u : ℕ) → l .place + 1 + k ≤ length x

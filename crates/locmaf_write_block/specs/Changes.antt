@@ -113,6 +113,13 @@ abbrev pub listItem : List Row → Coding → Basis → List ℕ → List ℕ �
 listItem F c b r x l k base =
     runItem F c (l .id) base (oldValues (b .delta) r (b .was) l) (slice (l .place + 1) (l .place + 1 + k) x)
 
+-- the item of a field that is sent as numbers, one or a list of k
+unfoldable pub codedItem : List Row → Coding → Basis → List ℕ → List ℕ → Line → ℕ → ℕ → Items
+codedItem F c b r x l k base =
+    cond (eqb (l .room) 1)
+    (numberItem (l .id) (codeOf F c (first base (oldValues (b .delta) r (b .was) l)) (getD x (l .place + 1) 0)))
+    (listItem F c b r x l k base)
+
 -- the most bytes of a field: no list is longer than that of the subsamples
 abbrev pub lineMost : ℕ
 lineMost = pairMost + 8 * subsamplesMost

@@ -18,7 +18,7 @@ ghost use Rattle.runs.specs.Run.{first};
 ghost use Rattle.track.specs.declared.Track.{Track};
 ghost use Rattle.field_rules.specs.Fields.{stood, oldValues};
 ghost use Rattle.locmaf_write_tuples.specs.Items.{wideBytes, WeighedAs, RoomFor, WroteItems};
-ghost use Rattle.locmaf_write_block.specs.Changes.{chunkLines, same, stands, changeOf, sentItems, Based, ChunkLine, Measured, lineMost, listItem};
+ghost use Rattle.locmaf_write_block.specs.Changes.{chunkLines, same, stands, changeOf, sentItems, Based, ChunkLine, Measured, lineMost, listItem, codedItem};
 ghost use Rattle.locmaf_write_block.specs.Fields.{fieldAt};
 use field_rules::rules::absent_value;
 use field_rules::rules::field_coding;
@@ -157,6 +157,33 @@ fn number_of(form: Form, c: Coding, b: Basis, r: &[u64], x: &[u64], l: Line, bas
     wire::zigzag::code(form, c, old_value(b, r, l, base), x[from])
 }
 
+// What a field that is sent as numbers takes, one or a list of k: any field but the IVs.
+fn coded_size(
+    form: Form,
+    c: Coding,
+    b: Basis,
+    r: &[u64],
+    x: &[u64],
+    l: Line,
+    k: usize,
+    base: u64,
+) -> Weight
+    requires { ⌜ ChunkLine l ⌝ }
+    requires { ⌜ Measured (b .was) (now r) ⌝ }
+    requires { ⌜ (l .place + 1 + k ≤ length (now x)) × (length (now x) ≡ setLen) ⌝ }
+    requires { ⌜ k ≤ subsamplesMost ⌝ }
+    ensures { λ w. ⌜ WeighedAs (rows form) (codedItem (rows form) c b (now (r .entry)) (now (x .entry)) l k base)
+        lineMost w ⌝ }
+{
+    let from = l.place + 1;
+    if l.room == 1 {
+        let z = number_of(form, c, b, r, x, l, base);
+        return tuples::number_size(form, true, l.id, z);
+    }
+    let u = old_length(b, r, l);
+    tuples::run_size(form, c, l.id, &x[from..from + k], &r[from..from + u], base)
+}
+
 // A field that is sent.
 fn sent_size(form: Form, t: Track, b: Basis, r: &[u64], x: &[u64], l: Line) -> Weight
     requires { ⌜ Based t b (now r) (now x) ⌝ }
@@ -168,19 +195,13 @@ fn sent_size(form: Form, t: Track, b: Basis, r: &[u64], x: &[u64], l: Line) -> W
     let want = l.want;
     let absent = l.absent;
     let now = b.now;
-    let from = l.place + 1;
     let k = lines::length_of(want, now);
     let c = field_coding(b.delta, absent);
     let base = absent_value(t, absent);
     if is_ivs(want) {
         return tuples::whole(tuples::body_size(form, l.id, 8 * k));
     }
-    if l.room == 1 {
-        let z = number_of(form, c, b, r, x, l, base);
-        return tuples::number_size(form, true, l.id, z);
-    }
-    let u = old_length(b, r, l);
-    tuples::run_size(form, c, l.id, &x[from..from + k], &r[from..from + u], base)
+    coded_size(form, c, b, r, x, l, k, base)
 }
 
 // The tuple of the IVs.
@@ -231,6 +252,34 @@ fn put_list(
     )
 }
 
+// The tuple of one number or of a list of k.
+fn put_coded(
+    form: Form,
+    c: Coding,
+    b: Basis,
+    r: &[u64],
+    x: &[u64],
+    l: Line,
+    k: usize,
+    base: u64,
+    out: &mut [u8],
+    at: usize,
+) -> usize
+    requires { ⌜ ChunkLine l ⌝ }
+    requires { ⌜ Measured (b .was) (now r) ⌝ }
+    requires { ⌜ (l .place + 1 + k ≤ length (now x)) × (length (now x) ≡ setLen) ⌝ }
+    requires { ⌜ isSome (codedItem (rows form) c b (now r) (now x) l k base) ≡ true ⌝ }
+    requires { ⌜ RoomFor (rows form) (codedItem (rows form) c b (now r) (now x) l k base) (now out) at ⌝ }
+    ensures { λ p. ⌜ WroteItems (rows form) (codedItem (rows form) c b (now (r .entry)) (now (x .entry)) l k base)
+        (now (out .entry)) at (now (out .exit)) p ⌝ }
+{
+    if l.room == 1 {
+        let z = number_of(form, c, b, r, x, l, base);
+        return tuples::put_number(form, true, l.id, z, out, at);
+    }
+    put_list(form, c, b, r, x, l, k, base, out, at)
+}
+
 fn put_sent(
     form: Form,
     t: Track,
@@ -259,11 +308,7 @@ fn put_sent(
     if is_ivs(want) {
         return put_ivs(form, l.id, &x[from..from + k], out, at);
     }
-    if l.room == 1 {
-        let z = number_of(form, c, b, r, x, l, base);
-        return tuples::put_number(form, true, l.id, z, out, at);
-    }
-    put_list(form, c, b, r, x, l, k, base, out, at)
+    put_coded(form, c, b, r, x, l, k, base, out, at)
 }
 
 // The bytes of one field's tuple; none of one that is omitted or deleted. Most fields don't stand in a chunk, and for those the place of their

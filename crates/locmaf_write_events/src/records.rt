@@ -140,20 +140,18 @@ fn put_marks(
     ensures { λ r. ⌜ Wrote (now (out .entry)) at
         (encMarks (rows form) (sentAt t (bmdt .0) [] (now (event .entry)) 0)) (now (out .exit)) r ⌝ }
 {
-    let c = time_number(
-        form,
-        t,
-        bmdt,
-        event[event_value::TIMESCALE],
-        event[event_value::TIME],
-    );
+    let scale = event[event_value::TIMESCALE];
+    let time = event[event_value::TIME];
+    let duration = event[event_value::DURATION];
+    let id = event[event_value::ID];
+    let c = time_number(form, t, bmdt, scale, time);
     let Coded::Number(z) = c else {
         return at;
     };
-    let a = wire::varint::put(form, out, at, scale_of(t, event[event_value::TIMESCALE]));
+    let a = wire::varint::put(form, out, at, scale_of(t, scale));
     let b = wire::varint::put(form, out, a, z);
-    let d = wire::varint::put(form, out, b, event[event_value::DURATION]);
-    wire::varint::put(form, out, d, event[event_value::ID])
+    let d = wire::varint::put(form, out, b, duration);
+    wire::varint::put(form, out, d, id)
 }
 
 // The event's record.

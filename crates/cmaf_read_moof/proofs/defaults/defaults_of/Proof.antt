@@ -1,8 +1,8 @@
 -- `cmaf_read_moof::defaults::defaults_of` meets its contract: field by field. Assumes nothing.
 use native.Mathlib.Omega.{arith}
-use mathlib.Core.Path.{refl}
-use Rattle.cmaf_read_moof.specs.Defaults.{isField}
-use Rattle.cmaf_read_moof.proofs.DefaultLaws.{tfhd-long}
+use mathlib.Core.Path.{refl, _∙_, ap}
+use Rattle.cmaf_read_moof.specs.Defaults.{isField, fieldOf}
+use Rattle.cmaf_read_moof.proofs.DefaultLaws.{tfhd-long, defaults-are}
 use borrow.Author.Needs.{needs}
 use Rattle.cmaf_read_moof.proofs.defaults.defaults_of.Statement.{statement}
 use Rattle.cmaf_read_moof.proofs.defaults.defaults_of.Tie as tie
@@ -52,16 +52,22 @@ field-of-requires-4 c κs =
     (s .pre .0, (s .pre .1, (refl, omega arith)))
 
 returns : tie.Need-returns
-returns c = (
-  cc,
-  record {
-    track-lt = c .before .before .before .before .before .before .before .before .u32-at .ensures .1;
-    description-lt = c .before .before .before .before .before .before .field-of .ensures .1;
-    duration-lt = c .before .before .before .before .field-of2 .ensures .1;
-    size-lt = c .before .before .field-of3 .ensures .1;
-    flags-lt = c .field-of4 .ensures .1;
-  },
-)
+returns c =
+    let b₃ = c .before .before in
+    let b₂ = b₃ .before .before in
+    let b₁ = b₂ .before .before in
+    let b = b₁ .before .before in
+    let s = b .before .before .before .before .before in (
+      defaults-are (s .args .c .now) (s .args .b) (s .args .t) (b .u32-at .ensures .0) (b₁ .field-of .ensures .0) (b₂ .field-of2 .ensures .0)
+          (b₃ .field-of3 .ensures .0) (c .field-of4 .ensures .0 ∙ ap (fieldOf (s .args .c .now) (s .args .b) 0x20) (b .before .before .of-five .ensures)),
+      record {
+        track-lt = b .u32-at .ensures .1;
+        description-lt = b₁ .field-of .ensures .1;
+        duration-lt = b₂ .field-of2 .ensures .1;
+        size-lt = b₃ .field-of3 .ensures .1;
+        flags-lt = c .field-of4 .ensures .1;
+      },
+    )
 
 pub defaults-of-spec : {M : Type 1} → statement M
 defaults-of-spec =

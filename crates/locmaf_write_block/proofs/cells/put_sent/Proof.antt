@@ -1,15 +1,14 @@
 -- `locmaf_write_block::cells::put_sent` meets its contract. Assumes nothing.
 use borrow.Author.Needs.{needs}
 use native.Mathlib.Omega.{arith}
-use mathlib.Core.Path.{refl, sym, _∙_}
+use mathlib.Core.Path.{sym, _∙_}
 use Rattle.wire.specs.Form.{rows}
-use Rattle.locmaf_write_tuples.proofs.ItemLaws.{some-as, room-as}
 use Rattle.locmaf_write_block.proofs.FieldLaws.{measured-old, Field, chunk-field}
 use Rattle.laws.proofs.WriteLaws.{wrote-as}
-use Rattle.locmaf_write_block.proofs.SentLaws.{new-room, ivs-wrote, ivs-room, number-is, list-found}
+use Rattle.locmaf_write_block.proofs.SentLaws.{new-room, ivs-wrote, ivs-room, coded-is}
 use Rattle.locmaf_write_block.proofs.cells.put_sent.Statement.{statement}
 use Rattle.locmaf_write_block.proofs.cells.put_sent.Tie as tie
-use Rattle.locmaf_write_tuples.proofs.PutLaws.{put-as}
+use Rattle.locmaf_write_tuples.proofs.PutLaws.{put-needs, put-as}
 
 -- the field that the call is about
 the-field : (s : tie.Start) → let a = s .args in Field (a .t) (a .b) (a .r .now) (a .x .now) (a .l)
@@ -78,91 +77,44 @@ returns c =
     (ivs-wrote (the-field b₅) _ (b₄ .length-of .ensures) (sym (b₃ .is-ivs .ensures) ∙ b₂ .if1 .taken) (rows (b₅ .args .form)))
     (b₁ .put-ivs .ensures)
 
-number-of-requires : tie.Need-number-of-requires
-number-of-requires c κs =
-    let f = the-field (c .before .before .before .before .before .before .before .before .before .before .before .before) in
-    (omega (arith, f .there, c .if2 .taken), (omega (arith, f .here, c .if2 .taken), f .single (c .if2 .taken)))
-
-put-number-requires : tie.Need-put-number-requires
-put-number-requires c κs =
+put-coded-requires : tie.Need-put-coded-requires
+put-coded-requires c κs =
     let b₁ = c .before in
     let b₂ = b₁ .before in
-    let b₃ = b₂ .before .before in
+    let b₃ = b₂ .before in
     let b₄ = b₃ .before in
     let b₅ = b₄ .before in
-    let b₆ = b₅ .before in
-    let b₇ = b₆ .before .before .before .before .before .before .before in
-    let a = b₇ .args in
-    let f = the-field b₇ in
-    let e = number-is f (rows (a .form)) _ (b₄ .is-ivs .ensures) (b₃ .if1 .left)
-    _ (b₆ .field-coding .ensures) _ (b₅ .absent-value .ensures)
-    (b₂ .if2 .taken) _ refl _ (b₁ .number-of .ensures) in
-    (some-as (rows (a .form)) _ _ e (b₇ .pre .1 .1 .1 .0), room-as (rows (a .form)) _ _ e _ _ (b₇ .pre .1 .1 .1 .1))
+    let b₆ = b₅ .before .before .before .before .before .before in
+    let a = b₆ .args in
+    let f = the-field b₆ in
+    let e = coded-is f (rows (a .form)) _ (b₂ .is-ivs .ensures) (b₁ .if1 .left)
+    _ (b₄ .field-coding .ensures) _ (b₃ .absent-value .ensures) _ (b₅ .length-of .ensures) in (
+      b₆ .pre .1 .0,
+      (
+        measured-old (b₆ .pre .0),
+        (
+          (new-room f _ (b₅ .length-of .ensures), b₆ .pre .0 .0 .new-words),
+          put-needs (rows (a .form)) e _ _ (b₆ .pre .1 .1 .1 .0) (b₆ .pre .1 .1 .1 .1),
+        ),
+      ),
+    )
 
 same-length-2 : tie.Need-same-length-2
 same-length-2 c = search needs
 
 returns-2 : tie.Need-returns-2
 returns-2 c =
-    let b₁ = c .before .before in
-    let b₂ = b₁ .before .before in
-    let b₃ = b₂ .before in
-    let b₄ = b₃ .before .before in
-    let b₅ = b₄ .before in
-    let b₆ = b₅ .before in
-    let b₇ = b₆ .before in
-    let b₈ = b₇ .before .before .before .before .before .before .before in
-    let a = b₈ .args in
-    let f = the-field b₈ in
-    put-as (rows (a .form))
-    (number-is f (rows (a .form)) _ (b₅ .is-ivs .ensures) (b₄ .if1 .left)
-    _ (b₇ .field-coding .ensures) _ (b₆ .absent-value .ensures)
-    (b₃ .if2 .taken) _ refl _ (b₂ .number-of .ensures))
-    (b₁ .put-number .ensures)
-
-put-list-requires : tie.Need-put-list-requires
-put-list-requires c κs =
-    let b₁ = c .before in
-    let b₂ = b₁ .before .before in
+    let b₁ = c .before .before .before .before in
+    let b₂ = b₁ .before in
     let b₃ = b₂ .before in
     let b₄ = b₃ .before in
     let b₅ = b₄ .before in
-    let b₆ = b₅ .before in
-    let b₇ = b₆ .before .before .before .before .before .before in
-    let a = b₇ .args in
-    let f = the-field b₇ in
-    let e = list-found f (rows (a .form)) _ (b₃ .is-ivs .ensures) (b₂ .if1 .left)
-    _ (b₅ .field-coding .ensures) _ (b₄ .absent-value .ensures)
-    (b₁ .if2 .left) _ (b₆ .length-of .ensures) in (
-      b₇ .pre .1 .0,
-      (
-        measured-old (b₇ .pre .0),
-        (
-          (new-room f _ (b₆ .length-of .ensures), b₇ .pre .0 .0 .new-words),
-          (some-as (rows (a .form)) _ _ e (b₇ .pre .1 .1 .1 .0), room-as (rows (a .form)) _ _ e _ _ (b₇ .pre .1 .1 .1 .1)),
-        ),
-      ),
-    )
-
-same-length-3 : tie.Need-same-length-3
-same-length-3 c = search needs
-
-returns-3 : tie.Need-returns-3
-returns-3 c =
-    let b₁ = c .before .before in
-    let b₂ = b₁ .before .before in
-    let b₃ = b₂ .before .before in
-    let b₄ = b₃ .before in
-    let b₅ = b₄ .before in
-    let b₆ = b₅ .before in
-    let b₇ = b₆ .before in
-    let b₈ = b₇ .before .before .before .before .before .before in
-    let a = b₈ .args in
+    let b₆ = b₅ .before .before .before .before .before .before in
+    let a = b₆ .args in
     put-as (rows (a .form))
-    (list-found (the-field b₈) (rows (a .form)) _ (b₄ .is-ivs .ensures) (b₃ .if1 .left)
-    _ (b₆ .field-coding .ensures) _ (b₅ .absent-value .ensures)
-    (b₂ .if2 .left) _ (b₇ .length-of .ensures))
-    (b₁ .put-list .ensures)
+    (coded-is (the-field b₆) (rows (a .form)) _ (b₂ .is-ivs .ensures) (b₁ .if1 .left)
+    _ (b₄ .field-coding .ensures) _ (b₃ .absent-value .ensures) _ (b₅ .length-of .ensures))
+    (c .before .before .put-coded .ensures)
 
 pub put-sent-spec : {M : Type 1} → statement M
 put-sent-spec =
@@ -181,10 +133,6 @@ put-sent-spec =
     put-ivs-requires
     same-length
     returns
-    number-of-requires
-    put-number-requires
+    put-coded-requires
     same-length-2
-    returns-2
-    put-list-requires
-    same-length-3
-    returns-3)
+    returns-2)
