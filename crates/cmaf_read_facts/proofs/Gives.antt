@@ -1,6 +1,6 @@
 -- What a chunk that no rung refuses gives: all that an object is made of, with the maxima. Its set is canonical: what it says differs from what its absence
 -- means, and sizes and subsamples add up; so that the chunk that is built from it gives the same set again. Assumes nothing.
-use Prim.Native.Nat.{ℕ, _-_, _≤_}
+use Prim.Native.Nat.{ℕ, _≤_}
 use native.Mathlib.Omega.{arith}
 use mathlib.Core.Path.{_≡_, sym, _∙_, subst}
 use mathlib.Core.Bool.{true, not, _&&_}

@@ -7,7 +7,6 @@ use mathlib.Core.List.{List, [], _++_}
 use lib.ListN.{length, length-append}
 use Rattle.track.specs.declared.Track.{Track}
 use Rattle.field_set.specs.Lawful.{has}
-use Rattle.boxes.specs.Box as B
 use Rattle.cmaf_write_senc.specs.Protected.{sencBox}
 use Rattle.cmaf_write_saiz.specs.Saiz.{saizBox, saioBox}
 use Rattle.cmaf_write_moof.specs.Moof.{protection}

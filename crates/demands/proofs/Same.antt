@@ -1,9 +1,8 @@
 -- Encoding goes by what a chunk says: two chunks that no rule refuses, and that say the same but for brands that a delta doesn't carry, become the same object. Assumes nothing.
-use Prim.Native.Nat.{ℕ, _-_}
+use Prim.Native.Nat.{ℕ}
 use mathlib.Core.Path.{_≡_, refl, sym, _∙_, ap, ap₂}
 use mathlib.Core.Bool.{Bool, true, false}
 use mathlib.Core.List.{List, _++_}
-use Rattle.laws.specs.Tests.{_and_}
 use Rattle.laws.specs.Ladder.{Rung, ladder, Hold}
 use Rattle.laws.proofs.LadderLaws.{ladder-append, ladder-seen, climbed}
 use Rattle.slots.specs.declared.lawful.Side.the-variants.{Encoder}

@@ -7,7 +7,6 @@ use Rattle.laws.specs.Tests.{sum}
 use Rattle.constants.specs.Maxima.{payloadMost}
 use Rattle.track.specs.declared.Track.{Track}
 use Rattle.field_set.specs.Lawful.{has, valuesOf, valueAt, countIn}
-use Rattle.boxes.specs.Box as B
 
 -- ==== The rules
 

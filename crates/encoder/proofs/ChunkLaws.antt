@@ -1,5 +1,5 @@
 -- What is known of a chunk that was accepted, as the encoder asks it. Assumes nothing.
-use Prim.Native.Nat.{ℕ, _-_, _^_, _≤_, _+_}
+use Prim.Native.Nat.{ℕ, _≤_}
 use native.Mathlib.Omega.{arith}
 use mathlib.Core.Path.{_≡_, refl, subst}
 use mathlib.Core.Logic.{_⊎_, inl, inr}

@@ -1,5 +1,5 @@
 -- The kind of object that is chosen, and all of it before the payload. Assumes nothing.
-use Prim.Native.Nat.{ℕ, _+_, _-_, _^_, _≤_, _<_}
+use Prim.Native.Nat.{ℕ, _+_, _≤_, _<_}
 use native.Mathlib.Omega.{arith}
 use mathlib.Core.Path.{_≡_, refl, sym, _∙_, ap}
 use mathlib.Core.Bool.{Bool, true, false, not, _||_}
@@ -14,7 +14,7 @@ use Rattle.laws.proofs.PartLaws.{joined}
 use Rattle.wire.specs.declared.form.Row.{Row}
 use Rattle.wire.specs.declared.form.Form.{Form}
 use Rattle.wire.specs.Form.{rows, limit}
-use Rattle.wire.specs.Varint.{encode, sizeOf}
+use Rattle.wire.specs.Varint.{encode}
 use Rattle.wire.proofs.VarintLaws.{length-encode}
 use Rattle.wire.proofs.SizeLaws.{limit-62}
 use Rattle.laws.specs.Options.{isSome}

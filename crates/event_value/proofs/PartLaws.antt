@@ -4,7 +4,6 @@ use native.Mathlib.Omega.{arith}
 use mathlib.Core.Path.{_≡_, ap}
 use mathlib.Core.List.{List}
 use lib.ListN.{length, take, drop, length-take, length-drop}
-use Rattle.boxes.specs.Box as B
 use Rattle.event_value.specs.Events.{part}
 
 pub part-is : (o : List ℕ) (place size : ℕ) → take (place + size - place) (drop place o) ≡ part o place size

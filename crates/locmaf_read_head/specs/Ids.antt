@@ -1,6 +1,6 @@
 -- Which ids may stand in an object. 13: "id unknown, twice or forbidden here; a full without 10 or 14; only one of 18 and 20; 22 or 24 without
 -- them; a delta with `prft` ids where the current full has none"; that ids are known and stand once is asked by crate `locmaf_read_index`.
-use Prim.Native.Nat.{ℕ, _*_}
+use Prim.Native.Nat.{ℕ}
 use mathlib.Core.Bool.{Bool, cond, not, _&&_, _||_, Bool·beq}
 use mathlib.Core.List.{List}
 use lib.Dec.{eqb}

@@ -3,7 +3,6 @@ use Prim.Native.Nat.{ℕ, _-_, _^_, _≤_}
 use mathlib.Core.Bool.{Bool, true, false, cond}
 use lib.Dec.{eqb}
 use Rattle.constants.specs.Maxima.{numberMost}
-use Rattle.boxes.specs.Box as B
 use Rattle.prft_value.specs.declared.Prft.{Prft}
 use mathlib.Core.Path.{_≡_}
 use mathlib.Core.Logic.{_⊎_}

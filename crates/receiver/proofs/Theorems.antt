@@ -1,6 +1,6 @@
 -- Receiving an object: its numbers, what a refusal leaves, what the output holds, and that the share keeps its length and stays lawful. Assumes
 -- nothing.
-use Prim.Native.Nat.{ℕ, _-_, _%_, _^_, _≤_, _<_}
+use Prim.Native.Nat.{ℕ, _-_, _%_, _≤_, _<_}
 use native.Mathlib.Omega.{arith}
 use mathlib.Core.Path.{_≡_, refl, sym, _∙_, ap, subst}
 use mathlib.Core.Bool.{Bool, true, false, _&&_}

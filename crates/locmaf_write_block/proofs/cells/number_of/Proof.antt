@@ -1,6 +1,5 @@
 -- `locmaf_write_block::cells::number_of` meets its contract: the code of its new value against its old one. Assumes nothing.
 use borrow.Author.Needs.{needs}
-use mathlib.Core.Path.{_∙_, ap}
 use Rattle.locmaf_write_block.proofs.cells.number_of.Statement.{statement}
 use Rattle.locmaf_write_block.proofs.cells.number_of.Tie as tie
 

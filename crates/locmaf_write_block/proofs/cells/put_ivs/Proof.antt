@@ -1,5 +1,4 @@
 -- `locmaf_write_block::cells::put_ivs` meets its contract: its parts one after another. Assumes nothing.
-use native.Mathlib.Omega.{arith}
 use mathlib.Core.Path.{refl}
 use mathlib.Core.List.{[], _∷_, _++_}
 use Prim.Native.Nat.{_*_}

@@ -3,7 +3,6 @@ use borrow.Author.Needs.{needs}
 use mathlib.Core.Path.{_≡_, _∙_, ap}
 use Rattle.laws.proofs.GateLaws.{failed, held}
 use Rattle.laws.proofs.TestLaws.{all-bytes}
-use mathlib.Core.Bool.{true, false}
 use mathlib.Core.List.{List}
 use Rattle.prft_value.specs.declared.Prft.{Prft}
 use Rattle.wire.specs.declared.form.Row.{Row}

@@ -2,8 +2,6 @@
 use mathlib.Core.Path.{subst}
 use denote.Ref.{now}
 use Rattle.wire.specs.Form.{rows}
-use Rattle.track.specs.declared.Track.{Track}
-use Rattle.receiver.specs.Judge.{Judgeable}
 use Rattle.receiver.specs.Opened.{OpenedAs}
 use Rattle.answers.proofs.AnsweredLaws.{answered-on}
 use Rattle.receiver.proofs.ReceiveLaws.{track-lawful}

@@ -1,6 +1,5 @@
 -- `relay::chunks::steps` is safe and ends: each line ends behind its start and within the text. Assumes nothing.
 use Prim.Native.Nat.{_≤_, _-_}
-use native.Mathlib.Omega.{arith}
 use mathlib.Core.Path.{_≡_}
 use lib.ListN.{length}
 use borrow.Author.Needs.{needs}
