@@ -3,11 +3,13 @@ ghost use mathlib.Core.Path.{_≡_};
 ghost use lib.ListN.{length};
 ghost use Rattle.wire.specs.Form.{rows};
 ghost use Rattle.wire.specs.declared.form.Form.the-variants.{Rfc9000};
+ghost use Rattle.field_table.specs.Lines.{setLen};
 ghost use Rattle.share_words.specs.Share.{shareLen};
 ghost use Rattle.slots.specs.Table.{out, onTable};
 ghost use Rattle.answers.specs.Took.{took};
 ghost use Rattle.answers.specs.Took as T;
 ghost use Rattle.answers.specs.Answered.{AnsweredAs};
+ghost use Rattle.cmaf_read_chunk.specs.Chunks.{ReadAs};
 ghost use Rattle.encoder.specs.Encode.{wished, encoding, onOpen, onAccepted};
 ghost use Rattle.encoder.specs.Planned.{Encodable, OnShare};
 use crate::front;
@@ -60,7 +62,34 @@ fn write(
     }
 }
 
-// A chunk on an open share: number first, then act. No reference has a BMDT past its maximum, so it is asked whatever the wish.
+// A chunk that was read: number first, then act. No reference has a BMDT past its maximum, so it is asked whatever the wish.
+fn take_read(
+    form: Form,
+    t: Track,
+    wish: bool,
+    c: &[u8],
+    s: &mut [u64],
+    k: Chunk,
+    events: &[u64],
+    x: &[u64],
+    output: &mut [u8],
+) -> Answer
+    requires { ⌜ OnShare (rows form) t (now s) (now c) ⌝ }
+    requires { ⌜ ReadAs (rows form) t (now c) k (now events) (now x) ⌝ }
+    requires { ⌜ length (now x) ≡ setLen ⌝ }
+    ensures { λ a. ⌜ AnsweredAs (onOpen (rows form) wish (now (c .entry)) (now (output .entry)) (now (s .entry)))
+        (now (c .entry)) a (now (output .exit)) (now (s .exit)) ⌝ }
+{
+    if k.number != 0 {
+        return answer::refused(k.number);
+    }
+    if maxima::NUMBER < x[lines::BMDT] {
+        return answer::refused(9);
+    }
+    write(form, t, wish, c, s, k, events, x, output)
+}
+
+// A chunk on an open share.
 fn take_chunk(
     form: Form,
     t: Track,
@@ -76,13 +105,7 @@ fn take_chunk(
     let mut events = [0u64; event_value::ALL_WORDS];
     let mut x = [0u64; lines::SET];
     let k = cmaf_read_chunk::read::read_chunk(form, t, c, &mut events, &mut x);
-    if k.number != 0 {
-        return answer::refused(k.number);
-    }
-    if maxima::NUMBER < x[lines::BMDT] {
-        return answer::refused(9);
-    }
-    write(form, t, wish, c, s, k, &events, &x, output)
+    take_read(form, t, wish, c, s, k, &events, &x, output)
 }
 
 // A chunk on a share.

@@ -1,9 +1,7 @@
--- `encoder::encode::take_chunk` meets its contract, by the laws of `proofs/EncodeLaws.antt`. Assumes nothing.
+-- `encoder::encode::take_chunk` meets its contract: what was read is handed on. Assumes nothing.
 use mathlib.Core.Path.{refl}
 use denote.Ref.{now}
-use Rattle.laws.proofs.TestLaws.{all-bytes}
-use Rattle.answers.proofs.AnsweredLaws.{refused-as, answered-on}
-use Rattle.encoder.proofs.EncodeLaws.{iv-small, chunk-stops, chunk-late, encodable, chunk-climbs}
+use Rattle.encoder.proofs.EncodeLaws.{iv-small}
 use borrow.Author.Needs.{needs}
 use Rattle.encoder.proofs.encode.take_chunk.Statement.{statement}
 use Rattle.encoder.proofs.encode.take_chunk.Tie as tie
@@ -19,46 +17,16 @@ read-chunk-requires c κs =
     let b = c .before .before .before .before .before in
     (iv-small _ (b .args .wish) _ (now (b .args .output)) _ _ (b .pre), (refl, refl))
 
-refused-requires : tie.Need-refused-requires
-refused-requires c κs = search needs
+slice-aggregate-take-read : tie.Need-slice-aggregate-take-read
+slice-aggregate-take-read c = search needs
 
-returns : tie.Need-returns
-returns c =
-    let k = c .before .before .before .before .before in
-    let b = k .before .before .before .before .before .before in
-    let a = b .args in
-    refused-as (now (a .c)) (now (a .output)) (now (a .s)) _ (c .refused .ensures)
-    (chunk-stops _ (a .wish) _ (now (a .output)) _ _ (b .pre) _ _ _ (k .read-chunk .ensures) (c .before .if1 .taken))
+slice-aggregate-take-read-2 : tie.Need-slice-aggregate-take-read-2
+slice-aggregate-take-read-2 c = search needs
 
-array-read-if2 : tie.Need-array-read-if2
-array-read-if2 c = search needs
-
-refused-requires-2 : tie.Need-refused-requires-2
-refused-requires-2 c κs = search needs
-
-returns-2 : tie.Need-returns-2
-returns-2 c =
+take-read-requires : tie.Need-take-read-requires
+take-read-requires c κs =
     let k = c .before .before .before .before .before .before in
-    let b = k .before .before .before .before .before .before in
-    let a = b .args in
-    refused-as (now (a .c)) (now (a .output)) (now (a .s)) 9 (c .refused2 .ensures)
-    (chunk-late _ (a .wish) _ (now (a .output)) _ _ (b .pre) _ _ _ (k .read-chunk .ensures)
-    (c .before .before .if1 .left) (c .before .if2 .taken))
-
-slice-aggregate-write : tie.Need-slice-aggregate-write
-slice-aggregate-write c = search needs
-
-slice-aggregate-write-2 : tie.Need-slice-aggregate-write-2
-slice-aggregate-write-2 c = search needs
-
-write-requires : tie.Need-write-requires
-write-requires c κs =
-    let i = c .before .before .before .before in
-    let k = i .before .before .before .before .before in
-    let b = k .before .before .before .before .before .before in
-    let a = b .args in
-    encodable _ (a .wish) _ (now (a .output)) _ _ (b .pre) _ _ _ (k .read-chunk .ensures) (i .before .if1 .left)
-    (all-bytes (now (a .c)) (λ n. k .before .before .before .before .before .shared-slice-known .given n .fits)) (i .if2 .left)
+    (k .before .before .before .before .before .before .pre, (k .read-chunk .ensures, search needs))
 
 same-length : tie.Need-same-length
 same-length c = search needs
@@ -66,14 +34,8 @@ same-length c = search needs
 same-length-2 : tie.Need-same-length-2
 same-length-2 c = search needs
 
-returns-3 : tie.Need-returns-3
-returns-3 c =
-    let w = c .before .before .before .before in
-    let k = w .before .before .before .before .before .before .before .before .before .before in
-    let b = k .before .before .before .before .before .before in
-    let a = b .args in
-    answered-on (w .write .ensures)
-    (chunk-climbs _ (a .wish) _ (now (a .output)) _ _ (b .pre) _ _ _ (k .read-chunk .ensures) (w .before .before .before .before .before .before .if1 .left))
+returns : tie.Need-returns
+returns c = c .before .before .before .before .take-read .ensures
 
 pub take-chunk-spec : {M : Type 1} → statement M
 take-chunk-spec =
@@ -82,14 +44,9 @@ take-chunk-spec =
     slice-aggregate-read-chunk
     slice-aggregate-read-chunk-2
     read-chunk-requires
-    refused-requires
-    returns
-    array-read-if2
-    refused-requires-2
-    returns-2
-    slice-aggregate-write
-    slice-aggregate-write-2
-    write-requires
+    slice-aggregate-take-read
+    slice-aggregate-take-read-2
+    take-read-requires
     same-length
     same-length-2
-    returns-3)
+    returns)
