@@ -1,4 +1,4 @@
-// The number that some bytes at a place spell, the highest first. Each width is two halves, so that one law serves all.
+// The number that some bytes at a place spell, the highest first. A width is the one before and what follows, so that one law serves all.
 // Letters: `b` bytes.
 ghost use mathlib.Core.Path.{_≡_};
 ghost use Prim.Native.Nat.{_+_, _^_, _≤_, _<_};
@@ -27,9 +27,16 @@ pub fn u32_at(b: &[u8], at: usize) -> u64
     u16_at(b, at) * 65536 + u16_at(b, at + 2)
 }
 
+// Byte by byte: of this loop the compiler makes one load, of two halves it doesn't.
 pub fn u64_at(b: &[u8], at: usize) -> u64
     requires { ⌜ at + 8 ≤ length (now b) ⌝ }
     ensures { λ r. ⌜ r ≡ de (slice at (at + 8) (now (b .entry))) ⌝ }
 {
-    u32_at(b, at) * 4294967296 + u32_at(b, at + 4)
+    let mut v = 0;
+    let mut i = 0;
+    while i < 8 {
+        v = v * 256 + u8_at(b, at + i);
+        i += 1;
+    }
+    v
 }

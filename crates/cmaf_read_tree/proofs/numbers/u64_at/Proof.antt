@@ -1,30 +1,42 @@
--- `cmaf_read_tree::numbers::u64_at` meets its contract, by the two halves of a number. Assumes nothing.
-use native.Mathlib.Omega.{arith}
+-- `cmaf_read_tree::numbers::u64_at` meets its contract, by what is spelt so far. Assumes nothing.
+use Prim.Native.Nat.{_-_}
 use borrow.Author.Needs.{needs}
-use Rattle.cmaf_read_tree.proofs.NumberLaws.{de-halves}
+use Rattle.cmaf_read_tree.proofs.NumberLaws.{Spelling, spelling-start, spelling-fits, spelling-next, spelling-end}
 use Rattle.cmaf_read_tree.proofs.numbers.u64_at.Statement.{statement}
 use Rattle.cmaf_read_tree.proofs.numbers.u64_at.Tie as tie
 
-u32-at-requires : tie.Need-u32-at-requires
-u32-at-requires c κs = search needs
+abbrev Inv-loop : tie.InvT-loop
+Inv-loop b at v₀ i₀ v i = Spelling b at v i
 
-mul-result : tie.Need-mul-result
-mul-result c = search needs
+abbrev μ-loop : tie.MeasureT-loop
+μ-loop b at v₀ i₀ v i = 8 - i
 
-add-u32-at : tie.Need-add-u32-at
-add-u32-at c = search needs
+loop-holds : tie.Need-loop-holds Inv-loop μ-loop
+loop-holds c = spelling-start _ _ (c .before .pre)
 
-u32-at-requires-2 : tie.Need-u32-at-requires-2
-u32-at-requires-2 c κs = search needs
+mul-v : tie.Need-mul-v Inv-loop μ-loop
+mul-v c = let z = spelling-fits _ _ _ _ (c .before .loop .inv) (c .loop-test .taken) in search needs
 
-add-result : tie.Need-add-result
-add-result c = search needs
+add-u8-at : tie.Need-add-u8-at Inv-loop μ-loop
+add-u8-at c = search needs
 
-returns : tie.Need-returns
-returns c =
-    let a = c .before .before .before .args in
-    omega (arith, de-halves 4 4 (a .at) (a .b .now) (search needs))
+u8-at-requires : tie.Need-u8-at-requires Inv-loop μ-loop
+u8-at-requires c κs = search needs
+
+add-v : tie.Need-add-v Inv-loop μ-loop
+add-v c = let z = spelling-fits _ _ _ _ (c .before .before .loop .inv) (c .before .loop-test .taken) in search needs
+
+add-i : tie.Need-add-i Inv-loop μ-loop
+add-i c = search needs
+
+loop-less : tie.Need-loop-less Inv-loop μ-loop
+loop-less c = search needs
+
+loop-again : tie.Need-loop-again Inv-loop μ-loop
+loop-again c = spelling-next _ _ _ _ (c .before .before .loop .inv) (c .before .loop-test .taken) _ (c .«u8-at» .ensures)
+
+returns : tie.Need-returns Inv-loop μ-loop
+returns c = spelling-end _ _ _ _ (c .before .loop .inv) (c .loop-test .left)
 
 pub u64-at-spec : {M : Type 1} → statement M
-u64-at-spec =
-    tie.close (tie.spec u32-at-requires mul-result add-u32-at u32-at-requires-2 add-result returns)
+u64-at-spec = tie.close (tie.spec Inv-loop μ-loop loop-holds mul-v add-u8-at u8-at-requires add-v add-i loop-less loop-again returns)
