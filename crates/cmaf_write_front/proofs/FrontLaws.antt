@@ -5,6 +5,7 @@ use mathlib.Core.Path.{_≡_, refl}
 use mathlib.Core.List.{List, [], _∷_, _++_}
 use lib.ListN.{length, length-append}
 use Rattle.laws.specs.Bytes.{be}
+use Rattle.laws.specs.Writes.{Wrote}
 use Rattle.laws.proofs.BytesLaws.{length-be}
 use Rattle.laws.proofs.PartLaws.{joined}
 use Rattle.track.specs.declared.Track.{Track}
@@ -16,6 +17,7 @@ use Rattle.cmaf_write_prelude.specs.Prelude.{stypBox, prftBox}
 use Rattle.cmaf_write_emsg.specs.Emsg.{emsgBoxes}
 use Rattle.cmaf_write_moof.specs.Moof.{moofBox, moofWhole}
 use Rattle.cmaf_write_emsg.proofs.EmsgLaws.{events-short}
+use Rattle.cmaf_write_moof.proofs.MoofLaws.{moof-same}
 use Rattle.cmaf_write_front.specs.Front.{front}
 use Rattle.cmaf_write_front.specs.Writable.{Writable, Weighable}
 
@@ -50,3 +52,12 @@ module _ (t : Track) (sequence : ℕ) (w : List ℕ) (payload : ℕ) (p : Prft) 
         length-be 4 (8 + payload),
         length-be 4 B.mdat,
       )
+
+  -- what the boxes before it leave for the `moof`, and for the head of the `mdat`
+  pub left-for-moof : {l m n v : List ℕ} {a b c : ℕ} → Wrote l 0 (stypBox brands) m a → Wrote m a (prftBox t p) n b → Wrote n b (emsgBoxes events) v c
+      → length (front t sequence w payload p events brands) ≡ c + (length (moofWhole t sequence w payload) + 8)
+  unfolding moofWhole
+  left-for-moof x y z =
+      let e = front-length (length (stypBox brands)) (length (prftBox t p)) (length (emsgBoxes events)) (length (moofWhole t sequence w payload))
+      refl refl refl (moof-same t sequence w payload _) in
+      omega (arith, x .place, y .place, z .place)

@@ -34,6 +34,7 @@ pub fn front_length(
             + (emsg::emsgs_length(events, k) + (moof::moof_length(t, w) + 8)))
 }
 
+// The front, which is as long as was found before: the `moof` has what the other boxes leave of that.
 pub fn put_front(
     t: Track,
     sequence: u64,
@@ -44,11 +45,12 @@ pub fn put_front(
     events: &[u64],
     k: usize,
     brands: &[u8],
+    need: usize,
     out: &mut [u8],
 ) -> usize
     requires { ⌜ Writable t (now w) payload prft (now o) (now events) k (now brands) ⌝ }
-    requires { ⌜ length (frontOf t sequence (now w) payload prft (now o) (now events) k (now brands))
-        ≤ length (now out) ⌝ }
+    requires { ⌜ need ≡ length (frontOf t sequence (now w) payload prft (now o) (now events) k (now brands)) ⌝ }
+    requires { ⌜ need ≤ length (now out) ⌝ }
     ensures { λ r. ⌜ (r ≡ length (frontOf t sequence (now (w .entry)) payload prft
         (now (o .entry)) (now (events .entry)) k (now (brands .entry))))
         × (now (out .exit) ≡ frontOf t sequence (now (w .entry)) payload prft
@@ -57,7 +59,7 @@ pub fn put_front(
     let a = outer::put_styp(brands, out, 0);
     let b = outer::put_prft(t, prft, out, a);
     let c = emsg::put_emsgs(o, events, k, out, b);
-    let d = moof::put_moof(t, sequence, w, payload, out, c);
+    let d = moof::put_moof(t, sequence, w, payload, need - c - 8, out, c);
     let mdat: [u64; 2] = [8 + payload, kinds::MDAT];
     put::put_words(out, d, &mdat)
 }

@@ -233,6 +233,15 @@ module _ (t : Track) (sequence : ℕ) (w : List ℕ) (payload q : ℕ) (long : (
       let offset : size + 8 ≡ length (moofBox t sequence w payload 0) + 8 = omega (arith, moof-length 0) in
       moof-words (size + 8) size e ∙ ap (λ (n : ℕ). moofBox t sequence w payload n) offset
 
+-- a `moof` of a known length
+module _ (t : Track) (sequence : ℕ) (w : List ℕ) (payload size : ℕ) (e : size ≡ length (moofWhole t sequence w payload)) where
+  pub size-is : size ≡ 32 + plainLength w + length (protection t w 0)
+  unfolding moofWhole
+  size-is = e ∙ sym (moof-length t sequence w payload (length (protection t w 0)) (protection-same t w 0) _)
+
+  pub sized-parts : joined (moofParts t sequence w payload size) ≡ moofWhole t sequence w payload
+  sized-parts = moof-parts t sequence w payload (length (protection t w 0)) (protection-same t w 0) size size-is
+
 -- the length of a `moof` goes by the set alone, and not by its data offset
 pub moof-same : (t : Track) (sequence : ℕ) (w : List ℕ) (payload x y : ℕ) → length (moofBox t sequence w payload x) ≡ length (moofBox t sequence w payload y)
 moof-same t sequence w payload x y =

@@ -224,21 +224,24 @@ pub fn moof_length(t: Track, w: &[u64]) -> usize
     32 + plain_length(w) as usize + protection::protection_length(t, w)
 }
 
+// Its length is known from weighing it.
 pub fn put_moof(
     t: Track,
     sequence: u64,
     w: &[u64],
     payload: u64,
+    whole: usize,
     out: &mut [u8],
     at: usize,
 ) -> usize
     requires { ⌜ Protectable t (now w) ⌝ }
     requires { ⌜ Sized (now w) payload ⌝ }
+    requires { ⌜ whole ≡ length (moofWhole t sequence (now w) payload) ⌝ }
     requires { ⌜ at + length (moofWhole t sequence (now w) payload) ≤ length (now out) ⌝ }
     ensures { λ r. ⌜ Wrote (now (out .entry)) at (moofWhole t sequence (now (w .entry)) payload) (now (out .exit)) r ⌝ }
 {
     let place = 32 + plain_length(w) as usize;
-    let size = (place + protection::protection_length(t, w)) as u64;
+    let size = whole as u64;
     let head: [u64; 8] = [
         size,
         kinds::MOOF,

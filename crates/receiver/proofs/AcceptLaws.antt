@@ -76,8 +76,8 @@ module _ (F : List Row) (o s : List ℕ) (t : Track) (p : Place) (a : Judgeable 
       pub long-is : (n : ℕ) → ((q : ℕ) → n ≡ length (fronted q)) → n ≡ length (chunk F o s)
       long-is n h = h (sequence F o s) ∙ ap length front-is
 
-      pub room-for : (q m : ℕ) → q ≡ sequence F o s → length (chunk F o s) ≤ m → length (fronted q) ≤ m
-      room-for q m u h = subst (λ (z : List ℕ). length z ≤ m) (sym (ap fronted u ∙ front-is)) h
+      pub need-is : (n q : ℕ) → n ≡ length (chunk F o s) → q ≡ sequence F o s → n ≡ length (fronted q)
+      need-is n q h u = h ∙ ap length (sym (ap fronted u ∙ front-is))
 
       pub done-is : (output : List ℕ) (q n : ℕ) (after kept : List ℕ) → q ≡ sequence F o s → n ≡ length (fronted q)
           → after ≡ fronted q ++ drop n output → kept ≡ keptWords (p .delta) q (j .prft) x s
@@ -96,9 +96,6 @@ module _ (F : List Row) (o s : List ℕ) (t : Track) (p : Place) (a : Judgeable 
 module _ (F : List Row) (o s output : List ℕ) (n : ℕ) (e : n ≡ length (chunk F o s)) where
   pub short : fits n (length output) ≡ false → refusing output s 17 ≡ written F o output s
   short h = broken _ 17 _ _ _ (ap (λ (z : ℕ). fits z (length output)) (sym e) ∙ h)
-
-  pub room : fits n (length output) ≡ true → length (chunk F o s) ≤ length output
-  room h = let l = leb-true n (length output) h in omega arith
 
   pub long-enough : fits n (length output) ≡ true → done F o output s ≡ written F o output s
   long-enough h = passed _ 17 _ _ _ (ap (λ (z : ℕ). fits z (length output)) (sym e) ∙ h) (top _ _)

@@ -108,10 +108,11 @@ pub record Acceptable (F : List Row) (o s : List ℕ) (t : Track) (p : Place) (j
   pub ready : Ready F o s j ws x
 
 -- and the output has room for the front, whose brands are lent as such
-pub record Roomy (F : List Row) (o s : List ℕ) (t : Track) (p : Place) (j : Judged) (ws x names output : List ℕ) : Type 0 where
+pub record Roomy (F : List Row) (o s : List ℕ) (t : Track) (p : Place) (j : Judged) (ws x names : List ℕ) (need : ℕ) (output : List ℕ) : Type 0 where
   pub acceptable : Acceptable F o s t p j ws x
   pub named : names ≡ brands F o s
-  pub room : length (chunk F o s) ≤ length output
+  pub needed : need ≡ length (chunk F o s)
+  pub room : need ≤ length output
 
 pub record JudgedAs (rungs : List Rung) (F : List Row) (o s : List ℕ) (j : Judged) (ws x : List ℕ) : Type 0 where
   pub answered : j .number ≡ ladder rungs (λ k. k) 0

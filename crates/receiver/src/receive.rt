@@ -52,11 +52,12 @@ fn write(
     list: &[u64],
     x: &[u64],
     names: &[u8],
+    need: usize,
     output: &mut [u8],
 ) -> Answer
-    requires { ⌜ ((F : List Row) × Roomy F (now o) (now s) t p j (now list) (now x) (now names) (now output)) ⌝ }
+    requires { ⌜ ((F : List Row) × Roomy F (now o) (now s) t p j (now list) (now x) (now names) need (now output)) ⌝ }
     ensures { λ a. ⌜ ((F : List Row)
-        → Roomy F (now (o .entry)) (now (s .entry)) t p j (now (list .entry)) (now (x .entry)) (now (names .entry))
+        → Roomy F (now (o .entry)) (now (s .entry)) t p j (now (list .entry)) (now (x .entry)) (now (names .entry)) need
         (now (output .entry))
         → AnsweredAs (done F (now (o .entry)) (now (output .entry)) (now (s .entry)))
         (now (o .entry)) a (now (output .exit)) (now (s .exit))) ⌝ }
@@ -75,6 +76,7 @@ fn write(
         list,
         j.events,
         names,
+        need,
         &mut *output,
     );
     reference::keep::keep(s, p.delta, prft, count, x);
@@ -113,7 +115,7 @@ fn accept(
     if !room::has_room(need, output.len()) {
         return refuse(s, 17);
     }
-    write(t, p, o, s, j, list, x, names, output)
+    write(t, p, o, s, j, list, x, names, need, output)
 }
 
 // An object with its head read, on an open share: number first, then act.

@@ -6,7 +6,7 @@ use Rattle.laws.proofs.WriteLaws.{wrote-front}
 use Rattle.laws.proofs.PartLaws.{parts-all, parts-room, parts-then, parts-none}
 use Rattle.boxes.specs.Box.{words}
 use Rattle.event_value.specs.Events.{eventsOf}
-use Rattle.cmaf_write_front.proofs.FrontLaws.{frontParts, front-parts}
+use Rattle.cmaf_write_front.proofs.FrontLaws.{frontParts, front-parts, left-for-moof}
 use Rattle.cmaf_write_front.proofs.front.put_front.Statement.{statement}
 use Rattle.cmaf_write_front.proofs.front.put_front.Tie as tie
 
@@ -17,7 +17,7 @@ put-styp-requires c κs =
     let es = eventsOf (a .o .now) (a .events .now) (a .k) in
     let parts = frontParts (a .t) (a .sequence) (a .w .now) (a .payload) (a .prft) es (a .brands .now) in
     let whole = front-parts (a .t) (a .sequence) (a .w .now) (a .payload) (a .prft) es (a .brands .now) in
-    let h = parts-all (a .out .now) 0 parts whole (omega (arith, b .pre .1)) in
+    let h = parts-all (a .out .now) 0 parts whole (omega (arith, b .pre .1 .0, b .pre .1 .1)) in
     (b .pre .0 .brands, parts-room h)
 
 put-prft-requires : tie.Need-put-prft-requires
@@ -28,7 +28,7 @@ put-prft-requires c κs =
     let es = eventsOf (a .o .now) (a .events .now) (a .k) in
     let parts = frontParts (a .t) (a .sequence) (a .w .now) (a .payload) (a .prft) es (a .brands .now) in
     let whole = front-parts (a .t) (a .sequence) (a .w .now) (a .payload) (a .prft) es (a .brands .now) in
-    let h = parts-all (a .out .now) 0 parts whole (omega (arith, b₂ .pre .1)) in
+    let h = parts-all (a .out .now) 0 parts whole (omega (arith, b₂ .pre .1 .0, b₂ .pre .1 .1)) in
     (b₂ .pre .0 .prft, parts-room (parts-then h (b₁ .put-styp .ensures)))
 
 put-emsgs-requires : tie.Need-put-emsgs-requires
@@ -40,8 +40,30 @@ put-emsgs-requires c κs =
     let es = eventsOf (a .o .now) (a .events .now) (a .k) in
     let parts = frontParts (a .t) (a .sequence) (a .w .now) (a .payload) (a .prft) es (a .brands .now) in
     let whole = front-parts (a .t) (a .sequence) (a .w .now) (a .payload) (a .prft) es (a .brands .now) in
-    let h = parts-all (a .out .now) 0 parts whole (omega (arith, b₃ .pre .1)) in
+    let h = parts-all (a .out .now) 0 parts whole (omega (arith, b₃ .pre .1 .0, b₃ .pre .1 .1)) in
     (b₃ .pre .0 .events, parts-room (parts-then (parts-then h (b₂ .put-styp .ensures)) (b₁ .put-prft .ensures)))
+
+sub-put-moof : tie.Need-sub-put-moof
+sub-put-moof c =
+    let b₁ = c .before .before in
+    let b₂ = b₁ .before .before .before .before in
+    let b₃ = b₂ .before .before .before .before in
+    let b₄ = b₃ .before .before .before .before .before .before .before in
+    let a = b₄ .args in
+    let es = eventsOf (a .o .now) (a .events .now) (a .k) in
+    let z = left-for-moof (a .t) (a .sequence) (a .w .now) (a .payload) (a .prft) es (a .brands .now) (b₃ .put-styp .ensures) (b₂ .put-prft .ensures) (b₁ .put-emsgs .ensures) in
+    omega (arith, b₄ .pre .1 .0)
+
+sub-put-moof-2 : tie.Need-sub-put-moof-2
+sub-put-moof-2 c =
+    let b₁ = c .before .before in
+    let b₂ = b₁ .before .before .before .before in
+    let b₃ = b₂ .before .before .before .before in
+    let b₄ = b₃ .before .before .before .before .before .before .before in
+    let a = b₄ .args in
+    let es = eventsOf (a .o .now) (a .events .now) (a .k) in
+    let z = left-for-moof (a .t) (a .sequence) (a .w .now) (a .payload) (a .prft) es (a .brands .now) (b₃ .put-styp .ensures) (b₂ .put-prft .ensures) (b₁ .put-emsgs .ensures) in
+    omega (arith, b₄ .pre .1 .0)
 
 put-moof-requires : tie.Need-put-moof-requires
 put-moof-requires c κs =
@@ -53,12 +75,13 @@ put-moof-requires c κs =
     let es = eventsOf (a .o .now) (a .events .now) (a .k) in
     let parts = frontParts (a .t) (a .sequence) (a .w .now) (a .payload) (a .prft) es (a .brands .now) in
     let whole = front-parts (a .t) (a .sequence) (a .w .now) (a .payload) (a .prft) es (a .brands .now) in
-    let h = parts-all (a .out .now) 0 parts whole (omega (arith, b₄ .pre .1)) in
+    let h = parts-all (a .out .now) 0 parts whole (omega (arith, b₄ .pre .1 .0, b₄ .pre .1 .1)) in
     let k = parts-then (parts-then (parts-then h (b₃ .put-styp .ensures)) (b₂ .put-prft .ensures)) (b₁ .put-emsgs .ensures) in
-    (b₄ .pre .0 .set, (b₄ .pre .0 .sized, parts-room k))
+    let z = left-for-moof (a .t) (a .sequence) (a .w .now) (a .payload) (a .prft) es (a .brands .now) (b₃ .put-styp .ensures) (b₂ .put-prft .ensures) (b₁ .put-emsgs .ensures) in
+    (b₄ .pre .0 .set, (b₄ .pre .0 .sized, (omega (arith, b₄ .pre .1 .0), parts-room k)))
 
-add-t24 : tie.Need-add-t24
-add-t24 c = search needs
+add-t27 : tie.Need-add-t27
+add-t27 c = search needs
 
 slice-aggregate-put-words : tie.Need-slice-aggregate-put-words
 slice-aggregate-put-words c = search needs
@@ -75,7 +98,7 @@ put-words-requires c κs =
     let es = eventsOf (a .o .now) (a .events .now) (a .k) in
     let parts = frontParts (a .t) (a .sequence) (a .w .now) (a .payload) (a .prft) es (a .brands .now) in
     let whole = front-parts (a .t) (a .sequence) (a .w .now) (a .payload) (a .prft) es (a .brands .now) in
-    let h = parts-all (a .out .now) 0 parts whole (omega (arith, b₅ .pre .1)) in
+    let h = parts-all (a .out .now) 0 parts whole (omega (arith, b₅ .pre .1 .0, b₅ .pre .1 .1)) in
     let k = parts-then (parts-then (parts-then h (b₄ .put-styp .ensures)) (b₃ .put-prft .ensures)) (b₂ .put-emsgs .ensures) in
     parts-room (parts-then k (b₁ .put-moof .ensures))
 
@@ -93,7 +116,7 @@ returns c =
     let es = eventsOf (a .o .now) (a .events .now) (a .k) in
     let parts = frontParts (a .t) (a .sequence) (a .w .now) (a .payload) (a .prft) es (a .brands .now) in
     let whole = front-parts (a .t) (a .sequence) (a .w .now) (a .payload) (a .prft) es (a .brands .now) in
-    let h = parts-all (a .out .now) 0 parts whole (omega (arith, b₅ .pre .1)) in
+    let h = parts-all (a .out .now) 0 parts whole (omega (arith, b₅ .pre .1 .0, b₅ .pre .1 .1)) in
     let k = parts-then (parts-then (parts-then h (b₄ .put-styp .ensures)) (b₃ .put-prft .ensures)) (b₂ .put-emsgs .ensures) in
     let f = wrote-front (parts-none (parts-then (parts-then k (b₁ .put-moof .ensures)) (c .before .before .put-words .ensures))) in
     (f .0, rw (f .0) (f .1))
@@ -105,8 +128,10 @@ put-front-spec =
     put-styp-requires
     put-prft-requires
     put-emsgs-requires
+    sub-put-moof
+    sub-put-moof-2
     put-moof-requires
-    add-t24
+    add-t27
     slice-aggregate-put-words
     put-words-requires
     same-length

@@ -1,9 +1,10 @@
 -- `receiver::receive::accept` meets its contract, by the laws of `proofs/AcceptLaws.antt`. Assumes nothing.
 use denote.Ref.{now}
+use borrow.Author.Tests.{leb-true}
 use Rattle.laws.proofs.GateLaws.{failed, held}
 use Rattle.cmaf_write_front.proofs.FrontLaws.{weighable}
 use Rattle.answers.proofs.AnsweredLaws.{answered-on}
-use Rattle.receiver.proofs.AcceptLaws.{brands-lent, writable, long-is, short, room, long-enough}
+use Rattle.receiver.proofs.AcceptLaws.{brands-lent, writable, long-is, short, long-enough}
 use borrow.Author.Needs.{needs}
 use Rattle.receiver.proofs.receive.accept.Statement.{statement}
 use Rattle.receiver.proofs.receive.accept.Tie as tie
@@ -52,7 +53,7 @@ write-requires c κs =
     let v = b .pre .1 in
     let n = brands-lent _ _ _ _ _ (v .head) _ _ _ (v .ready) in
     let e = long-is _ _ _ _ _ (v .head) _ _ _ (v .ready) n _ (λ q. f .front-length .ensures q _ _ (v .ready .writable .events)) in
-    (b .pre .0, record { acceptable = v; named = n; room = room _ _ _ (now (b .args .output)) _ e (held (h .has-room .ensures) (c .before .before .if1 .left)) })
+    (b .pre .0, record { acceptable = v; named = n; needed = e; room = leb-true _ _ (held (h .has-room .ensures) (c .before .before .if1 .left)) })
 
 same-length-2 : tie.Need-same-length-2
 same-length-2 c = search needs
@@ -69,7 +70,7 @@ returns-2 c =
     let n = brands-lent _ _ _ _ _ (v .head) _ _ _ (v .ready) in
     let e = long-is _ _ _ _ _ (v .head) _ _ _ (v .ready) n _ (λ q. f .front-length .ensures q _ _ (v .ready .writable .events)) in
     let k = held (h .has-room .ensures) (c .before .before .before .before .before .before .before .if1 .left) in
-    answered-on (c .before .before .before .before .write .ensures F (record { acceptable = v; named = n; room = room _ _ _ output _ e k })) (long-enough _ _ _ output _ e k)
+    answered-on (c .before .before .before .before .write .ensures F (record { acceptable = v; named = n; needed = e; room = leb-true _ _ k })) (long-enough _ _ _ output _ e k)
 
 pub accept-spec : {M : Type 1} → statement M
 accept-spec =

@@ -4,7 +4,7 @@ use Rattle.field_set.proofs.TidyLaws.{lawful-tidy}
 use Rattle.slots.specs.declared.lawful.Side.the-variants.{Receiver}
 use Rattle.reference.proofs.OpenLaws.{share-tidy}
 use Rattle.receiver.proofs.JudgeLaws.{end-inside}
-use Rattle.receiver.proofs.AcceptLaws.{count-small, sequence-is, writable, room-for, done-is}
+use Rattle.receiver.proofs.AcceptLaws.{count-small, sequence-is, writable, need-is, done-is}
 use borrow.Author.Needs.{needs}
 use Rattle.receiver.proofs.receive.write.Statement.{statement}
 use Rattle.receiver.proofs.receive.write.Tie as tie
@@ -25,7 +25,7 @@ put-front-requires c κs =
     let v = c .before .before .before .before .before .before .before .before .before .pre .1 in
     let h = v .acceptable .head in
     let r = v .acceptable .ready in
-    (writable _ _ _ _ _ h _ _ _ r (v .named), room-for _ _ _ _ _ h _ _ _ r (v .named) _ _ (sequence-is _ _ _ _ _ h) (v .room))
+    (writable _ _ _ _ _ h _ _ _ r (v .named), (need-is _ _ _ _ _ h _ _ _ r (v .named) _ _ (v .needed) (sequence-is _ _ _ _ _ h), v .room))
 
 keep-requires : tie.Need-keep-requires
 keep-requires c κs =
