@@ -1,5 +1,6 @@
 // The call: one chunk.
 ghost use mathlib.Core.Path.{_≡_};
+ghost use Prim.Native.Nat.{_≤_};
 ghost use lib.ListN.{length};
 ghost use Rattle.wire.specs.Form.{rows};
 ghost use Rattle.wire.specs.declared.form.Form.the-variants.{Rfc9000};
@@ -9,9 +10,11 @@ ghost use Rattle.slots.specs.Table.{out, onTable};
 ghost use Rattle.answers.specs.Took.{took};
 ghost use Rattle.answers.specs.Took as T;
 ghost use Rattle.cmaf_read_chunk.specs.Chunks.{ReadAs};
+ghost use Rattle.encoder.specs.Object.{objectOf};
 ghost use Rattle.encoder.specs.Encode.{wished, encoding, onOpen, onAccepted, refusedWith, AnsweredAs};
-ghost use Rattle.encoder.specs.Planned.{Encodable, OnShare};
+ghost use Rattle.encoder.specs.Planned.{Encodable, OnShare, Sendable, SentAs};
 use crate::front;
+use crate::front::Plan;
 use byte_parts::Part;
 use cmaf_read_chunk::read::Chunk;
 use constants::maxima;
@@ -42,7 +45,37 @@ fn refused(number: u64) -> Answer
     }
 }
 
-// The front into the output, if there is one and there is room for it, and the reference into the share.
+// The front into the output, and the reference into the share.
+fn send(
+    form: Form,
+    t: Track,
+    a: Plan,
+    c: &[u8],
+    s: &mut [u64],
+    k: Chunk,
+    events: &[u64],
+    x: &[u64],
+    output: &mut [u8],
+) -> Answer
+    requires { ⌜ Encodable (rows form) t (now s) (now c) k (now events) (now x) ⌝ }
+    requires { ⌜ Sendable (rows form) (now s) (now c) a ⌝ }
+    requires { ⌜ length (objectOf (rows form) (now s) (now c) (a .delta)) ≤ length (now output) ⌝ }
+    ensures { λ r. ⌜ SentAs (rows form) (now (s .entry)) (now (c .entry)) a k (now (x .entry)) (now (output .entry))
+        r (now (output .exit)) (now (s .exit)) ⌝ }
+{
+    let n = front::put_front(form, t, a, s, c, k, events, x, output);
+    let prft = k.prft;
+    let payload = k.payload;
+    let sequence = s[share::ACCEPTED];
+    reference::keep::keep(s, a.delta, prft, sequence, x);
+    Answer {
+        number: 0,
+        front: n as u64,
+        payload,
+    }
+}
+
+// An object, if there is one and there is room for its front.
 fn write(
     form: Form,
     t: Track,
@@ -65,16 +98,7 @@ fn write(
     if output.len() < front::front_length(form, a) {
         return refused(17);
     }
-    let n = front::put_front(form, t, a, s, c, k, events, x, &mut *output);
-    let prft = k.prft;
-    let payload = k.payload;
-    let sequence = s[share::ACCEPTED];
-    reference::keep::keep(s, a.delta, prft, sequence, x);
-    Answer {
-        number: 0,
-        front: n as u64,
-        payload,
-    }
+    send(form, t, a, c, s, k, events, x, output)
 }
 
 // A chunk that was read: number first, then act. No reference has a BMDT past its maximum, so it is asked whatever the wish.

@@ -1,9 +1,6 @@
 -- `encoder::encode::write` meets its contract, by the laws of `proofs/WriteLaws.antt`. Assumes nothing.
 use borrow.Author.Tests.{not-false}
 use denote.Ref.{now}
-use Rattle.field_set.proofs.TidyLaws.{lawful-tidy}
-use Rattle.slots.specs.declared.lawful.Side.the-variants.{Encoder}
-use Rattle.reference.proofs.OpenLaws.{share-tidy}
 use Rattle.encoder.proofs.FrontLaws.{planned-sendable}
 use Rattle.encoder.proofs.WriteLaws.{refused-as, unfit, room, short, done-is}
 use borrow.Author.Needs.{needs}
@@ -49,8 +46,8 @@ returns-2 c =
     (short (a .form) _ _ _ _ _ _ (b .pre) (a .wish) (now (a .output)) _ (p .choose .ensures _ (b .pre)) (f .before .if1 .left) _
     (f .front-length .ensures) (c .before .if2 .taken))
 
-put-front-requires : tie.Need-put-front-requires
-put-front-requires c κs =
+send-requires : tie.Need-send-requires
+send-requires c κs =
     let f = c .before .before .before in
     let p = f .before .before .before in
     let b = p .before .before .before .before .before .before .before in
@@ -60,23 +57,6 @@ put-front-requires c κs =
     let l = room (a .form) _ _ _ _ _ _ (b .pre) (a .wish) (now (a .output)) _ q i _ (f .front-length .ensures) _ (c .before .before .if2 .left) in
     (b .pre, (planned-sendable (a .form) q (not-false _ i), l))
 
-slice-read-sequence : tie.Need-slice-read-sequence
-slice-read-sequence c =
-    let w = c .before .before .before .before .before in
-    let p = w .before .before .before .before .before .before .before in
-    let b = p .before .before .before .before .before .before .before in
-    let z = b .pre .on-share .share in
-    search needs
-
-keep-requires : tie.Need-keep-requires
-keep-requires c κs =
-    let w = c .before .before .before .before .before .before in
-    let p = w .before .before .before .before .before .before .before in
-    let b = p .before .before .before .before .before .before .before in
-    let e = b .pre in
-    let a = e .on-share in
-    ((a .share, e .set-long), (share-tidy Encoder _ (a .share) (a .lawful-share) (a .opened), lawful-tidy _ _ (e .set-long) (e .lawful-set)))
-
 same-length-3 : tie.Need-same-length-3
 same-length-3 c = search needs
 
@@ -85,14 +65,13 @@ same-length-4 c = search needs
 
 returns-3 : tie.Need-returns-3
 returns-3 c =
-    let k = c .before .before in
-    let w = k .before .before .before .before .before .before .before in
+    let w = c .before .before .before .before in
     let f = w .before .before .before .before in
     let p = f .before .before .before in
     let b = p .before .before .before .before .before .before .before in
     let a = b .args in
     done-is (a .form) _ _ _ _ _ _ (b .pre) (a .wish) (now (a .output)) _ (p .choose .ensures _ (b .pre)) (f .before .if1 .left) _ (f .front-length .ensures)
-    (w .before .before .before .if2 .left) _ _ _ (w .put-front .ensures) (k .keep .ensures)
+    (w .before .before .before .if2 .left) (w .send .ensures)
 
 pub write-spec : {M : Type 1} → statement M
 write-spec =
@@ -106,9 +85,7 @@ write-spec =
     refused-requires-2
     same-length-2
     returns-2
-    put-front-requires
-    slice-read-sequence
-    keep-requires
+    send-requires
     same-length-3
     same-length-4
     returns-3)
