@@ -6,7 +6,6 @@ use mathlib.Core.Bool.{Bool, true, false, not}
 use mathlib.Core.List.{List}
 use borrow.Author.Tests.{le-leb, lt-leb, not-false}
 use lib.ListN.{length, getD}
-use Rattle.laws.specs.Writes.{Wrote}
 use Rattle.laws.proofs.GateLaws.{failed, held}
 use Rattle.laws.proofs.LadderLaws.{broken, passed, top}
 use Rattle.laws.proofs.WriteLaws.{wrote-front, wrote-as}
@@ -20,6 +19,7 @@ use Rattle.share_words.specs.Share.{acceptedAt}
 use Rattle.slots.specs.Share.{trackOf}
 use Rattle.slots.specs.Table.{out}
 use Rattle.answers.specs.Took.{took}
+use Rattle.answers.specs.declared.answer.Answer.{Answer}
 use Rattle.answers.specs.Answered.{AnsweredAs}
 use Rattle.reference.specs.Kept.{keptWords}
 use Rattle.cmaf_read_chunk.specs.declared.read.Chunk.{Chunk}
@@ -28,7 +28,7 @@ use Rattle.cmaf_read_chunk.specs.Accepted as A
 use Rattle.encoder.specs.declared.front.Plan.{Plan}
 use Rattle.encoder.specs.Object.{givesDelta, objectOf, front}
 use Rattle.encoder.specs.Encode.{refusing, lastRungs, kept, onAccepted}
-use Rattle.encoder.specs.Planned.{Encodable, frontBytes, PlannedAs}
+use Rattle.encoder.specs.Planned.{Encodable, frontBytes, WrittenAs, PlannedAs}
 use Rattle.cmaf_read_chunk.proofs.ChunkFacts.{payload-in}
 use Rattle.encoder.proofs.FrontLaws.{planned-front, front-length}
 
@@ -73,20 +73,20 @@ module _ (form : Form) (t : Track) (s c : List ℕ) (k : Chunk) (ws x : List ℕ
       short l = passed _ 9 _ _ _ (held (p .answered) h) (broken _ 17 _ _ _ (lt-leb (length (front F s c wish)) (length output) (omega (arith, long))))
 
       -- there is
-      pub done-is : n ≤ length output → (m : ℕ) (after words : List ℕ) → Wrote output 0 (objectOf F s c (a .delta)) after m
-          → words ≡ keptWords (a .delta) (getD s acceptedAt 0) (k .prft) x s
-          → AnsweredAs (onAccepted F wish c output s) c (record { number = 0; front = m; payload = k .payload }) after words
+      pub done-is : n ≤ length output → {r : Answer} {after words : List ℕ} → WrittenAs F s c a k x output r after words
+          → AnsweredAs (onAccepted F wish c output s) c r after words
       unfolding lastRungs kept
-      done-is l m after words w g =
-          let f = wrote-front (wrote-as (planned-front form p fit) w) in
+      done-is l {r = ans} {after} {words} g =
+          let f = wrote-front (wrote-as (planned-front form p fit) (g .written)) in
           let d : a .delta ≡ givesDelta F s c wish = p .kind fit in
           let r : k .prft ≡ prft c = ap (λ (z : Chunk). z .prft) (e .accepted .chunk-is) in
           let v : x ≡ fields (trackOf s) c = e .accepted .set-is ∙ ap (λ (u : Track). fields u c) (e .on-share .track-is) in
-          let y : words ≡ kept F wish c output s = g ∙ (λ i. keptWords (d i) (getD s acceptedAt 0) (r i) (v i) s) in
+          let y : words ≡ kept F wish c output s = g .kept ∙ (λ i. keptWords (d i) (getD s acceptedAt 0) (r i) (v i) s) in
           record {
             so =
-                passed _ 9 _ _ _ (held (p .answered) h)
+                ap (λ (z : Answer). answered c z after words) (g .answer)
+                ∙ passed _ 9 _ _ _ (held (p .answered) h)
                 (passed _ 17 _ _ _ (le-leb (length (front F s c wish)) (length output) (omega (arith, long)))
                 ((λ i. out (took 0 (f .0 i) (part-bytes i) (f .1 i)) (y i)) ∙ top _ _));
-            inside = part-in;
+            inside = subst (λ (z : Answer). endOf (z .payload) ≤ length c) (sym (g .answer)) part-in;
           }

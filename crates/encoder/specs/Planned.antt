@@ -9,11 +9,13 @@ use Rattle.constants.specs.Maxima.{brandBytesMost, eventBytesMost}
 use Rattle.wire.specs.declared.form.Row.{Row}
 use Rattle.wire.specs.Varint.{sizeOf}
 use Rattle.laws.specs.Options.{isSome}
+use Rattle.laws.specs.Writes.{Wrote}
 use Rattle.field_table.specs.Lines.{setLen}
 use Rattle.field_set.specs.Lawful.{lawful}
 use Rattle.slots.specs.declared.lawful.Side.the-variants.{Encoder}
-use Rattle.share_words.specs.Share.{shareLen, heldAt}
+use Rattle.share_words.specs.Share.{shareLen, acceptedAt, heldAt}
 use Rattle.slots.specs.Share.{isOpen, lawful as lawfulShare}
+use Rattle.reference.specs.Kept.{keptWords}
 use Rattle.track.specs.declared.Track.{Track}
 use Rattle.byte_parts.specs.declared.Part.{Part}
 use Rattle.cmaf_read_chunk.specs.declared.read.Chunk.{Chunk}
@@ -24,7 +26,8 @@ use Rattle.locmaf_write_tuples.specs.Items.{Items, _before_, bytesOf, weightMos
 use Rattle.locmaf_write_prft.specs.Prft.{timesItems, versionItems, flagsItems}
 use Rattle.locmaf_write_events.specs.Records.{AllWords, AllIn, sentOf, listBytes}
 use Rattle.encoder.specs.declared.front.Plan.{Plan}
-use Rattle.encoder.specs.Object.{track, headerOf, brandItems, blockItems, givesDelta, fitsOk}
+use Rattle.answers.specs.declared.answer.Answer.{Answer}
+use Rattle.encoder.specs.Object.{track, headerOf, brandItems, blockItems, objectOf, givesDelta, fitsOk}
 
 -- what stands in a `styp`: nothing, or n bytes with a brand and a version at least, at most 16 brands and a version
 pub record BrandBytes (n : ℕ) : Type 0 where
@@ -82,6 +85,12 @@ pub record Sendable (F : List Row) (s c : List ℕ) (a : Plan) : Type 0 where
   pub held : Held (a .delta) s
   pub all-fit : isSome (blockItems F s c (a .delta)) ≡ true
   pub block : a .block ≡ length (bytesOf F (blockItems F s c (a .delta)))
+
+-- what was planned was sent, and answered: the front is written, and the reference kept
+pub record WrittenAs (F : List Row) (s c : List ℕ) (a : Plan) (k : Chunk) (x output : List ℕ) (r : Answer) (after words : List ℕ) : Type 0 where
+  pub answer : r ≡ record { number = 0; front = r .front; payload = k .payload }
+  pub written : Wrote output 0 (objectOf F s c (a .delta)) after (r .front)
+  pub kept : words ≡ keptWords (a .delta) (getD s acceptedAt 0) (k .prft) x s
 
 -- the plan: 0 and the kind of object with its block's length, or 9
 pub record PlannedAs (F : List Row) (s c : List ℕ) (wish : Bool) (a : Plan) : Type 0 where

@@ -1,5 +1,6 @@
 // The call: one chunk.
 ghost use mathlib.Core.Path.{_≡_};
+ghost use Prim.Native.Nat.{_≤_};
 ghost use lib.ListN.{length};
 ghost use Rattle.wire.specs.Form.{rows};
 ghost use Rattle.wire.specs.declared.form.Form.the-variants.{Rfc9000};
@@ -10,9 +11,11 @@ ghost use Rattle.answers.specs.Took.{took};
 ghost use Rattle.answers.specs.Took as T;
 ghost use Rattle.answers.specs.Answered.{AnsweredAs};
 ghost use Rattle.cmaf_read_chunk.specs.Chunks.{ReadAs};
+ghost use Rattle.encoder.specs.Object.{objectOf};
 ghost use Rattle.encoder.specs.Encode.{wished, encoding, onOpen, onAccepted};
-ghost use Rattle.encoder.specs.Planned.{Encodable, OnShare};
+ghost use Rattle.encoder.specs.Planned.{Encodable, OnShare, Sendable, WrittenAs};
 use crate::front;
+use crate::front::Plan;
 use answers::answer;
 use answers::answer::Answer;
 use cmaf_read_chunk::read::Chunk;
@@ -26,9 +29,38 @@ use slots::lawful::Side;
 use track::Track;
 use wire::form::Form;
 
-// The front into the output, if there is one and there is room for it, and the reference into the share. A refusal changes nothing, neither the
-// output nor the share.
+// The front into the output, and the reference into the share.
 fn write(
+    form: Form,
+    t: Track,
+    a: Plan,
+    c: &[u8],
+    s: &mut [u64],
+    k: Chunk,
+    events: &[u64],
+    x: &[u64],
+    output: &mut [u8],
+) -> Answer
+    requires { ⌜ Encodable (rows form) t (now s) (now c) k (now events) (now x) ⌝ }
+    requires { ⌜ Sendable (rows form) (now s) (now c) a ⌝ }
+    requires { ⌜ length (objectOf (rows form) (now s) (now c) (a .delta)) ≤ length (now output) ⌝ }
+    ensures { λ r. ⌜ WrittenAs (rows form) (now (s .entry)) (now (c .entry)) a k (now (x .entry)) (now (output .entry))
+        r (now (output .exit)) (now (s .exit)) ⌝ }
+{
+    let n = front::put_front(form, t, a, s, c, k, events, x, output);
+    let prft = k.prft;
+    let payload = k.payload;
+    let sequence = s[share::ACCEPTED];
+    reference::keep::keep(s, a.delta, prft, sequence, x);
+    Answer {
+        number: 0,
+        front: n as u64,
+        payload,
+    }
+}
+
+// An object, if there is one and there is room for its front. A refusal changes nothing, neither the output nor the share.
+fn accept(
     form: Form,
     t: Track,
     wish: bool,
@@ -50,16 +82,7 @@ fn write(
     if output.len() < front::front_length(form, a) {
         return answer::refused(17);
     }
-    let n = front::put_front(form, t, a, s, c, k, events, x, &mut *output);
-    let prft = k.prft;
-    let payload = k.payload;
-    let sequence = s[share::ACCEPTED];
-    reference::keep::keep(s, a.delta, prft, sequence, x);
-    Answer {
-        number: 0,
-        front: n as u64,
-        payload,
-    }
+    write(form, t, a, c, s, k, events, x, output)
 }
 
 // A chunk that was read: number first, then act. No reference has a BMDT past its maximum, so it is asked whatever the wish.
@@ -86,7 +109,7 @@ fn take_read(
     if maxima::NUMBER < x[lines::BMDT] {
         return answer::refused(9);
     }
-    write(form, t, wish, c, s, k, events, x, output)
+    accept(form, t, wish, c, s, k, events, x, output)
 }
 
 // A chunk on an open share.

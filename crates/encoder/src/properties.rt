@@ -189,19 +189,10 @@ pub fn put_block(
 {
     let r = &s[share::SET..];
     let p = k.prft;
+    let bmdt = TrackTicks(x[lines::BMDT]);
     let b = set::basis_of(t, delta, r, x);
     let u = set::put_set(form, t, b, r, x, out, at);
     let v = put_outside(form, delta, p, s, c, k.brands, out, u);
-    let w = put_events(
-        form,
-        t,
-        TrackTicks(x[lines::BMDT]),
-        c,
-        ws,
-        k.events,
-        k.list,
-        out,
-        v,
-    );
+    let w = put_events(form, t, bmdt, c, ws, k.events, k.list, out, v);
     deletions::put_deletions(form, b, r, x, out, w)
 }

@@ -31,8 +31,8 @@ returns-2 c =
     refused-as (now (a .c)) (now (a .output)) (now (a .s)) 9 (c .refused2 .ensures)
     (chunk-late _ (a .wish) _ (now (a .output)) _ _ (b .pre .0) _ _ _ (b .pre .1 .0) (i .if1 .left) (c .before .if2 .taken))
 
-write-requires : tie.Need-write-requires
-write-requires c κs =
+accept-requires : tie.Need-accept-requires
+accept-requires c κs =
     let i = c .before .before .before .before in
     let b = i .before .before .before .before .before .before .before in
     let a = b .args in
@@ -51,7 +51,7 @@ returns-3 c =
     let i = w .before .before .before .before .before in
     let b = i .before .before .before .before .before .before .before in
     let a = b .args in
-    answered-on (w .write .ensures)
+    answered-on (w .accept .ensures)
     (chunk-climbs _ (a .wish) _ (now (a .output)) _ _ (b .pre .0) _ _ _ (b .pre .1 .0) (i .if1 .left))
 
 pub take-read-spec : {M : Type 1} → statement M
@@ -63,7 +63,7 @@ take-read-spec =
     shared-slice-read-if2
     refused-requires-2
     returns-2
-    write-requires
+    accept-requires
     same-length
     same-length-2
     returns-3)

@@ -15,13 +15,16 @@ part-r-start c = search needs
 part-r-end : tie.Need-part-r-end
 part-r-end c = search needs
 
+shared-slice-read-t22 : tie.Need-shared-slice-read-t22
+shared-slice-read-t22 c = let z = c .before .before .before .before .before .before .before .before .pre .0 .set-long in search needs
+
 basis-of-requires : tie.Need-basis-of-requires
-basis-of-requires c κs = let b = c .before .before .before .before .before .before .before in writable (b .pre .0) _ (b .pre .1 .0)
+basis-of-requires c κs = let b = c .before .before .before .before .before .before .before .before in writable (b .pre .0) _ (b .pre .1 .0)
 
 put-set-requires : tie.Need-put-set-requires
 put-set-requires c κs =
     let d = c .before in
-    let b = d .before .before .before .before .before .before .before .before in
+    let b = d .before .before .before .before .before .before .before .before .before in
     let h = before-set (b .pre .0) (b .args .delta) (d .basis-of .ensures) (b .args .out .now) _ (b .pre .1 .1) in
     (basis-own (writable (b .pre .0) _ (b .pre .1 .0)) (d .basis-of .ensures), left-first _ _ _ _ _ _ _ _ h)
 
@@ -29,21 +32,16 @@ put-outside-requires : tie.Need-put-outside-requires
 put-outside-requires c κs =
     let b₁ = c .before .before .before in
     let d = b₁ .before .before in
-    let b = d .before .before .before .before .before .before .before .before in
+    let b = d .before .before .before .before .before .before .before .before .before in
     let h = before-outside (b .pre .0) (b .args .delta) (d .basis-of .ensures) (b .args .out .now) _ (b .pre .1 .1) (b₁ .put-set .ensures) in
     (b .pre .0 .on-share .share, ((b .pre .0 .brand-bytes, brands-inside (b .pre .0)), left-first _ _ _ _ _ _ _ _ h))
 
-shared-slice-read-t25 : tie.Need-shared-slice-read-t25
-shared-slice-read-t25 c =
-    let z = c .before .before .before .before .before .before .before .before .before .before .before .before .before .before .before .before .before .pre .0 .set-long in
-    search needs
-
 put-events-requires : tie.Need-put-events-requires
 put-events-requires c κs =
-    let b₂ = c .before .before .before .before in
+    let b₂ = c .before .before .before in
     let b₁ = b₂ .before .before .before .before in
     let d = b₁ .before .before in
-    let b = d .before .before .before .before .before .before .before .before in
+    let b = d .before .before .before .before .before .before .before .before .before in
     let h = before-events (b .pre .0) (b .args .delta) (d .basis-of .ensures) (b .args .out .now) _ (b .pre .1 .1)
     (b₁ .put-set .ensures) (b₂ .put-outside .ensures) in
     (recorded (b .pre .0), left-first _ _ _ _ _ _ _ _ h)
@@ -51,10 +49,10 @@ put-events-requires c κs =
 put-deletions-requires : tie.Need-put-deletions-requires
 put-deletions-requires c κs =
     let b₃ = c .before .before .before in
-    let b₂ = b₃ .before .before .before .before .before in
+    let b₂ = b₃ .before .before .before .before in
     let b₁ = b₂ .before .before .before .before in
     let d = b₁ .before .before in
-    let b = d .before .before .before .before .before .before .before .before in
+    let b = d .before .before .before .before .before .before .before .before .before in
     let h = before-gone (b .pre .0) (b .args .delta) (d .basis-of .ensures) (b .args .out .now) _ (b .pre .1 .1)
     (b₁ .put-set .ensures) (b₂ .put-outside .ensures) (b₃ .put-events .ensures) in
     let w = writable (b .pre .0) _ (b .pre .1 .0) in
@@ -67,10 +65,10 @@ returns : tie.Need-returns
 returns c =
     let b₄ = c .before .before in
     let b₃ = b₄ .before .before .before .before in
-    let b₂ = b₃ .before .before .before .before .before in
+    let b₂ = b₃ .before .before .before .before in
     let b₁ = b₂ .before .before .before .before in
     let d = b₁ .before .before in
-    let b = d .before .before .before .before .before .before .before .before in
+    let b = d .before .before .before .before .before .before .before .before .before in
     let h = before-gone (b .pre .0) (b .args .delta) (d .basis-of .ensures) (b .args .out .now) _ (b .pre .1 .1)
     (b₁ .put-set .ensures) (b₂ .put-outside .ensures) (b₃ .put-events .ensures) in
     h .rest _ _ (b₄ .put-deletions .ensures _)
@@ -82,10 +80,10 @@ put-block-spec =
     sub-r
     part-r-start
     part-r-end
+    shared-slice-read-t22
     basis-of-requires
     put-set-requires
     put-outside-requires
-    shared-slice-read-t25
     put-events-requires
     put-deletions-requires
     same-length
