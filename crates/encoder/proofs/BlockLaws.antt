@@ -12,7 +12,6 @@ use Rattle.laws.specs.Options.{isSome}
 use Rattle.constants.specs.Maxima.{brandBytesMost, eventBytesMost}
 use Rattle.track.specs.declared.Track.{Track}
 use Rattle.slots.specs.Share.{trackOf}
-use Rattle.prft_value.specs.declared.Prft.{Prft}
 use Rattle.reference.proofs.OpenLaws.{lent}
 use Rattle.cmaf_read_chunk.specs.declared.read.Chunk.{Chunk}
 use Rattle.cmaf_read_chunk.specs.Accepted.{events}
@@ -30,29 +29,42 @@ use Rattle.encoder.specs.Object.{brandItems, eventItems, blockItems}
 use Rattle.encoder.specs.Planned.{brandsAt, outsideItems, Encodable}
 use Rattle.encoder.proofs.GivenLaws.{prft-is, brands-are, events-are, same-sets}
 
--- what stands outside of `moof` and events is left to be written; then all of it but the times, and so on
-module _ (F : List Row) (delta : Bool) (s : List ℕ) (p : Prft) (names l : List ℕ) (at : ℕ)
-    (r : (isSome (outsideItems F delta s p names) ≡ true) × (at + length (bytesOf F (outsideItems F delta s p names)) ≤ length l)) where
+-- what stands outside of the `moof` is left to be written; then all of it but the times, and so on
+module _ (F : List Row) (t : Track) (delta : Bool) (s c : List ℕ) (k : Chunk) (bmdt : ℕ) (ws l : List ℕ) (at : ℕ)
+    (r : (isSome (outsideItems F t delta s c k bmdt ws) ≡ true) × (at + length (bytesOf F (outsideItems F t delta s c k bmdt ws)) ≤ length l)) where
   abbrev OutsideLeft : Items → List ℕ → ℕ → Type 0
-  OutsideLeft is m q = Left F (outsideItems F delta s p names) l at is m q
+  OutsideLeft is m q = Left F (outsideItems F t delta s c k bmdt ws) l at is m q
+
+  abbrev afterFlags : Items
+  afterFlags = eventItems F (sentOf t bmdt c ws (k .events))
+
+  abbrev afterBrands : Items
+  afterBrands = flagsItems F delta s (k .prft) before afterFlags
+
+  abbrev afterVersion : Items
+  afterVersion = brandItems delta (brandsAt c (k .brands)) before afterBrands
 
   abbrev afterTimes : Items
-  afterTimes = versionItems F delta s p before brandItems delta names before flagsItems F delta s p
+  afterTimes = versionItems F delta s (k .prft) before afterVersion
 
-  pub before-times : OutsideLeft (timesItems F delta s p before afterTimes) l at
+  pub before-times : OutsideLeft (timesItems F delta s (k .prft) before afterTimes) l at
   unfolding outsideItems
-  before-times = left-start F (outsideItems F delta s p names) l at (r .0) (r .1)
+  before-times = left-start F (outsideItems F t delta s c k bmdt ws) l at (r .0) (r .1)
 
-  module _ {m : List ℕ} {q : ℕ} (w : Wrote l at (bytesOf F (timesItems F delta s p)) m q) where
+  module _ {m : List ℕ} {q : ℕ} (w : Wrote l at (bytesOf F (timesItems F delta s (k .prft))) m q) where
     pub before-version : OutsideLeft afterTimes m q
     before-version = left-next _ _ _ _ _ _ _ _ before-times m q w
 
-    module _ {m₂ : List ℕ} {q₂ : ℕ} (w₂ : Wrote m q (bytesOf F (versionItems F delta s p)) m₂ q₂) where
-      pub before-brands : OutsideLeft (brandItems delta names before flagsItems F delta s p) m₂ q₂
+    module _ {m₂ : List ℕ} {q₂ : ℕ} (w₂ : Wrote m q (bytesOf F (versionItems F delta s (k .prft))) m₂ q₂) where
+      pub before-brands : OutsideLeft afterVersion m₂ q₂
       before-brands = left-next _ _ _ _ _ _ _ _ before-version m₂ q₂ w₂
 
-      pub before-flags : {m₃ : List ℕ} {q₃ : ℕ} → Wrote m₂ q₂ (bytesOf F (brandItems delta names)) m₃ q₃ → OutsideLeft (flagsItems F delta s p) m₃ q₃
-      before-flags w₃ = left-next _ _ _ _ _ _ _ _ before-brands _ _ w₃
+      module _ {m₃ : List ℕ} {q₃ : ℕ} (w₃ : Wrote m₂ q₂ (bytesOf F (brandItems delta (brandsAt c (k .brands)))) m₃ q₃) where
+        pub before-flags : OutsideLeft afterBrands m₃ q₃
+        before-flags = left-next _ _ _ _ _ _ _ _ before-brands m₃ q₃ w₃
+
+        pub before-events : {m₄ : List ℕ} {q₄ : ℕ} → Wrote m₃ q₃ (bytesOf F (flagsItems F delta s (k .prft))) m₄ q₄ → OutsideLeft afterFlags m₄ q₄
+        before-events w₄ = left-next _ _ _ _ _ _ _ _ before-flags _ _ w₄
 
 module _ {F : List Row} {t : Track} {s c : List ℕ} {k : Chunk} {ws x : List ℕ} (h : Encodable F t s c k ws x) (delta : Bool) {b : Basis}
     (e : b ≡ basisOf t delta (lent s) x) where
@@ -79,7 +91,7 @@ module _ {F : List Row} {t : Track} {s c : List ℕ} {k : Chunk} {ws x : List �
   eventsRead = eventItems F (sentOf t (getD x bmdtAt 0) c ws (k .events))
 
   abbrev outsideRead : Items
-  outsideRead = outsideItems F delta s (k .prft) (brandsAt c (k .brands))
+  outsideRead = outsideItems F t delta s c k (getD x bmdtAt 0) ws
 
   events-is : eventsRead ≡ eventItems F (events (trackOf s) c)
   events-is = ap (eventItems F) (events-are h) ∙ ap (λ (u : Track). eventItems F (events u c)) (h .on-share .track-is)
@@ -99,8 +111,8 @@ module _ {F : List Row} {t : Track} {s c : List ℕ} {k : Chunk} {ws x : List �
       let late = weighed-both r (weighed-both n (weighed-both f (weighed-both a g i₁) i₂) i₃) i₄ in
       weighed-as (sym block-is) (weighed-within (omega arith) (weighed-both p (weighed-both q late i₅) i₆))
 
-  -- those outside of `moof` and events are written by one call
-  block-calls : blockItems F s c delta ≡ setRead before outsideRead before eventsRead before goneRead
+  -- those outside of the `moof` are written by one call
+  block-calls : blockItems F s c delta ≡ setRead before outsideRead before goneRead
   unfolding outsideItems
   block-calls = block-is ∙ sym (simp before-assoc refl)
 
@@ -110,16 +122,12 @@ module _ {F : List Row} {t : Track} {s c : List ℕ} {k : Chunk} {ws x : List �
     abbrev BlockLeft : Items → List ℕ → ℕ → Type 0
     BlockLeft is m p = Left F (blockItems F s c delta) l at is m p
 
-    pub before-set : BlockLeft (setRead before outsideRead before eventsRead before goneRead) l at
+    pub before-set : BlockLeft (setRead before outsideRead before goneRead) l at
     before-set = left-as _ _ _ _ block-calls (left-start F (blockItems F s c delta) l at (r .0) (r .1))
 
     module _ {m : List ℕ} {p : ℕ} (w : Wrote l at (bytesOf F setRead) m p) where
-      pub before-outside : BlockLeft (outsideRead before eventsRead before goneRead) m p
+      pub before-outside : BlockLeft (outsideRead before goneRead) m p
       before-outside = left-next _ _ _ _ _ _ _ _ before-set m p w
 
-      module _ {m₂ : List ℕ} {p₂ : ℕ} (w₂ : Wrote m p (bytesOf F outsideRead) m₂ p₂) where
-        pub before-events : BlockLeft (eventsRead before goneRead) m₂ p₂
-        before-events = left-next _ _ _ _ _ _ _ _ before-outside m₂ p₂ w₂
-
-        pub before-gone : {m₃ : List ℕ} {p₃ : ℕ} → Wrote m₂ p₂ (bytesOf F eventsRead) m₃ p₃ → BlockLeft goneRead m₃ p₃
-        before-gone w₃ = left-next _ _ _ _ _ _ _ _ before-events _ _ w₃
+      pub before-gone : {m₂ : List ℕ} {p₂ : ℕ} → Wrote m p (bytesOf F outsideRead) m₂ p₂ → BlockLeft goneRead m₂ p₂
+      before-gone w₂ = left-next _ _ _ _ _ _ _ _ before-outside _ _ w₂

@@ -21,13 +21,12 @@ use Rattle.byte_parts.specs.declared.Part.{Part}
 use Rattle.cmaf_read_chunk.specs.declared.read.Chunk.{Chunk}
 use Rattle.cmaf_read_chunk.specs.Accepted.{bytesAt, brandsOf}
 use Rattle.cmaf_read_chunk.specs.Chunks.{Accepted}
-use Rattle.prft_value.specs.declared.Prft.{Prft}
 use Rattle.locmaf_write_tuples.specs.Items.{Items, _before_, bytesOf, weightMost}
 use Rattle.locmaf_write_prft.specs.Prft.{timesItems, versionItems, flagsItems}
 use Rattle.locmaf_write_events.specs.Records.{AllWords, AllIn, sentOf, listBytes}
 use Rattle.encoder.specs.declared.front.Plan.{Plan}
 use Rattle.answers.specs.declared.answer.Answer.{Answer}
-use Rattle.encoder.specs.Object.{track, headerOf, brandItems, blockItems, objectOf, givesDelta, fitsOk}
+use Rattle.encoder.specs.Object.{track, headerOf, brandItems, eventItems, blockItems, objectOf, givesDelta, fitsOk}
 
 -- what stands in a `styp`: nothing, or n bytes with a brand and a version at least, at most 16 brands and a version
 pub record BrandBytes (n : ℕ) : Type 0 where
@@ -38,10 +37,14 @@ pub record BrandBytes (n : ℕ) : Type 0 where
 abbrev pub brandsAt : List ℕ → Part → List ℕ
 brandsAt c p = brandsOf (bytesAt c p)
 
--- what stands between the fields of the `moof` and the events: the `prft` and the brands
-unfoldable pub outsideItems : List Row → Bool → List ℕ → Prft → List ℕ → Items
-outsideItems F delta s p names =
-    timesItems F delta s p before versionItems F delta s p before brandItems delta names before flagsItems F delta s p
+-- what stands between the fields of the `moof` and the deletions, by what was read: the `prft`, the brands and the events
+unfoldable pub outsideItems : List Row → Track → Bool → List ℕ → List ℕ → Chunk → ℕ → List ℕ → Items
+outsideItems F t delta s c k bmdt ws =
+    timesItems F delta s (k .prft)
+    before versionItems F delta s (k .prft)
+    before brandItems delta (brandsAt c (k .brands))
+    before flagsItems F delta s (k .prft)
+    before eventItems F (sentOf t bmdt c ws (k .events))
 
 -- k events of c as words, whose records have so many bytes
 pub record Recorded (F : List Row) (t : Track) (bmdt : ℕ) (c ws : List ℕ) (k list : ℕ) : Type 0 where

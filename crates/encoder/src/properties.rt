@@ -1,5 +1,5 @@
 // The property block of an object: its tuples ascending by id, weighed first and then written.
-// Letters: `t` the track, `s` the words of a share, `c` a chunk's bytes, `k` what was read of a chunk, `x` the words of the new set, `p` a prft.
+// Letters: `t` the track, `s` the words of a share, `c` a chunk's bytes, `k` what was read of a chunk, `x` the words of the new set.
 ghost use mathlib.Core.Path.{_≡_};
 ghost use mathlib.Core.Bool.{true};
 ghost use mathlib.Core.List.{List};
@@ -24,7 +24,6 @@ use locmaf_write_prft::prft;
 use locmaf_write_tuples::tuples;
 use locmaf_write_tuples::tuples::Weight;
 use media::clocks::TrackTicks;
-use prft_value::Prft;
 use share_words::share;
 use track::Track;
 use wire::form::Form;
@@ -143,29 +142,35 @@ pub fn block_size(
     )
 }
 
-// The `prft` and the brands, ids 18 to 24: what stands between the fields of the `moof` and the events.
+// What stands between the fields of the `moof` and the deletions, ids 18 to 25: the `prft`, the brands and the events.
 fn put_outside(
     form: Form,
+    t: Track,
     delta: bool,
-    p: Prft,
     s: &[u64],
     c: &[u8],
-    body: Part,
+    k: Chunk,
+    bmdt: TrackTicks,
+    ws: &[u64],
     out: &mut [u8],
     at: usize,
 ) -> usize
     requires { ⌜ length (now s) ≡ shareLen ⌝ }
-    requires { ⌜ BrandBytes (body .len) × (endOf body ≤ length (now c)) ⌝ }
-    requires { ⌜ isSome (outsideItems (rows form) delta (now s) p (brandsAt (now c) body)) ≡ true ⌝ }
-    requires { ⌜ RoomFor (rows form) (outsideItems (rows form) delta (now s) p (brandsAt (now c) body)) (now out) at ⌝ }
+    requires { ⌜ BrandBytes (k .brands .len) × (endOf (k .brands) ≤ length (now c)) ⌝ }
+    requires { ⌜ Recorded (rows form) t (bmdt .0) (now c) (now ws) (k .events) (k .list) ⌝ }
+    requires { ⌜ isSome (outsideItems (rows form) t delta (now s) (now c) k (bmdt .0) (now ws)) ≡ true ⌝ }
+    requires { ⌜ RoomFor (rows form) (outsideItems (rows form) t delta (now s) (now c) k (bmdt .0) (now ws))
+        (now out) at ⌝ }
     ensures { λ r. ⌜ WroteItems (rows form)
-        (outsideItems (rows form) delta (now (s .entry)) p (brandsAt (now (c .entry)) body))
+        (outsideItems (rows form) t delta (now (s .entry)) (now (c .entry)) k (bmdt .0) (now (ws .entry)))
         (now (out .entry)) at (now (out .exit)) r ⌝ }
 {
+    let p = k.prft;
     let u = prft::put_times(form, delta, p, s, out, at);
     let v = prft::put_version(form, delta, p, s, out, u);
-    let w = put_brands(form, delta, c, body, out, v);
-    prft::put_flags(form, delta, p, s, out, w)
+    let w = put_brands(form, delta, c, k.brands, out, v);
+    let y = prft::put_flags(form, delta, p, s, out, w);
+    put_events(form, t, bmdt, c, ws, k.events, k.list, out, y)
 }
 
 pub fn put_block(
@@ -188,11 +193,9 @@ pub fn put_block(
         (now (out .entry)) at (now (out .exit)) r ⌝ }
 {
     let r = &s[share::SET..];
-    let p = k.prft;
     let bmdt = TrackTicks(x[lines::BMDT]);
     let b = set::basis_of(t, delta, r, x);
     let u = set::put_set(form, t, b, r, x, out, at);
-    let v = put_outside(form, delta, p, s, c, k.brands, out, u);
-    let w = put_events(form, t, bmdt, c, ws, k.events, k.list, out, v);
-    deletions::put_deletions(form, b, r, x, out, w)
+    let v = put_outside(form, t, delta, s, c, k, bmdt, ws, out, u);
+    deletions::put_deletions(form, b, r, x, out, v)
 }
