@@ -20,7 +20,7 @@ use Rattle.slots.specs.Share.{trackOf}
 use Rattle.slots.specs.Table.{out}
 use Rattle.answers.specs.Took.{took}
 use Rattle.answers.specs.declared.answer.Answer.{Answer}
-use Rattle.answers.specs.Answered.{AnsweredAs}
+use Rattle.answers.specs.Answered.{answered, AnsweredAs}
 use Rattle.reference.specs.Kept.{keptWords}
 use Rattle.cmaf_read_chunk.specs.declared.read.Chunk.{Chunk}
 use Rattle.cmaf_read_chunk.specs.Accepted.{bytesAt, prft, payload, fields}
