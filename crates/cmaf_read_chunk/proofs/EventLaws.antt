@@ -5,7 +5,7 @@ use native.Mathlib.Omega.{arith}
 use mathlib.Core.Path.{_≡_, refl, sym, _∙_, ap, ap₂, subst}
 use mathlib.Core.Bool.{true}
 use mathlib.Core.List.{List, _∷_, _++_, append-assoc}
-use lib.ListN.{length, getD, take, drop, length-append, List·getD-append}
+use lib.ListN.{length, getD, take, drop, List·getD-append}
 use lib.Seq.{getD-drop, drop-drop, drop-at}
 use Rattle.constants.specs.Maxima.{eventsMost}
 use Rattle.laws.specs.Bytes.{Bytes}
@@ -103,10 +103,6 @@ module _ (c : List ℕ) (k at : ℕ) (ws : List ℕ) where
   unfolding keptEvents
   events-kept = events-front c (emsgWords c k at) (drop (eventWords * k) ws) k 0 (omega (arith, words-length c k at))
 
-  pub kept-long : eventWords * k ≤ length (keptEvents c k at ws)
-  unfolding keptEvents
-  kept-long = omega (arith, length-append (emsgWords c k at) (drop (eventWords * k) ws), words-length c k at)
-
   module _ (h : at ≤ length c) (e : emsgsOk c k at ≡ true) (r : eventWords * k ≤ length ws) where
     -- the texts of the events lie in the chunk
     pub all-in : AllIn c (keptEvents c k at ws) k
@@ -133,3 +129,8 @@ module _ (c : List ℕ) (k at : ℕ) (ws : List ℕ) where
                 message-lt = rw (sym (getD-drop (eventWords * i) all eventMessageLen 0)) (s .message);
               };
         }
+
+-- words of k events are so many
+pub words-there : (ws : List ℕ) (k : ℕ) → AllWords ws k → eventWords * k ≤ length ws
+words-there ws zero w = omega arith
+words-there ws (suc k) w = omega (arith, w .each k (omega arith) .there)

@@ -1,12 +1,15 @@
 -- The numbers of a chunk, by the tests of the code in their order. Assumes nothing.
-use Prim.Native.Nat.{ℕ, _≤_, _<_}
+use Prim.Native.Nat.{ℕ, _*_, _≤_, _<_}
 use native.Mathlib.Omega.{arith}
 use mathlib.Core.Path.{_≡_, sym, _∙_, ap}
-use mathlib.Core.Bool.{true, false}
-use mathlib.Core.List.{List}
-use borrow.Author.Tests.{le-leb, lt-leb}
+use mathlib.Core.Bool.{Bool, true, false, not}
+use mathlib.Core.List.{List, [], _∷_}
+use borrow.Author.Tests.{le-leb, lt-leb, not-false}
+use lib.ListN.{length}
+use Rattle.laws.specs.Ladder.{_else_}
 use Rattle.laws.specs.Tests.{_and_}
-use Rattle.laws.proofs.LadderLaws.{numberOf, all-hold, broken, passed, top as done}
+use Rattle.laws.proofs.LadderLaws.{numberOf, all-hold, broken, passed, stopped-on, top as done}
+use Rattle.laws.proofs.GateLaws.{failed, held}
 use Rattle.laws.proofs.TestLaws.{left, both}
 use Rattle.constants.specs.Maxima.{eventBytesMost}
 use Rattle.wire.specs.declared.form.Row.{Row}
@@ -16,59 +19,54 @@ use Rattle.cmaf_read_shape.specs.declared.top.Top.{Top}
 use Rattle.cmaf_read_shape.specs.declared.inner.Inner.{Inner}
 use Rattle.cmaf_read_shape.specs.Top.{topOf}
 use Rattle.cmaf_read_shape.specs.Inner.{innerOf}
+use Rattle.event_value.specs.Events.{eventWords}
 use Rattle.locmaf_write_events.specs.Records.{listBytes}
 use Rattle.cmaf_read_rules.specs.Rules.{rulesOk}
-use Rattle.cmaf_read_set.specs.Set.{chunkSet}
 use Rattle.cmaf_read_chunk.specs.declared.read.Chunk.{Chunk}
-use Rattle.cmaf_read_chunk.specs.declared.read.Judged.{Judged}
+use Rattle.cmaf_read_chunk.specs.declared.read.Counted.{Counted}
 use Rattle.cmaf_read_chunk.specs.Accepted.{top, inner, boxes, events, fields, countsOk, maximaOk, lateRungs, acceptRungs}
 use Rattle.cmaf_read_boxes.proofs.BoxLaws.{six-only}
 use Rattle.cmaf_read_boxes.specs.Right.{boxesOk, boxesNumber}
-use Rattle.cmaf_read_chunk.specs.Chunks.{refusedWith, takenAs, Listed, JudgedAs, ReadAs}
+use Rattle.cmaf_read_chunk.specs.Chunks.{refusedWith, takenAs, Listed, CountedAs, SettledAs, ReadAs}
+use Rattle.cmaf_read_chunk.proofs.EventLaws.{words-there}
 
 module _ (F : List Row) (t : Track) (c : List ℕ) where
-  -- ---- the maxima and the rules
+  -- ---- the maxima
 
-  -- a refusal
-  judged-none : (k : ℕ) {ws : List ℕ} → (k ≡ 0 → ⊥) → k ≡ numberOf (lateRungs F t c) → JudgedAs F t c (record { number = k; list = 0 }) ws
-  judged-none k n e = record { answered = e; listed = λ z. absurd (n z) }
+  -- one is passed
+  maxima-break : {ws : List ℕ} → maximaOk F t c ≡ false → CountedAs F t c (record { number = 8; list = 0 }) ws
+  maxima-break e = record { answered = broken _ 8 _ (λ n. n) 0 e; listed = λ z. absurd (omega (arith, z)) }
 
-  -- a maximum is passed: by a count
-  pub counts-break : {ws : List ℕ} → countsOk t c ≡ false → JudgedAs F t c (record { number = 8; list = 0 }) ws
-  unfolding lateRungs maximaOk _and_
-  counts-break e = judged-none 8 (λ z. omega arith) (broken _ 8 _ (λ n. n) 0 (rw e))
+  -- by a count
+  pub counts-break : {ws : List ℕ} → countsOk t c ≡ false → CountedAs F t c (record { number = 8; list = 0 }) ws
+  unfolding maximaOk _and_
+  counts-break e = maxima-break (rw e)
 
   module _ (k : countsOk t c ≡ true) {list : ℕ} (l : list ≡ listBytes F (events t c)) where
     -- or by the bytes of the list
-    pub list-breaks : {ws : List ℕ} → eventBytesMost < list → JudgedAs F t c (record { number = 8; list = 0 }) ws
-    unfolding lateRungs maximaOk _and_
-    list-breaks h =
-        judged-none 8 (λ z. omega arith) (broken _ 8 _ (λ n. n) 0 (rw k (lt-leb (listBytes F (events t c)) eventBytesMost (omega (arith, l)))))
+    pub list-breaks : {ws : List ℕ} → eventBytesMost < list → CountedAs F t c (record { number = 8; list = 0 }) ws
+    unfolding maximaOk _and_
+    list-breaks h = maxima-break (rw k (lt-leb (listBytes F (events t c)) eventBytesMost (omega (arith, l))))
 
-    module _ (h : list ≤ eventBytesMost) where
-      maxima-hold : maximaOk F t c ≡ true
-      unfolding maximaOk
-      maxima-hold = both _ _ k (le-leb (listBytes F (events t c)) eventBytesMost (omega (arith, l)))
+    -- none is
+    pub maxima-keep : {ws : List ℕ} → list ≤ eventBytesMost → Listed F t c list ws → CountedAs F t c (record { number = 0; list = list }) ws
+    unfolding maximaOk
+    maxima-keep h s =
+        let m : maximaOk F t c ≡ true = both _ _ k (le-leb (listBytes F (events t c)) eventBytesMost (omega (arith, l))) in
+        record { answered = passed _ 8 _ (λ n. n) 0 m (done (λ n. n) 0); listed = λ z. s }
 
-      -- a rule is broken
-      pub rules-break : {ws : List ℕ} → rulesOk t c (top c) (inner c) (boxes c) ≡ false → JudgedAs F t c (record { number = 7; list = 0 }) ws
-      unfolding lateRungs
-      rules-break e = judged-none 7 (λ z. omega arith) (passed _ 8 _ (λ n. n) 0 maxima-hold (broken _ 7 _ (λ n. n) 0 e))
+  -- the number 0 says that none is
+  module _ {k : Counted} {ws : List ℕ} (h : CountedAs F t c k ws) (z : k .number ≡ 0) where
+    maxima-kept : maximaOk F t c ≡ true
+    maxima-kept = all-hold ((maximaOk F t c else 8) ∷ []) ((λ z. omega arith), tt) (sym (h .answered) ∙ z) .0
 
-      -- none is
-      pub rules-keep : {ws : List ℕ} → rulesOk t c (top c) (inner c) (boxes c) ≡ true → Listed F t c list ws
-          → JudgedAs F t c (record { number = 0; list = list }) ws
-      unfolding lateRungs
-      rules-keep e s =
-          record {
-            answered = passed _ 8 _ (λ n. n) 0 maxima-hold (passed _ 7 _ (λ n. n) 0 e (done (λ n. n) 0));
-            listed = λ z. s;
-          }
+    pub counts-kept : countsOk t c ≡ true
+    unfolding maximaOk
+    counts-kept = left _ _ maxima-kept
 
-  -- the number 0 says that the counts keep their maxima
-  counts-kept : 0 ≡ numberOf (lateRungs F t c) → countsOk t c ≡ true
-  unfolding lateRungs maximaOk
-  counts-kept e = left _ _ (all-hold (lateRungs F t c) ((λ z. omega arith), ((λ z. omega arith), tt)) (sym e) .0)
+    -- and the words of the events are there
+    pub events-there : {y : Top} → y ≡ topOf c → eventWords * y .events ≤ length ws
+    events-there et = rw et (words-there ws (top c .events) (h .listed z .words))
 
   -- ---- all of them
 
@@ -90,31 +88,46 @@ module _ (F : List Row) (t : Track) (c : List ℕ) where
         let s = six-only t c h n in
         read-none k e n (s .1 ∙ passed _ 5 _ (λ n. n) 0 w (broken _ 6 _ (λ n. n) 0 (s .0)))
 
-    module _ (b : boxesOk t c ≡ true) {j : Judged} {ws : List ℕ} (h : JudgedAs F t c j ws) where
-      late : j .number ≡ numberOf (acceptRungs F t c)
+    module _ (b : boxesOk t c ≡ true) {k : Counted} {ws : List ℕ} (h : CountedAs F t c k ws) where
+      -- past the tree and the boxes
+      late : {n : ℕ} → n ≡ numberOf (lateRungs F t c) → n ≡ numberOf (acceptRungs F t c)
       unfolding acceptRungs
-      late = passed _ 5 _ (λ n. n) 0 w (passed _ 6 _ (λ n. n) 0 b (h .answered))
+      late e = passed _ 5 _ (λ n. n) 0 w (passed _ 6 _ (λ n. n) 0 b e)
 
-      -- a maximum is passed or a rule is broken
-      pub judged-break : {r : Chunk} {vs x : List ℕ} → r ≡ refusedWith (j .number) → (j .number ≡ 0 → ⊥) → ReadAs F t c r vs x
-      judged-break e n = read-none (j .number) e n late
+      -- a maximum is passed
+      pub counted-break : {r : Chunk} {vs x : List ℕ} → r ≡ refusedWith (k .number) → (k .number ≡ 0 → ⊥) → ReadAs F t c r vs x
+      unfolding lateRungs
+      counted-break e n =
+          read-none (k .number) e n
+          (late (h .answered ∙ stopped-on ((maximaOk F t c else 8) ∷ []) _ (λ n. n) 0 (λ z. n (h .answered ∙ z))))
 
       -- none is
-      module _ (z : j .number ≡ 0) where
-        pub judged-counts : countsOk t c ≡ true
-        judged-counts = counts-kept (sym z ∙ h .answered)
+      module _ (z : k .number ≡ 0) {y : Top} {f : Inner} (et : y ≡ topOf c) (ef : f ≡ innerOf c (y .moof)) {ok : Bool} {x : List ℕ}
+          (s : SettledAs t c y f ws ok x) where
+        -- the rules that were asked are the chunk's
+        rules-are : ok ≡ rulesOk t c (top c) (inner c) (boxes c)
+        rules-are = s .asked ∙ rw (ef, et, h .listed z .boxes-are)
 
-        pub judged-keep : {y : Top} {f : Inner} {r : Chunk} {x : List ℕ} → y ≡ topOf c → f ≡ innerOf c (y .moof) → r ≡ takenAs c (j .list)
-            → x ≡ chunkSet t c f → ReadAs F t c r ws x
-        unfolding fields
-        judged-keep {y} {f} {r} {x} et ef e s =
-            let l : r .list ≡ j .list = ap (λ (k : Chunk). k .list) e in
+        -- a rule is broken
+        pub rules-break : {r : Chunk} {vs xs : List ℕ} → r ≡ refusedWith 7 → not ok ≡ true → ReadAs F t c r vs xs
+        unfolding lateRungs
+        rules-break e n =
+            read-none 7 e (λ z. omega arith)
+            (late (passed _ 8 _ (λ n. n) 0 (maxima-kept h z) (broken _ 7 _ (λ n. n) 0 (failed rules-are n))))
+
+        -- none is
+        pub rules-keep : {r : Chunk} → r ≡ takenAs c (k .list) → not ok ≡ false → ReadAs F t c r ws x
+        unfolding lateRungs fields
+        rules-keep {r} e n =
+            let l : r .list ≡ k .list = ap (λ (y : Chunk). y .list) e in
+            let m : 0 ≡ numberOf (acceptRungs F t c) =
+            late (passed _ 8 _ (λ n. n) 0 (maxima-kept h z) (passed _ 7 _ (λ n. n) 0 (held rules-are n) (done (λ n. n) 0))) in
             record {
-              answered = ap (λ (k : Chunk). k .number) e ∙ sym z ∙ late;
-              taken = λ n.
+              answered = ap (λ (y : Chunk). y .number) e ∙ m;
+              taken = λ q.
                   record {
                     chunk-is = e ∙ ap (takenAs c) (sym l);
-                    set-is = s ∙ rw (ef, et);
+                    set-is = s .filled (not-false _ n) ∙ rw (ef, et);
                     listed = rw l (h .listed z);
                   };
             }

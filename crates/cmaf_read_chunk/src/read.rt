@@ -2,22 +2,22 @@
 // Letters: `t` the track, `c` a chunk's bytes, `x` the words of the new set, `f` the boxes inside the `moof`, `d` the defaults of the `tfhd`.
 ghost use mathlib.Core.Path.{_≡_};
 ghost use mathlib.Core.Bool.{true};
-ghost use Prim.Native.Nat.{_≤_};
+ghost use Prim.Native.Nat.{_*_, _≤_};
 ghost use lib.ListN.{length, replicate};
 ghost use Rattle.wire.specs.Form.{rows};
-ghost use Rattle.event_value.specs.Events.{eventsLen};
+ghost use Rattle.event_value.specs.Events.{eventWords, eventsLen};
 ghost use Rattle.field_table.specs.Lines.{setLen};
 ghost use Rattle.cmaf_read_shape.specs.Top.{topOf};
 ghost use Rattle.cmaf_read_shape.specs.Inner.{innerOf};
 ghost use Rattle.cmaf_read_prelude.specs.Prft.{prftOk};
-ghost use Rattle.cmaf_read_moof.specs.Defaults.{defaultsOf, Narrow};
 ghost use Rattle.cmaf_read_boxes.specs.Right.{boxesOk};
-ghost use Rattle.cmaf_read_chunk.specs.Chunks.{refusedWith, takenAs, JudgedAs, ReadAs};
+ghost use Rattle.cmaf_read_rules.specs.Rules.{Right};
+ghost use Rattle.cmaf_read_set.specs.Gatherable.{Gatherable};
+ghost use Rattle.cmaf_read_chunk.specs.Chunks.{refusedWith, takenAs, CountedAs, SettledAs, ReadAs};
 use crate::maxima;
 use byte_parts::Part;
 use cmaf_read_boxes::right;
 use cmaf_read_moof::defaults;
-use cmaf_read_moof::defaults::Defaults;
 use cmaf_read_shape::inner::Inner;
 use cmaf_read_shape::top::Top;
 use cmaf_read_tree::whole;
@@ -37,8 +37,8 @@ pub struct Chunk {
     pub payload: Part,
 }
 
-// The bytes of the events' records, or the number of what is wrong.
-struct Judged {
+// The bytes of the events' records, or 8.
+struct Counted {
     number: u64,
     list: usize,
 }
@@ -73,23 +73,14 @@ fn taken(c: &[u8], top: Top, list: usize) -> Chunk
     }
 }
 
-// The maxima and then the rules, of a chunk whose boxes are right: 8, 7 or 0. The words of the events are kept on the way.
-fn judge(
-    form: Form,
-    t: Track,
-    c: &[u8],
-    top: Top,
-    f: Inner,
-    d: Defaults,
-    events: &mut [u64],
-) -> Judged
+// The maxima, of a chunk whose boxes are right: 8 or 0. The words of the events are kept on the way.
+fn count(form: Form, t: Track, c: &[u8], top: Top, f: Inner, events: &mut [u64]) -> Counted
     requires { ⌜ (top ≡ topOf (now c)) × (f ≡ innerOf (now c) (top .moof)) ⌝ }
     requires { ⌜ (boxesOk t (now c) ≡ true) × (length (now events) ≡ eventsLen) ⌝ }
-    requires { ⌜ (d ≡ defaultsOf t (now c) (f .tfhd)) × Narrow d ⌝ }
-    ensures { λ r. ⌜ JudgedAs (rows form) t (now (c .entry)) r (now (events .exit)) ⌝ }
+    ensures { λ r. ⌜ CountedAs (rows form) t (now (c .entry)) r (now (events .exit)) ⌝ }
 {
     if !maxima::counts_ok(t, c, top, f) {
-        return Judged { number: 8, list: 0 };
+        return Counted { number: 8, list: 0 };
     }
     let emsgs = top.emsgs;
     let tfdt = f.tfdt;
@@ -97,12 +88,25 @@ fn judge(
     let bmdt = cmaf_read_moof::headers::bmdt_of(c, tfdt);
     let list = locmaf_write_events::records::list_bytes(form, t, bmdt, events, top.events);
     if (EVENT_BYTES as usize) < list {
-        return Judged { number: 8, list: 0 };
+        return Counted { number: 8, list: 0 };
     }
+    Counted { number: 0, list }
+}
+
+// Whether the rules hold, of a chunk that keeps its maxima; where they do, its set into words that are zeros. Both go by the defaults of the `tfhd`,
+// which are read here and no sooner: the loops of `count` over the events would hold them all along.
+fn settle(t: Track, c: &[u8], top: Top, f: Inner, events: &[u64], x: &mut [u64]) -> bool
+    requires { ⌜ Right t (now c) top f × Gatherable t (now c) f ⌝ }
+    requires { ⌜ (eventWords * top .events ≤ length (now events)) × (now x ≡ replicate setLen 0) ⌝ }
+    ensures { λ b. ⌜ SettledAs t (now (c .entry)) top f (now (events .entry)) b (now (x .exit)) ⌝ }
+{
+    let tfhd = f.tfhd;
+    let d = defaults::defaults_of(t, c, tfhd);
     if !cmaf_read_rules::all::rules_ok(t, c, top, f, d, events) {
-        return Judged { number: 7, list: 0 };
+        return false;
     }
-    Judged { number: 0, list }
+    cmaf_read_set::set::put_set(t, c, f, d, &mut *x);
+    true
 }
 
 // A chunk for a track. The words of the set are zeros before; both runs of words count only with the number 0.
@@ -121,12 +125,12 @@ pub fn read_chunk(form: Form, t: Track, c: &[u8], events: &mut [u64], x: &mut [u
     if n != 0 {
         return refused(n);
     }
-    let tfhd = f.tfhd;
-    let d = defaults::defaults_of(t, c, tfhd);
-    let j = judge(form, t, c, top, f, d, &mut *events);
-    if j.number != 0 {
-        return refused(j.number);
+    let counts = count(form, t, c, top, f, &mut *events);
+    if counts.number != 0 {
+        return refused(counts.number);
     }
-    cmaf_read_set::set::put_set(t, c, f, d, &mut *x);
-    taken(c, top, j.list)
+    if !settle(t, c, top, f, events, &mut *x) {
+        return refused(7);
+    }
+    taken(c, top, counts.list)
 }

@@ -5,9 +5,9 @@ use Rattle.laws.proofs.GateLaws.{failed, held}
 use Rattle.wire.specs.Form.{rows}
 use Rattle.cmaf_read_tree.specs.Whole.{whole}
 use Rattle.cmaf_read_boxes.specs.Right.{boxesOk}
-use Rattle.cmaf_read_boxes.proofs.BoxLaws.{moof-found, found-in, none-right, found-hold}
-use Rattle.cmaf_read_chunk.proofs.MaximaLaws.{gatherable}
-use Rattle.cmaf_read_chunk.proofs.RungLaws.{tree-breaks, boxes-break, judged-break, judged-counts, judged-keep}
+use Rattle.cmaf_read_boxes.proofs.BoxLaws.{moof-found, none-right, found-hold}
+use Rattle.cmaf_read_chunk.proofs.MaximaLaws.{right-is, gatherable}
+use Rattle.cmaf_read_chunk.proofs.RungLaws.{tree-breaks, boxes-break, counted-break, counts-kept, events-there, rules-break, rules-keep}
 use borrow.Author.Needs.{needs}
 use Rattle.cmaf_read_chunk.proofs.read.read_chunk.Statement.{statement}
 use Rattle.cmaf_read_chunk.proofs.read.read_chunk.Tie as tie
@@ -56,20 +56,10 @@ returns-2 c =
     boxes-break (rows (a .form)) (a .t) (a .c .now) (tree g) (c .refused2 .ensures)
     (c .before .before .number .ensures) (c .before .if2 .taken)
 
-defaults-of-requires : tie.Need-defaults-of-requires
-defaults-of-requires c κs =
+count-requires : tie.Need-count-requires
+count-requires c κs =
     let g = c .before in
-    let a = start (first g) .args in
-    let x = g .before .before .before .before .top-of .ensures in
-    let y = g .before .before .inner-of .ensures in
-    (found-in (a .c .now) _ _ x y .tfhd-in, found-hold (a .t) (a .c .now) _ _ x y (right g) .tfhd-ok)
-
-judge-requires : tie.Need-judge-requires
-judge-requires c κs =
-    let g = c .before .before .before in (
-      (g .before .before .before .before .top-of .ensures, g .before .before .inner-of .ensures),
-      ((right g, start (first g) .pre .1 .0), c .before .defaults-of .ensures),
-    )
+    ((g .before .before .before .before .top-of .ensures, g .before .before .inner-of .ensures), (right g, start (first g) .pre .1 .0))
 
 refused-requires-3 : tie.Need-refused-requires-3
 refused-requires-3 c κs = search needs
@@ -79,28 +69,27 @@ same-length c = search needs
 
 returns-3 : tie.Need-returns-3
 returns-3 c =
-    let g = c .before .before .before .before .before .before .before .before .before in
+    let g = c .before .before .before .before .before .before .before in
     let a = start (first g) .args in
-    judged-break (rows (a .form)) (a .t) (a .c .now) (tree (first g)) (right g) (c .before .before .before .before .before .judge .ensures)
+    counted-break (rows (a .form)) (a .t) (a .c .now) (tree (first g)) (right g) (c .before .before .before .before .before .count .ensures)
     (c .refused3 .ensures) (c .before .if3 .taken)
 
-put-set-requires : tie.Need-put-set-requires
-put-set-requires c κs =
-    let g = c .before .before .before .before .before .before .before .before .before in
+settle-requires : tie.Need-settle-requires
+settle-requires c κs =
+    let g = c .before .before .before .before .before .before .before .before in
     let s = start (first g) in
     let a = s .args in
-    let j = c .before .before .before .before .before .judge .ensures in
-    let k = judged-counts (rows (a .form)) (a .t) (a .c .now) (tree (first g)) (right g) j (c .before .if3 .left) in (
-      gatherable (a .t) (a .c .now) _ _ (g .before .before .before .before .top-of .ensures) (g .before .before .inner-of .ensures) (right g) k (s .pre .0),
-      (s .pre .1 .1, c .before .before .before .before .before .before .before .defaults-of .ensures),
+    let x = g .before .before .before .before .top-of .ensures in
+    let y = g .before .before .inner-of .ensures in
+    let n = c .before .before .before .before .before .before .count .ensures in
+    let z = c .before .before .if3 .left in
+    let k = counts-kept (rows (a .form)) (a .t) (a .c .now) n z in (
+      (right-is (a .t) (a .c .now) _ _ x y (right g) k, gatherable (a .t) (a .c .now) _ _ x y (right g) k (s .pre .0)),
+      (events-there (rows (a .form)) (a .t) (a .c .now) n z x, s .pre .1 .1),
     )
 
-taken-requires : tie.Need-taken-requires
-taken-requires c κs =
-    let g = c .before .before .before .before .before .before .before .before .before .before .before .before in
-    let a = start (first g) .args in
-    let x = g .before .before .before .before .top-of .ensures in
-    (x, found-hold (a .t) (a .c .now) _ _ x (g .before .before .inner-of .ensures) (right g) .prft-ok)
+refused-requires-4 : tie.Need-refused-requires-4
+refused-requires-4 c κs = search needs
 
 same-length-2 : tie.Need-same-length-2
 same-length-2 c = search needs
@@ -112,10 +101,28 @@ returns-4 : tie.Need-returns-4
 returns-4 c =
     let g = c .before .before .before .before .before .before .before .before .before .before .before .before .before in
     let a = start (first g) .args in
-    judged-keep (rows (a .form)) (a .t) (a .c .now) (tree (first g)) (right g)
-    (c .before .before .before .before .before .before .before .before .before .judge .ensures) (c .before .before .before .before .before .if3 .left)
-    (g .before .before .before .before .top-of .ensures) (g .before .before .inner-of .ensures) (c .taken .ensures)
-    (c .before .before .before .put-set .ensures)
+    rules-break (rows (a .form)) (a .t) (a .c .now) (tree (first g)) (right g) (c .before .before .before .before .before .before .before .before .before .before .before .count .ensures) (c .before .before .before .before .before .before .before .if3 .left)
+    (g .before .before .before .before .top-of .ensures) (g .before .before .inner-of .ensures) (c .before .before .before .before .settle .ensures) (c .refused4 .ensures) (c .before .if4 .taken)
+
+taken-requires : tie.Need-taken-requires
+taken-requires c κs =
+    let g = c .before .before .before .before .before .before .before .before .before .before .before .before in
+    let a = start (first g) .args in
+    let x = g .before .before .before .before .top-of .ensures in
+    (x, found-hold (a .t) (a .c .now) _ _ x (g .before .before .inner-of .ensures) (right g) .prft-ok)
+
+same-length-4 : tie.Need-same-length-4
+same-length-4 c = search needs
+
+same-length-5 : tie.Need-same-length-5
+same-length-5 c = search needs
+
+returns-5 : tie.Need-returns-5
+returns-5 c =
+    let g = c .before .before .before .before .before .before .before .before .before .before .before .before .before in
+    let a = start (first g) .args in
+    rules-keep (rows (a .form)) (a .t) (a .c .now) (tree (first g)) (right g) (c .before .before .before .before .before .before .before .before .before .before .before .count .ensures) (c .before .before .before .before .before .before .before .if3 .left)
+    (g .before .before .before .before .top-of .ensures) (g .before .before .inner-of .ensures) (c .before .before .before .before .settle .ensures) (c .taken .ensures) (c .before .if4 .left)
 
 pub read-chunk-spec : {M : Type 1} → statement M
 read-chunk-spec =
@@ -129,13 +136,16 @@ read-chunk-spec =
     number-requires
     refused-requires-2
     returns-2
-    defaults-of-requires
-    judge-requires
+    count-requires
     refused-requires-3
     same-length
     returns-3
-    put-set-requires
-    taken-requires
+    settle-requires
+    refused-requires-4
     same-length-2
     same-length-3
-    returns-4)
+    returns-4
+    taken-requires
+    same-length-4
+    same-length-5
+    returns-5)
