@@ -7,6 +7,7 @@ ghost use lib.ListN.{length, replicate};
 ghost use Rattle.wire.specs.Form.{rows};
 ghost use Rattle.event_value.specs.Events.{eventWords, eventsLen};
 ghost use Rattle.field_table.specs.Lines.{setLen};
+ghost use Rattle.cmaf_read_tree.specs.Whole.{whole};
 ghost use Rattle.cmaf_read_shape.specs.Top.{topOf};
 ghost use Rattle.cmaf_read_shape.specs.Inner.{innerOf};
 ghost use Rattle.cmaf_read_prelude.specs.Prft.{prftOk};
@@ -109,6 +110,31 @@ fn settle(t: Track, c: &[u8], top: Top, f: Inner, events: &[u64], x: &mut [u64])
     true
 }
 
+// What is asked of a chunk whose boxes are right, and then read of it.
+fn read_rest(
+    form: Form,
+    t: Track,
+    c: &[u8],
+    top: Top,
+    f: Inner,
+    events: &mut [u64],
+    x: &mut [u64],
+) -> Chunk
+    requires { ⌜ (t .«iv_size» ≤ 16) × (whole (now c) ≡ true) × (boxesOk t (now c) ≡ true) ⌝ }
+    requires { ⌜ (top ≡ topOf (now c)) × (f ≡ innerOf (now c) (top .moof)) ⌝ }
+    requires { ⌜ (length (now events) ≡ eventsLen) × (now x ≡ replicate setLen 0) ⌝ }
+    ensures { λ r. ⌜ ReadAs (rows form) t (now (c .entry)) r (now (events .exit)) (now (x .exit)) ⌝ }
+{
+    let counts = count(form, t, c, top, f, &mut *events);
+    if counts.number != 0 {
+        return refused(counts.number);
+    }
+    if !settle(t, c, top, f, events, &mut *x) {
+        return refused(7);
+    }
+    taken(c, top, counts.list)
+}
+
 // A chunk for a track. The words of the set are zeros before; both runs of words count only with the number 0.
 pub fn read_chunk(form: Form, t: Track, c: &[u8], events: &mut [u64], x: &mut [u64]) -> Chunk
     requires { ⌜ t .«iv_size» ≤ 16 ⌝ }
@@ -125,12 +151,5 @@ pub fn read_chunk(form: Form, t: Track, c: &[u8], events: &mut [u64], x: &mut [u
     if n != 0 {
         return refused(n);
     }
-    let counts = count(form, t, c, top, f, &mut *events);
-    if counts.number != 0 {
-        return refused(counts.number);
-    }
-    if !settle(t, c, top, f, events, &mut *x) {
-        return refused(7);
-    }
-    taken(c, top, counts.list)
+    read_rest(form, t, c, top, f, events, x)
 }

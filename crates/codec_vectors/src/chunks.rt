@@ -14,6 +14,24 @@ fn show(output: &[u8], front: usize, summed: bool) {
     hex(output, 0, front)
 }
 
+// A chunk with a wish on a table, into so much room.
+fn tell(table: &mut [u64], slot: u64, wish: u64, chunk: &[u8], out: &mut [u8], summed: bool) {
+    let mut number = 99;
+    let mut front = 99;
+    let payload = encoder::encode::encode(
+        table,
+        slot,
+        wish,
+        chunk,
+        &mut *out,
+        &mut number,
+        &mut front,
+    );
+    results::told(number, front, payload.len() as u64);
+    show(out, front as usize, summed);
+    letter(b'\n')
+}
+
 // A chunk with a wish on the first words of a table, in so much room, up to 65,536 bytes.
 fn encode(
     table: &mut [u64],
@@ -31,21 +49,14 @@ fn encode(
         return line(99);
     }
     let mut output = io::large_buffer();
-    let out = &mut output[..room as usize];
-    let mut number = 99;
-    let mut front = 99;
-    let payload = encoder::encode::encode(
+    tell(
         &mut table[..words],
         slot,
         wish,
         chunk,
-        out,
-        &mut number,
-        &mut front,
-    );
-    results::told(number, front, payload.len() as u64);
-    show(out, front as usize, summed);
-    letter(b'\n')
+        &mut output[..room as usize],
+        summed,
+    )
 }
 
 // A chunk of a track: always as a full object on the first slot, and with the wish for a delta on the second.

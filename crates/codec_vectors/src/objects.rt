@@ -4,6 +4,23 @@ use printing::hex;
 use printing::letter;
 use printing::line;
 
+// An object on a table, into so much room.
+fn tell(table: &mut [u64], slot: u64, object: &[u8], out: &mut [u8]) {
+    let mut number = 99;
+    let mut front = 99;
+    let payload = receiver::receive::receive(
+        table,
+        slot,
+        object,
+        &mut *out,
+        &mut number,
+        &mut front,
+    );
+    results::told(number, front, payload.len() as u64);
+    hex(out, 0, front as usize);
+    letter(b'\n')
+}
+
 // An object on the first words of a table, in so much room, up to 4,096 bytes.
 pub fn receive(table: &mut [u64], words: usize, slot: u64, room: u64, object: &[u8]) {
     if table.len() < words {
@@ -13,18 +30,10 @@ pub fn receive(table: &mut [u64], words: usize, slot: u64, room: u64, object: &[
         return line(99);
     }
     let mut output = io::buffer();
-    let out = &mut output[..room as usize];
-    let mut number = 99;
-    let mut front = 99;
-    let payload = receiver::receive::receive(
+    tell(
         &mut table[..words],
         slot,
         object,
-        out,
-        &mut number,
-        &mut front,
-    );
-    results::told(number, front, payload.len() as u64);
-    hex(out, 0, front as usize);
-    letter(b'\n')
+        &mut output[..room as usize],
+    )
 }

@@ -21,29 +21,20 @@ returns-2 c = search needs
 large-buffer-requires : tie.Need-large-buffer-requires
 large-buffer-requires c κs = search needs
 
+slice-relend-prefix-tell : tie.Need-slice-relend-prefix-tell
+slice-relend-prefix-tell c = search needs
+
+slice-aggregate-tell : tie.Need-slice-aggregate-tell
+slice-aggregate-tell c = sym (length-take-le _ _ (omega arith))
+
 array-borrow-prefix-output : tie.Need-array-borrow-prefix-output
 array-borrow-prefix-output c = search needs
 
-slice-aggregate-out : tie.Need-slice-aggregate-out
-slice-aggregate-out c = sym (length-take-le _ _ (omega arith))
+slice-aggregate-tell-2 : tie.Need-slice-aggregate-tell-2
+slice-aggregate-tell-2 c = sym (length-take-le _ _ (omega arith))
 
-slice-relend-prefix-encode : tie.Need-slice-relend-prefix-encode
-slice-relend-prefix-encode c = search needs
-
-slice-aggregate-encode : tie.Need-slice-aggregate-encode
-slice-aggregate-encode c = sym (length-take-le _ _ (omega arith))
-
-encode-requires : tie.Need-encode-requires
-encode-requires c κs = search needs
-
-told-requires : tie.Need-told-requires
-told-requires c κs = search needs
-
-show-requires : tie.Need-show-requires
-show-requires c κs = search needs
-
-letter-requires : tie.Need-letter-requires
-letter-requires c κs = search needs
+tell-requires : tie.Need-tell-requires
+tell-requires c κs = search needs
 
 same-length : tie.Need-same-length
 same-length c = search needs
@@ -60,13 +51,10 @@ encode-spec =
     line-requires-2
     returns-2
     large-buffer-requires
+    slice-relend-prefix-tell
+    slice-aggregate-tell
     array-borrow-prefix-output
-    slice-aggregate-out
-    slice-relend-prefix-encode
-    slice-aggregate-encode
-    encode-requires
-    told-requires
-    show-requires
-    letter-requires
+    slice-aggregate-tell-2
+    tell-requires
     same-length
     returns-3)

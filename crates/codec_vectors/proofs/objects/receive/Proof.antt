@@ -21,29 +21,20 @@ returns-2 c = search needs
 buffer-requires : tie.Need-buffer-requires
 buffer-requires c κs = search needs
 
+slice-relend-prefix-tell : tie.Need-slice-relend-prefix-tell
+slice-relend-prefix-tell c = search needs
+
+slice-aggregate-tell : tie.Need-slice-aggregate-tell
+slice-aggregate-tell c = sym (length-take-le _ _ (omega arith))
+
 array-borrow-prefix-output : tie.Need-array-borrow-prefix-output
 array-borrow-prefix-output c = search needs
 
-slice-aggregate-out : tie.Need-slice-aggregate-out
-slice-aggregate-out c = sym (length-take-le _ _ (omega arith))
+slice-aggregate-tell-2 : tie.Need-slice-aggregate-tell-2
+slice-aggregate-tell-2 c = sym (length-take-le _ _ (omega arith))
 
-slice-relend-prefix-receive : tie.Need-slice-relend-prefix-receive
-slice-relend-prefix-receive c = search needs
-
-slice-aggregate-receive : tie.Need-slice-aggregate-receive
-slice-aggregate-receive c = sym (length-take-le _ _ (omega arith))
-
-receive-requires : tie.Need-receive-requires
-receive-requires c κs = search needs
-
-told-requires : tie.Need-told-requires
-told-requires c κs = search needs
-
-hex-requires : tie.Need-hex-requires
-hex-requires c κs = search needs
-
-letter-requires : tie.Need-letter-requires
-letter-requires c κs = search needs
+tell-requires : tie.Need-tell-requires
+tell-requires c κs = search needs
 
 same-length : tie.Need-same-length
 same-length c = search needs
@@ -60,13 +51,10 @@ receive-spec =
     line-requires-2
     returns-2
     buffer-requires
+    slice-relend-prefix-tell
+    slice-aggregate-tell
     array-borrow-prefix-output
-    slice-aggregate-out
-    slice-relend-prefix-receive
-    slice-aggregate-receive
-    receive-requires
-    told-requires
-    hex-requires
-    letter-requires
+    slice-aggregate-tell-2
+    tell-requires
     same-length
     returns-3)
