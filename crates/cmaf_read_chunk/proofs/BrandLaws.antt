@@ -7,17 +7,17 @@ use mathlib.Core.Bool.{true}
 use mathlib.Core.List.{List, _++_}
 use lib.ListN.{length, take, drop, length-append, length-take, length-drop}
 use lib.Seq.{length-slice}
-use Rattle.constants.specs.Maxima.{brandBytesMost}
+use Rattle.constants.specs.Maxima.{brandBytesMost, brandsMost}
 use Rattle.byte_parts.specs.declared.Part.{Part}
 use Rattle.cmaf_read_shape.specs.Parts.{Inside, endOf, bodyOf}
 use Rattle.cmaf_read_shape.proofs.PartLaws.{body-short, body-long, body-in}
-use Rattle.cmaf_read_prelude.specs.Styp.{stypOk, brandsMost, brandsIn}
+use Rattle.cmaf_read_prelude.specs.Styp.{stypOk, brandsIn}
 use Rattle.cmaf_read_prelude.proofs.StypLaws.{styp-long, brands-some}
 use Rattle.cmaf_read_chunk.specs.Accepted.{bytesAt, brandsOf}
 
 -- the bytes in a `styp`: none, or those of a brand, a version and more brands
 abbrev pub StypBytes : ℕ → Type 0
-StypBytes n = (n ≡ 0) ⊎ ((8 ≤ n) × ((n ≤ 68) × (n % 4 ≡ 0)))
+StypBytes n = (n ≡ 0) ⊎ ((8 ≤ n) × ((n ≤ brandBytesMost + 4) × (n % 4 ≡ 0)))
 
 module _ (b : Part) (ok : stypOk b ≡ true) (few : brandsIn b ≤ brandsMost) where
   pub styp-body : StypBytes (bodyOf b .len)

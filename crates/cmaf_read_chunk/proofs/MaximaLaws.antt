@@ -6,7 +6,7 @@ use mathlib.Core.List.{List}
 use borrow.Author.Tests.{leb-true}
 use native.Mathlib.Omega.{arith}
 use lib.Dec.{leb}
-use Rattle.constants.specs.Maxima.{samplesMost, subsamplesMost, eventsMost, payloadMost}
+use Rattle.constants.specs.Maxima.{samplesMost, subsamplesMost, eventsMost, payloadMost, brandsMost}
 use Rattle.laws.proofs.TestLaws.{and-left, both-of}
 use Rattle.track.specs.declared.Track.{Track}
 use Rattle.byte_parts.specs.declared.Part.{Part}
@@ -15,7 +15,7 @@ use Rattle.cmaf_read_shape.specs.declared.inner.Inner.{Inner}
 use Rattle.cmaf_read_shape.specs.Parts.{bodyOf}
 use Rattle.cmaf_read_shape.specs.Top.{topOf}
 use Rattle.cmaf_read_shape.specs.Inner.{innerOf}
-use Rattle.cmaf_read_prelude.specs.Styp.{brandsMost, brandsIn}
+use Rattle.cmaf_read_prelude.specs.Styp.{brandsIn}
 use Rattle.cmaf_read_trun.specs.Rows.{countOf}
 use Rattle.cmaf_read_senc.specs.Entries.{sencCount, entriesOf, subsamples}
 use Rattle.cmaf_read_senc.specs.Sizes.{saizCount}

@@ -17,7 +17,7 @@ use Rattle.cmaf_read_shape.specs.declared.inner.Inner.{Inner}
 use Rattle.laws.specs.Options.{isSome}
 use Rattle.field_table.specs.declared.lines.Line.{Line}
 use Rattle.field_table.specs.declared.lines.Measure.{Measure}
-use Rattle.field_table.specs.Lines.{lines, spare, wanted, Small}
+use Rattle.field_table.specs.Lines.{lines, spare, wanted, Small, subsamplesLine}
 use Rattle.field_table.proofs.LineLaws.{line-count}
 use Rattle.field_rules.specs.Fields.{numbers, Held}
 use Rattle.field_rules.specs.Words.{measure}
@@ -115,12 +115,12 @@ module _ (t : Track) (c : List ℕ) (f : Inner) where
   lengths = measure t (r .count) (sum counts)
 
   -- the field of id 11
-  pub eleven-is : fieldOf t c f (getD lines 9 spare) ≡ heldIf (hasMap t c f) (allCounts c e (e .count) (e .at))
+  pub eleven-is : fieldOf t c f (getD lines subsamplesLine spare) ≡ heldIf (hasMap t c f) (allCounts c e (e .count) (e .at))
   unfolding lines heldFor
   eleven-is = refl
 
   module _ (g : Counted t c f) where
-    pub eleven-long : (vs : List ℕ) → fieldOf t c f (getD lines 9 spare) ≡ some vs → length vs ≡ r .count
+    pub eleven-long : (vs : List ℕ) → fieldOf t c f (getD lines subsamplesLine spare) ≡ some vs → length vs ≡ r .count
     eleven-long vs q =
         held-some (λ ws. length ws ≡ r .count) (hasMap t c f) _ (λ h. counts-length c e (e .count) (e .at) ∙ g .counted (some-bytes _ _ h)) vs
         (sym eleven-is ∙ q)

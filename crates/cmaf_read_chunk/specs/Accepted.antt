@@ -9,7 +9,7 @@ use lib.Seq.{slice}
 use Rattle.laws.specs.Tests.{_and_}
 use Rattle.laws.specs.Ladder.{Rung, _else_}
 use Rattle.wire.specs.declared.form.Row.{Row}
-use Rattle.constants.specs.Maxima.{samplesMost, subsamplesMost, eventsMost, eventBytesMost, payloadMost}
+use Rattle.constants.specs.Maxima.{samplesMost, subsamplesMost, eventsMost, eventBytesMost, payloadMost, brandsMost}
 use Rattle.cmaf_read_tree.specs.Whole.{whole}
 use Rattle.track.specs.declared.Track.{Track}
 use Rattle.byte_parts.specs.declared.Part.{Part}
@@ -20,7 +20,7 @@ use Rattle.cmaf_read_shape.specs.Top.{topOf}
 use Rattle.cmaf_read_shape.specs.Inner.{innerOf}
 use Rattle.prft_value.specs.declared.Prft.{Prft}
 use Rattle.event_value.specs.Events.{Event as Box, eventsOf}
-use Rattle.cmaf_read_prelude.specs.Styp.{brandsMost, brandsIn}
+use Rattle.cmaf_read_prelude.specs.Styp.{brandsIn}
 use Rattle.cmaf_read_prelude.specs.Prft.{prftOf}
 use Rattle.cmaf_read_prelude.specs.Emsg.{emsgWords}
 use Rattle.cmaf_read_moof.specs.Headers.{bmdtOf}

@@ -8,7 +8,6 @@ ghost use Rattle.cmaf_read_shape.specs.Top.{topOf};
 ghost use Rattle.cmaf_read_shape.specs.Inner.{innerOf};
 ghost use Rattle.cmaf_read_trun.specs.Rows.{trunOk};
 ghost use Rattle.cmaf_read_chunk.specs.Accepted.{samplesFew, countsOk};
-use cmaf_read_prelude::styp::BRANDS;
 use cmaf_read_prelude::styp::brands_in;
 use cmaf_read_shape::inner::Inner;
 use cmaf_read_shape::top::Top;
@@ -42,6 +41,6 @@ pub fn counts_ok(t: Track, c: &[u8], top: Top, f: Inner) -> bool
     let payload = cmaf_read_shape::parts::body(mdat);
     samples_ok(c, f)
         & ((cmaf_read_senc::entries::subsamples(t, c, senc) <= maxima::SUBSAMPLES as u64)
-            & ((brands_in(styp) <= BRANDS)
+            & ((brands_in(styp) <= maxima::BRANDS)
                 & ((top.events <= maxima::EVENTS) & (payload.len <= maxima::PAYLOAD as usize))))
 }

@@ -11,10 +11,6 @@ use Rattle.cmaf_read_tree.specs.Numbers.{u32}
 unfoldable pub stypOk : Part → Bool
 stypOk b = eqb (b .len) 0 || (leb 16 (b .len) && eqb (b .len % 4) 0)
 
--- 01: "16 brands"
-abbrev pub brandsMost : ℕ
-brandsMost = 16
-
 -- how many there are. The major brand is one of them (D38).
 unfoldable pub brandsIn : Part → ℕ
 brandsIn b = cond (ltb (b .len) 16) 0 ((b .len - 12) / 4)

@@ -6,9 +6,6 @@ ghost use Rattle.cmaf_read_prelude.specs.Styp.{stypOk, brandsIn, minorVe
 use byte_parts::Part;
 use cmaf_read_tree::numbers;
 
-// How many brands there may be.
-pub const BRANDS: usize = 16;
-
 // A major brand, a minor version and whole compatible brands; or no box.
 pub fn styp_ok(b: Part) -> bool
     ensures { λ r. ⌜ r ≡ stypOk b ⌝ }

@@ -1,5 +1,5 @@
 -- The set of a chunk, stored field by field in the order of the code. Assumes nothing.
-use Prim.Native.Nat.{ℕ, _≤_}
+use Prim.Native.Nat.{ℕ, _+_, _*_, _≤_}
 use native.Mathlib.Omega.{arith}
 use mathlib.Core.Path.{_≡_, refl, sym, _∙_, ap}
 use mathlib.Core.Bool.{Bool, not}
@@ -8,7 +8,8 @@ use mathlib.Core.Option.{none}
 use lib.Dec.{eqb}
 use lib.ListN.{length, getD, set, replicate}
 use lib.Seq.{slice, sets, set-comm}
-use Rattle.field_table.specs.Lines.{sizesAt, sizeAt, descriptionAt, durationsAt, durationAt, offsetsAt, flagsAt, defaultFlagsAt, ivsAt, subsamplesAt, firstFlagsAt, clearAt, protectedAt}
+use Rattle.constants.specs.Maxima.{samplesMost}
+use Rattle.field_table.specs.Lines.{sizesAt, sizeAt, descriptionAt, durationsAt, durationAt, offsetsAt, flagsAt, defaultFlagsAt, ivsAt, subsamplesAt, firstFlagsAt, clearAt, protectedAt, offsetsLine, ivsLine, subsamplesLine, firstFlagsLine, clearLine, protectedLine}
 use Rattle.media.specs.Flags.{fiveOf}
 use Rattle.track.specs.declared.Track.{Track}
 use Rattle.cmaf_read_shape.specs.declared.inner.Inner.{Inner}
@@ -49,23 +50,23 @@ begun b n =
     set-comm (replicate setLen 0) 0 1 b n (λ z. omega (arith, z)) ∙ ap (λ (w : List ℕ). set w 0 b) (words-none n) ∙ words-bmdt 0 b n noFields
 
 -- id 12 may be stored before ids 9 and 11
-earlier : (z a b w : List ℕ) → length a ≤ 129 → length b ≤ 65 → sets (sets (sets z firstFlagsAt w) ivsAt a) subsamplesAt b ≡ sets (sets (sets z ivsAt a) subsamplesAt b) firstFlagsAt w
+earlier : (z a b w : List ℕ) → length a ≤ 2 * samplesMost + 1 → length b ≤ samplesMost + 1 → sets (sets (sets z firstFlagsAt w) ivsAt a) subsamplesAt b ≡ sets (sets (sets z ivsAt a) subsamplesAt b) firstFlagsAt w
 earlier z a b w h k =
     ap (λ (y : List ℕ). sets y subsamplesAt b) (sym (sets-past w a z ivsAt firstFlagsAt (omega arith))) ∙ sym (sets-past w b (sets z ivsAt a) subsamplesAt firstFlagsAt (omega arith))
 
 -- the order of the code gives what the order of the table gives
 in-order : (f : Line → Held) (x : List ℕ) → AllFit f → f (lineFor 16 lines) ≡ none
-    → storeAll f protectionLines (sets (storeAll f (slice 4 8 lines) (storeAll f (slice 0 4 lines) x)) firstFlagsAt (wordsOf (f (lineFor 12 lines))))
+    → storeAll f protectionLines (sets (storeAll f (slice offsetsLine ivsLine lines) (storeAll f (slice 0 offsetsLine lines) x)) firstFlagsAt (wordsOf (f (lineFor 12 lines))))
     ≡ storeAll f lines x
 unfolding lines lineFor storeAll
 in-order f x h e =
-    let a : List ℕ = wordsOf (f (getD lines 8 spare)) in
-    let b : List ℕ = wordsOf (f (getD lines 9 spare)) in
-    let y : List ℕ = storeAll f (slice 4 8 lines) (storeAll f (slice 0 4 lines) x) in
-    let p : length a ≤ 129 = words-fit (getD lines 8 spare) (f (getD lines 8 spare)) (h 8 (omega arith)) in
-    let q : length b ≤ 65 = words-fit (getD lines 9 spare) (f (getD lines 9 spare)) (h 9 (omega arith)) in
-    ap (λ (z : List ℕ). sets (sets z clearAt (wordsOf (f (getD lines 11 spare)))) protectedAt (wordsOf (f (getD lines 12 spare))))
-    (earlier y a b (wordsOf (f (getD lines 10 spare))) p q)
+    let a : List ℕ = wordsOf (f (getD lines ivsLine spare)) in
+    let b : List ℕ = wordsOf (f (getD lines subsamplesLine spare)) in
+    let y : List ℕ = storeAll f (slice offsetsLine ivsLine lines) (storeAll f (slice 0 offsetsLine lines) x) in
+    let p : length a ≤ 2 * samplesMost + 1 = words-fit (getD lines ivsLine spare) (f (getD lines ivsLine spare)) (h ivsLine (omega arith)) in
+    let q : length b ≤ samplesMost + 1 = words-fit (getD lines subsamplesLine spare) (f (getD lines subsamplesLine spare)) (h subsamplesLine (omega arith)) in
+    ap (λ (z : List ℕ). sets (sets z clearAt (wordsOf (f (getD lines clearLine spare)))) protectedAt (wordsOf (f (getD lines protectedLine spare))))
+    (earlier y a b (wordsOf (f (getD lines firstFlagsLine spare))) p q)
     ∙ rw e
 
 -- one store more
@@ -93,7 +94,7 @@ module _ (t : Track) (c : List ℕ) (d : Defaults) (r : Run) (equal : Bool) (x :
 module _ (t : Track) (c : List ℕ) (f : Inner) where
   -- they are those of the set, if what was read is the chunk's
   module _ {d : Defaults} {r : Run} {equal : Bool} (ed : d ≡ G.defaults t c f) (er : r ≡ G.run t c f) (ee : equal ≡ G.equal t c f) (x : List ℕ) where
-    low-stored : storedLow t c d r equal x ≡ storeAll (fieldOf t c f) (slice 0 4 lines) x
+    low-stored : storedLow t c d r equal x ≡ storeAll (fieldOf t c f) (slice 0 offsetsLine lines) x
     unfolding storedLow lines storeAll heldFor
     low-stored = λ j.
         sets
@@ -105,7 +106,7 @@ module _ (t : Track) (c : List ℕ) (f : Inner) where
         durationAt
         (wordsOf (heldIf (not (eqb (ed j .duration) (t .duration))) (ed j .duration ∷ [])))
 
-    high-stored : storedHigh t c d r equal x ≡ storeAll (fieldOf t c f) (slice 4 8 lines) x
+    high-stored : storedHigh t c d r equal x ≡ storeAll (fieldOf t c f) (slice offsetsLine ivsLine lines) x
     unfolding storedHigh lines storeAll heldFor
     high-stored = λ j. storedHigh t c (ed j) (er j) (ee j) x
 
@@ -137,8 +138,8 @@ module _ (t : Track) (c : List ℕ) (f : Inner) where
       let start : set (set x 0 b) 1 (r .count) ≡ setWords (bmdtOf c (f .tfdt)) (G.run t c f .count) noFields =
       (λ j. set (set (ex j) 0 (eb j)) 1 (er j .count)) ∙ begun (bmdtOf c (f .tfdt)) (G.run t c f .count) in
       let w : wordsOf (heldIf (eqb bit 1) (v ∷ [])) ≡ wordsOf (F (lineFor 12 lines)) = twelve v r bit er ei ev in
-      let low : x₁ ≡ storeAll F (slice 0 4 lines) (set (set x 0 b) 1 (r .count)) = h₁ ∙ low-stored ed er ee _ in
+      let low : x₁ ≡ storeAll F (slice 0 offsetsLine lines) (set (set x 0 b) 1 (r .count)) = h₁ ∙ low-stored ed er ee _ in
       h₄
-      ∙ ap (storeAll F protectionLines) (step firstFlagsAt (h₂ ∙ high-stored ed er ee x₁ ∙ ap (storeAll F (slice 4 8 lines)) (low ∙ ap (storeAll F (slice 0 4 lines)) start)) h₃ w)
+      ∙ ap (storeAll F protectionLines) (step firstFlagsAt (h₂ ∙ high-stored ed er ee x₁ ∙ ap (storeAll F (slice offsetsLine ivsLine lines)) (low ∙ ap (storeAll F (slice 0 offsetsLine lines)) start)) h₃ w)
       ∙ in-order F _ (all-fit t c f g) no-sixteen
       ∙ stored-all (bmdtOf c (f .tfdt)) (G.run t c f .count) F (all-fit t c f g)

@@ -1,9 +1,10 @@
 // The front of a chunk: all boxes before the payload, from the first byte of the output on.
 // Letters: `t` the track, `w` the words of a set, `o` an object's bytes, `k` how many.
 ghost use mathlib.Core.Path.{_≡_};
-ghost use mathlib.Core.List.{List, _++_};
+ghost use mathlib.Core.List.{List};
 ghost use Prim.Native.Nat.{ℕ, _≤_};
-ghost use lib.ListN.{length, drop};
+ghost use lib.ListN.{length};
+ghost use Rattle.laws.specs.Writes.{Wrote};
 ghost use Rattle.event_value.specs.Events.{EventsFit};
 ghost use Rattle.cmaf_write_front.specs.Front.{frontOf};
 ghost use Rattle.cmaf_write_front.specs.Writable.{Writable, Weighable};
@@ -51,10 +52,8 @@ pub fn put_front(
     requires { ⌜ Writable t (now w) payload prft (now o) (now events) k (now brands) ⌝ }
     requires { ⌜ need ≡ length (frontOf t sequence (now w) payload prft (now o) (now events) k (now brands)) ⌝ }
     requires { ⌜ need ≤ length (now out) ⌝ }
-    ensures { λ r. ⌜ (r ≡ length (frontOf t sequence (now (w .entry)) payload prft
-        (now (o .entry)) (now (events .entry)) k (now (brands .entry))))
-        × (now (out .exit) ≡ frontOf t sequence (now (w .entry)) payload prft
-        (now (o .entry)) (now (events .entry)) k (now (brands .entry)) ++ drop r (now (out .entry))) ⌝ }
+    ensures { λ r. ⌜ Wrote (now (out .entry)) 0 (frontOf t sequence (now (w .entry)) payload prft
+        (now (o .entry)) (now (events .entry)) k (now (brands .entry))) (now (out .exit)) r ⌝ }
 {
     let a = outer::put_styp(brands, out, 0);
     let b = outer::put_prft(t, prft, out, a);

@@ -1,7 +1,7 @@
 -- 01: "Maxima: 64 samples and 256 subsamples a chunk; 16 brands; 16 emsg records in 4,096 list bytes; property block 16,384 bytes; payload 16,777,216
 -- bytes; BMDT, and any number on the wire, 2^62-1."
 -- ==== The rules
-use Prim.Native.Nat.{ℕ, _-_, _^_}
+use Prim.Native.Nat.{ℕ, _-_, _*_, _^_}
 
 abbrev pub samplesMost : ℕ
 samplesMost = 64
@@ -9,9 +9,12 @@ samplesMost = 64
 abbrev pub subsamplesMost : ℕ
 subsamplesMost = 256
 
--- 16 brands, of four bytes each
+abbrev pub brandsMost : ℕ
+brandsMost = 16
+
+-- a brand has four bytes
 abbrev pub brandBytesMost : ℕ
-brandBytesMost = 64
+brandBytesMost = 4 * brandsMost
 
 abbrev pub eventsMost : ℕ
 eventsMost = 16

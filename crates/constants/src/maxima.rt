@@ -5,8 +5,10 @@ pub const SAMPLES: usize = 64;
 
 pub const SUBSAMPLES: usize = 256;
 
-// The bytes of the brands, 16 of four bytes each; the events, and the bytes that list them.
-pub const BRAND_BYTES: usize = 64;
+// The brands, and their bytes; the events, and the bytes that list them.
+pub const BRANDS: usize = 16;
+
+pub const BRAND_BYTES: usize = 4 * BRANDS;
 
 pub const EVENTS: usize = 16;
 

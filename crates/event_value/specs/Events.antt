@@ -25,7 +25,7 @@ abbrev pub eventWords : ℕ
 eventWords = 10
 
 abbrev pub eventsLen : ℕ
-eventsLen = 160
+eventsLen = eventWords * eventsMost
 
 -- the places among an event's words: where scheme, value and message stand and how long they are, and the four numbers
 abbrev pub eventScheme : ℕ

@@ -1,9 +1,10 @@
 // An event as ten words; what they say stands in specs/. Code that reads or writes events goes by these places.
+use constants::maxima;
 
 // The words of an event, and those of all the events that a block or a chunk can have.
 pub const WORDS: usize = 10;
 
-pub const ALL_WORDS: usize = 160;
+pub const ALL_WORDS: usize = WORDS * maxima::EVENTS;
 
 // The places among an event's words: where scheme, value and message stand and how long they are, and the four numbers between them.
 pub const SCHEME: usize = 0;

@@ -15,7 +15,7 @@ use Rattle.laws.proofs.TestLaws.{left, right, zeros-are}
 use Rattle.laws.proofs.SliceLaws.{slice-none, slice-join, slice-to-end}
 use Rattle.track.specs.declared.Track.{Track}
 use Rattle.field_table.specs.declared.lines.Line.{Line}
-use Rattle.field_table.specs.Lines.{lines, spare, lineFor, wanted, setLen, bmdtAt, countAt, subsamplesAt}
+use Rattle.field_table.specs.Lines.{lines, spare, lineFor, wanted, setLen, bmdtAt, countAt, subsamplesAt, subsamplesLine}
 use Rattle.field_set.specs.Lawful.{inUse, valuesOf, regionOk, regionsOk, measureOf, lawful}
 use Rattle.field_set.proofs.LawfulLaws.{Region, region-facts, lawful-facts}
 use Rattle.field_table.proofs.LineLaws.{tiles, tiled}
@@ -98,7 +98,7 @@ module _ (t : Track) (x : List ℕ) where
       ∙ sym two
 
 -- the subsample counts of a set are the values of its line
-pub held-values : (t : Track) (x : List ℕ) → numbers (fieldIn t x (getD lines 9 spare)) ≡ valuesOf 11 (getD x countAt 0) x
+pub held-values : (t : Track) (x : List ℕ) → numbers (fieldIn t x (getD lines subsamplesLine spare)) ≡ valuesOf 11 (getD x countAt 0) x
 unfolding valuesOf inUse lines lineFor wanted
 held-values t x = by (eqb (getD x subsamplesAt 0) 0)
   where

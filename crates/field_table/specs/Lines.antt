@@ -165,6 +165,25 @@ pub record Small (m : Measure) : Type 0 where
 
 -- ==== What only proofs need
 
--- the number of the line of id 11, by whose values ids 13 and 15 go
+-- the numbers of the lines that laws name, as `order` of the code has them
+abbrev pub offsetsLine : ℕ
+offsetsLine = 4
+
+abbrev pub ivsLine : ℕ
+ivsLine = 8
+
+-- id 11's, by whose values ids 13 and 15 go
 abbrev pub subsamplesLine : ℕ
 subsamplesLine = 9
+
+abbrev pub firstFlagsLine : ℕ
+firstFlagsLine = 10
+
+abbrev pub clearLine : ℕ
+clearLine = 11
+
+abbrev pub protectedLine : ℕ
+protectedLine = 12
+
+abbrev pub ivSizeLine : ℕ
+ivSizeLine = 13

@@ -9,6 +9,8 @@ use borrow.Author.Tests.{lt-ltb, le-ltb, ltb-true, ltb-false}
 use lib.Dec.{ltb}
 use lib.ListN.{length, take, drop}
 use lib.Seq.{sets, take-nil}
+use Rattle.constants.specs.Maxima.{eventsMost}
+use Rattle.event_value.specs.Events.{eventTime, eventWords}
 use Rattle.laws.proofs.StoreLaws.{sets-append}
 use Rattle.wire.specs.declared.form.Row.{Row}
 use Rattle.locmaf_read_block.specs.declared.numbers.Counted.{Counted}
@@ -24,26 +26,26 @@ use Rattle.locmaf_read_block.proofs.RecordSpans.{record-spans}
 
 module _ (out : List ℕ) (n : ℕ) (r : Record) where
   -- past the sixteenth none is
-  pub kept-none : 16 ≤ n → out ≡ kept out n r
+  pub kept-none : eventsMost ≤ n → out ≡ kept out n r
   unfolding kept
   kept-none h = rw (le-ltb _ _ h)
 
   -- two runs of five words are one record's
-  pub kept-is : n < 16 → (mid after : List ℕ)
-      → mid ≡ sets out (10 * n) (r .scheme .at ∷ r .scheme .len ∷ r .value .at ∷ r .value .len ∷ r .timescale ∷ [])
-      → after ≡ sets mid (10 * n + 5) (r .time ∷ r .duration ∷ r .id ∷ r .message .at ∷ r .message .len ∷ [])
+  pub kept-is : n < eventsMost → (mid after : List ℕ)
+      → mid ≡ sets out (eventWords * n) (r .scheme .at ∷ r .scheme .len ∷ r .value .at ∷ r .value .len ∷ r .timescale ∷ [])
+      → after ≡ sets mid (eventWords * n + eventTime) (r .time ∷ r .duration ∷ r .id ∷ r .message .at ∷ r .message .len ∷ [])
       → after ≡ kept out n r
   unfolding kept
   kept-is h mid after e f =
       rw (lt-ltb _ _ h)
       (f
-      ∙ ap (λ (l : List ℕ). sets l (10 * n + 5) (r .time ∷ r .duration ∷ r .id ∷ r .message .at ∷ r .message .len ∷ [])) e
+      ∙ ap (λ (l : List ℕ). sets l (eventWords * n + eventTime) (r .time ∷ r .duration ∷ r .id ∷ r .message .at ∷ r .message .len ∷ [])) e
       ∙ sym
       (sets-append
       (r .scheme .at ∷ r .scheme .len ∷ r .value .at ∷ r .value .len ∷ r .timescale ∷ [])
       (r .time ∷ r .duration ∷ r .id ∷ r .message .at ∷ r .message .len ∷ [])
       out
-      (10 * n)))
+      (eventWords * n)))
 
 module _ (F : List Row) (base : ℕ) (s : List ℕ) where
   pub records-none : length s ≡ 0 → recordsRun F base s ≡ series [] true
@@ -62,32 +64,32 @@ module _ (F : List Row) (base : ℕ) (s : List ℕ) where
 
 -- a record more in the words: kept as the n-th, and the rest behind it
 kept-more : (out : List ℕ) (n : ℕ) (r : Record) (rs : List Record)
-    → sets (kept out n r) (10 * (n + 1)) (wordsOf (take (16 - (n + 1)) rs)) ≡ sets out (10 * n) (wordsOf (take (16 - n) (r ∷ rs)))
+    → sets (kept out n r) (eventWords * (n + 1)) (wordsOf (take (eventsMost - (n + 1)) rs)) ≡ sets out (eventWords * n) (wordsOf (take (eventsMost - n) (r ∷ rs)))
 unfolding kept wordsOf
-kept-more out n r rs = go (ltb n 16) refl
+kept-more out n r rs = go (ltb n eventsMost) refl
   where
-    go : (b : Bool) → ltb n 16 ≡ b
-        → sets (cond b (sets out (10 * n) (recordWords r)) out) (10 * (n + 1)) (wordsOf (take (16 - (n + 1)) rs))
-        ≡ sets out (10 * n) (wordsOf (take (16 - n) (r ∷ rs)))
+    go : (b : Bool) → ltb n eventsMost ≡ b
+        → sets (cond b (sets out (eventWords * n) (recordWords r)) out) (eventWords * (n + 1)) (wordsOf (take (eventsMost - (n + 1)) rs))
+        ≡ sets out (eventWords * n) (wordsOf (take (eventsMost - n) (r ∷ rs)))
     go true q =
-        let h : n < 16 = ltb-true _ _ q in
-        let e : 16 - n ≡ suc (16 - (n + 1)) = omega arith in
-        let f : 10 * (n + 1) ≡ 10 * n + 10 = omega arith in
-        rw (e, f) (sym (sets-append (recordWords r) (wordsOf (take (16 - (n + 1)) rs)) out (10 * n)))
+        let h : n < eventsMost = ltb-true _ _ q in
+        let e : eventsMost - n ≡ suc (eventsMost - (n + 1)) = omega arith in
+        let f : eventWords * (n + 1) ≡ eventWords * n + eventWords = omega arith in
+        rw (e, f) (sym (sets-append (recordWords r) (wordsOf (take (eventsMost - (n + 1)) rs)) out (eventWords * n)))
     go false q =
-        let h : 16 ≤ n = ltb-false _ _ q in
-        let e : 16 - n ≡ 0 = omega arith in
-        let f : 16 - (n + 1) ≡ 0 = omega arith in
+        let h : eventsMost ≤ n = ltb-false _ _ q in
+        let e : eventsMost - n ≡ 0 = omega arith in
+        let f : eventsMost - (n + 1) ≡ 0 = omega arith in
         rw (e, f)
 
 module _ (F : List Row) (base n : ℕ) (s out : List ℕ) where
   pub list-none : length s ≡ 0 → ListedAs (recordsRun F base s) n out (Whole n) out
   unfolding counted wordsOf
-  list-none e = rw (records-none F base s e) (record { answered = rw add-zero; stored = rw (take-nil (16 - n)) })
+  list-none e = rw (records-none F base s e) (record { answered = rw add-zero; stored = rw (take-nil (eventsMost - n)) })
 
   pub list-cut : (length s ≡ 0 → ⊥) → recordF F base s ≡ Cut → ListedAs (recordsRun F base s) n out Short out
   unfolding counted wordsOf
-  list-cut h e = rw (records-cut F base s (omega arith) e) (record { answered = refl; stored = rw (take-nil (16 - n)) })
+  list-cut h e = rw (records-cut F base s (omega arith) e) (record { answered = refl; stored = rw (take-nil (eventsMost - n)) })
 
   pub list-more : (r : Record) (k : ℕ) (a : Counted) (after : List ℕ) → recordF F base s ≡ One r k
       → ListedAs (recordsRun F (base + k) (drop k s)) (n + 1) (kept out n r) a after → ListedAs (recordsRun F base s) n out a after

@@ -9,6 +9,7 @@ use lib.Dec.{eqb}
 use mathlib.Core.Option.{some}
 use lib.ListN.{length, drop, length-append, length-drop}
 use lib.Seq.{drop-append-add, drop-nil}
+use Rattle.event_value.specs.Events.{eventWords}
 use Rattle.wire.specs.declared.form.Row.{Row}
 use Rattle.locmaf_read_block.specs.declared.records.Record.{Record}
 use Rattle.locmaf_read_block.specs.declared.records.Recorded.{Recorded}
@@ -20,19 +21,19 @@ use Rattle.locmaf_read_block.proofs.RecordSpans.{Inside, record-spans}
 use Rattle.locmaf_read_block.proofs.KeptLaws.{records-none, records-cut, records-one}
 
 -- ten words a record
-pub length-words : (rs : List Record) → length (wordsOf rs) ≡ 10 * length rs
+pub length-words : (rs : List Record) → length (wordsOf rs) ≡ eventWords * length rs
 unfolding wordsOf
 length-words [] = refl
 length-words (r ∷ rs) = omega (arith, length-append (recordWords r) (wordsOf rs), length-words rs)
 
 -- behind those of the first j stand those of the others
-pub words-drop : (j : ℕ) (rs : List Record) → drop (10 * j) (wordsOf rs) ≡ wordsOf (drop j rs)
+pub words-drop : (j : ℕ) (rs : List Record) → drop (eventWords * j) (wordsOf rs) ≡ wordsOf (drop j rs)
 unfolding wordsOf
 words-drop zero rs = refl
-words-drop (suc j) [] = drop-nil (10 * suc j)
+words-drop (suc j) [] = drop-nil (eventWords * suc j)
 words-drop (suc j) (r ∷ rs) =
-    let e : 10 * suc j ≡ 10 + 10 * j = omega arith in
-    ap (λ (n : ℕ). drop n (recordWords r ++ wordsOf rs)) e ∙ drop-append-add (recordWords r) (wordsOf rs) (10 * j) ∙ words-drop j rs
+    let e : eventWords * suc j ≡ eventWords + eventWords * j = omega arith in
+    ap (λ (n : ℕ). drop n (recordWords r ++ wordsOf rs)) e ∙ drop-append-add (recordWords r) (wordsOf rs) (eventWords * j) ∙ words-drop j rs
 
 -- a record lies between two places
 pub record Lies (from to : ℕ) (r : Record) : Type 0 where

@@ -21,7 +21,7 @@ use Rattle.media.specs.declared.clocks.TrackTicks.{TrackTicks}
 use Rattle.media.specs.declared.clocks.TrackTime.{TrackTime}
 use Rattle.media.specs.declared.clocks.TrackTime.the-variants.{At, Outside}
 use Rattle.media.specs.Clocks.{onTrack}
-use Rattle.event_value.specs.Events.{part, Inside, EventFits, EventsFit, eventWords, eventsLen, eventScheme, eventSchemeLen, eventValue, eventValueLen, eventTimescale, eventTime, eventDuration, eventId}
+use Rattle.event_value.specs.Events.{part, Inside, EventFits, EventsFit, eventWords, eventsLen, eventScheme, eventSchemeLen, eventValue, eventValueLen, eventTimescale, eventTime, eventDuration, eventId, eventMessage, eventMessageLen}
 use Rattle.locmaf_read_events.specs.Events.{fromBmdt, onClock, rebuilt, timed, eventOk, eventsOk, allRebuilt, EventRead, EventsRead}
 
 -- ---- bytes that are not 0
@@ -195,20 +195,20 @@ module _ (o ws : List ℕ) (i : ℕ) (f : EventFits o ws i) where
   lent-value = rw (word eventValue (omega arith), word eventValueLen (omega arith)) (f .value)
 
 -- strings and messages stand where they did
-fits-kept : (t : Track) (bmdt : ℕ) (o ws after : List ℕ) (k i : ℕ) → EventsFit o ws k → 10 * i ≤ length ws
-    → after ≡ take (10 * i) ws ++ rebuilt t bmdt (drop (10 * i) ws) → length after ≡ length ws → EventsFit o after k
+fits-kept : (t : Track) (bmdt : ℕ) (o ws after : List ℕ) (k i : ℕ) → EventsFit o ws k → eventWords * i ≤ length ws
+    → after ≡ take (eventWords * i) ws ++ rebuilt t bmdt (drop (eventWords * i) ws) → length after ≡ length ws → EventsFit o after k
 fits-kept t bmdt o ws after k i f l e n = record { few = f .few; each = λ m lt. one m (f .each m lt) }
   where
-    at : (j : ℕ) → (j ≡ 10 * i + 4 → ⊥) → (j ≡ 10 * i + 5 → ⊥) → getD after j 0 ≡ getD ws j 0
-    at j a b = ap (λ (z : List ℕ). getD z j 0) e ∙ kept t bmdt ws (10 * i) l j a b
+    at : (j : ℕ) → (j ≡ eventWords * i + eventTimescale → ⊥) → (j ≡ eventWords * i + eventTime → ⊥) → getD after j 0 ≡ getD ws j 0
+    at j a b = ap (λ (z : List ℕ). getD z j 0) e ∙ kept t bmdt ws (eventWords * i) l j a b
 
     one : (m : ℕ) → EventFits o ws m → EventFits o after m
     one m g =
         record {
           there = omega (arith, g .there);
-          scheme = rw (at (10 * m) (λ x. omega arith) (λ x. omega arith), at (10 * m + 1) (λ x. omega arith) (λ x. omega arith)) (g .scheme);
-          value = rw (at (10 * m + 2) (λ x. omega arith) (λ x. omega arith), at (10 * m + 3) (λ x. omega arith) (λ x. omega arith)) (g .value);
-          message = rw (at (10 * m + 8) (λ x. omega arith) (λ x. omega arith), at (10 * m + 9) (λ x. omega arith) (λ x. omega arith)) (g .message);
+          scheme = rw (at (eventWords * m) (λ x. omega arith) (λ x. omega arith), at (eventWords * m + eventSchemeLen) (λ x. omega arith) (λ x. omega arith)) (g .scheme);
+          value = rw (at (eventWords * m + eventValue) (λ x. omega arith) (λ x. omega arith), at (eventWords * m + eventValueLen) (λ x. omega arith) (λ x. omega arith)) (g .value);
+          message = rw (at (eventWords * m + eventMessage) (λ x. omega arith) (λ x. omega arith), at (eventWords * m + eventMessageLen) (λ x. omega arith) (λ x. omega arith)) (g .message);
         }
 
 -- the events before i were read, with this outcome
@@ -216,8 +216,8 @@ pub record Reading (t : Track) (bmdt : ℕ) (o ws₀ : List ℕ) (k : ℕ) (ws :
   pub place : i ≤ k
   pub long : length ws ≡ eventsLen
   pub fits : EventsFit o ws k
-  pub tests : (ok and eventsOk bmdt o (k - i) (drop (10 * i) ws)) ≡ eventsOk bmdt o k ws₀
-  pub words : take (10 * i) ws ++ allRebuilt t bmdt (k - i) (drop (10 * i) ws) ≡ allRebuilt t bmdt k ws₀
+  pub tests : (ok and eventsOk bmdt o (k - i) (drop (eventWords * i) ws)) ≡ eventsOk bmdt o k ws₀
+  pub words : take (eventWords * i) ws ++ allRebuilt t bmdt (k - i) (drop (eventWords * i) ws) ≡ allRebuilt t bmdt k ws₀
 
 module _ (t : Track) (bmdt : ℕ) (o ws₀ : List ℕ) (k : ℕ) where
   pub read-start : length ws₀ ≡ eventsLen → EventsFit o ws₀ k → Reading t bmdt o ws₀ k ws₀ true 0
@@ -227,20 +227,20 @@ module _ (t : Track) (bmdt : ℕ) (o ws₀ : List ℕ) (k : ℕ) where
       record { place = omega arith; long = l; fits = f; tests = rw z; words = rw z }
 
   module _ (ws : List ℕ) (ok : Bool) (i : ℕ) (h : Reading t bmdt o ws₀ k ws ok i) where
-    pub read-next : i < k → (r : Bool) (event : List ℕ) → EventRead t bmdt o (midOf (10 * i) (10 * i + 10 - 10 * i) ws) r event
-        → Reading t bmdt o ws₀ k (putMid (10 * i) (10 * i + 10 - 10 * i) ws event) (ok && r) (i + 1)
+    pub read-next : i < k → (r : Bool) (event : List ℕ) → EventRead t bmdt o (midOf (eventWords * i) (eventWords * i + eventWords - eventWords * i) ws) r event
+        → Reading t bmdt o ws₀ k (putMid (eventWords * i) (eventWords * i + eventWords - eventWords * i) ws event) (ok && r) (i + 1)
     unfolding eventsOk allRebuilt
     read-next lt r event e =
         let n : k - i ≡ suc (k - (i + 1)) = omega arith in
-        let p : 10 * (i + 1) ≡ 10 * i + 10 = omega arith in
-        let q : 10 * i + 10 - 10 * i ≡ 10 = omega arith in
-        let l : 10 * i + 10 ≤ length ws = omega (arith, h .long, h .fits .few) in
-        let after : List ℕ = putMid (10 * i) (10 * i + 10 - 10 * i) ws event in
-        let c : r ≡ eventOk bmdt o (take 10 (drop (10 * i) ws)) = rw q at (e .answered) in
-        let w : event ≡ rebuilt t bmdt (take 10 (drop (10 * i) ws)) = rw q at (e .stored) in
-        let s : after ≡ take (10 * i) ws ++ rebuilt t bmdt (drop (10 * i) ws) =
-        rw (q, w, cut-rebuilt bmdt 10 (drop (10 * i) ws) (omega arith) t (omega (arith, length-drop (10 * i) ws))) in
-        let a = after-one t bmdt 10 ws (10 * i) after (omega arith) l s in
+        let p : eventWords * (i + 1) ≡ eventWords * i + eventWords = omega arith in
+        let q : eventWords * i + eventWords - eventWords * i ≡ eventWords = omega arith in
+        let l : eventWords * i + eventWords ≤ length ws = omega (arith, h .long, h .fits .few) in
+        let after : List ℕ = putMid (eventWords * i) (eventWords * i + eventWords - eventWords * i) ws event in
+        let c : r ≡ eventOk bmdt o (take eventWords (drop (eventWords * i) ws)) = rw q at (e .answered) in
+        let w : event ≡ rebuilt t bmdt (take eventWords (drop (eventWords * i) ws)) = rw q at (e .stored) in
+        let s : after ≡ take (eventWords * i) ws ++ rebuilt t bmdt (drop (eventWords * i) ws) =
+        rw (q, w, cut-rebuilt bmdt eventWords (drop (eventWords * i) ws) (omega arith) t (omega (arith, length-drop (eventWords * i) ws))) in
+        let a = after-one t bmdt eventWords ws (eventWords * i) after (omega arith) l s in
         record {
           place = omega arith;
           long = a .long ∙ h .long;
@@ -248,7 +248,7 @@ module _ (t : Track) (bmdt : ℕ) (o ws₀ : List ℕ) (k : ℕ) where
           tests = and-next ok r _ ∙ rw (c, p, a .rest) (rw n at (h .tests));
           words =
               rw (p, a .done, a .rest)
-              (append-assoc (take (10 * i) ws) (rebuilt t bmdt (take 10 (drop (10 * i) ws))) _ ∙ rw n at (h .words));
+              (append-assoc (take (eventWords * i) ws) (rebuilt t bmdt (take eventWords (drop (eventWords * i) ws))) _ ∙ rw n at (h .words));
         }
 
     pub read-end : k ≤ i → EventsRead t bmdt o ws₀ k ok ws
@@ -257,6 +257,6 @@ module _ (t : Track) (bmdt : ℕ) (o ws₀ : List ℕ) (k : ℕ) where
         let n : k - i ≡ 0 = omega arith in
         record {
           answered = sym (and-end ok) ∙ rw n at (h .tests);
-          stored = sym (take-append-drop (10 * i) ws) ∙ rw n at (h .words);
+          stored = sym (take-append-drop (eventWords * i) ws) ∙ rw n at (h .words);
           fits = h .fits;
         }

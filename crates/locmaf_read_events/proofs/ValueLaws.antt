@@ -9,7 +9,7 @@ use mathlib.Core.Option.{Option, none, some}
 use lib.Dec.{eqb}
 use lib.ListN.{length, getD, take, drop, length-append, length-map}
 use lib.Seq.{slice, length-slice, sets, sets-eq, take-all, take-nil, getD-append-add}
-use Rattle.constants.specs.Maxima.{eventBytesMost, blockMost}
+use Rattle.constants.specs.Maxima.{eventBytesMost, blockMost, eventsMost}
 use Rattle.locmaf_read_index.specs.Places.{numberAt, manyAt}
 use Rattle.laws.specs.Tests.{_and_}
 use Rattle.wire.specs.declared.form.Row.{Row}
@@ -29,7 +29,7 @@ use Rattle.locmaf_read_index.specs.Held.{HeldAs, Tells}
 use Rattle.laws.specs.Each.{AllOf}
 use Rattle.locmaf_read_block.proofs.RecordRuns.{Lies, length-words, records-lie}
 use Rattle.locmaf_read_block.proofs.EventLaws.{events-at}
-use Rattle.event_value.specs.Events.{Event as Box, part, eventAt, eventsFrom, eventsOf, EventFits, EventsFit, eventsLen}
+use Rattle.event_value.specs.Events.{Event as Box, part, eventAt, eventsFrom, eventsOf, EventFits, EventsFit, eventsLen, eventSchemeLen, eventValue, eventValueLen, eventTimescale, eventTime, eventDuration, eventId, eventMessage, eventMessageLen, eventWords}
 use Rattle.locmaf_read_events.specs.Events.{fromBmdt, onClock, rebuilt, timed, eventOk, eventsOk, allRebuilt}
 use Rattle.locmaf_read_events.specs.Values.{listed, fits, allFit, withTime, boxed, boxes}
 use Rattle.locmaf_read_events.proofs.EventLaws.{length-rebuilt}
@@ -85,8 +85,8 @@ module _ (t : Track) (bmdt : ℕ) (o : List ℕ) (r : Record) where
 
 -- ---- behind the words of one event
 
-module _ (e ws : List ℕ) (ten : length e ≡ 10) where
-  past : (n m : ℕ) → n ≡ 10 + m → getD (e ++ ws) n 0 ≡ getD ws m 0
+module _ (e ws : List ℕ) (ten : length e ≡ eventWords) where
+  past : (n m : ℕ) → n ≡ eventWords + m → getD (e ++ ws) n 0 ≡ getD ws m 0
   past n m h =
       let k : n ≡ length e + m = omega (arith, ten) in
       ap (λ (i : ℕ). getD (e ++ ws) i 0) k ∙ getD-append-add e ws m 0
@@ -97,13 +97,13 @@ module _ (e ws : List ℕ) (ten : length e ≡ 10) where
     event-past i =
         λ j.
         record {
-          scheme = part o (past (10 * suc i) (10 * i) (omega arith) j) (past (10 * suc i + 1) (10 * i + 1) (omega arith) j);
-          value = part o (past (10 * suc i + 2) (10 * i + 2) (omega arith) j) (past (10 * suc i + 3) (10 * i + 3) (omega arith) j);
-          timescale = past (10 * suc i + 4) (10 * i + 4) (omega arith) j;
-          time = past (10 * suc i + 5) (10 * i + 5) (omega arith) j;
-          duration = past (10 * suc i + 6) (10 * i + 6) (omega arith) j;
-          id = past (10 * suc i + 7) (10 * i + 7) (omega arith) j;
-          message = part o (past (10 * suc i + 8) (10 * i + 8) (omega arith) j) (past (10 * suc i + 9) (10 * i + 9) (omega arith) j);
+          scheme = part o (past (eventWords * suc i) (eventWords * i) (omega arith) j) (past (eventWords * suc i + eventSchemeLen) (eventWords * i + eventSchemeLen) (omega arith) j);
+          value = part o (past (eventWords * suc i + eventValue) (eventWords * i + eventValue) (omega arith) j) (past (eventWords * suc i + eventValueLen) (eventWords * i + eventValueLen) (omega arith) j);
+          timescale = past (eventWords * suc i + eventTimescale) (eventWords * i + eventTimescale) (omega arith) j;
+          time = past (eventWords * suc i + eventTime) (eventWords * i + eventTime) (omega arith) j;
+          duration = past (eventWords * suc i + eventDuration) (eventWords * i + eventDuration) (omega arith) j;
+          id = past (eventWords * suc i + eventId) (eventWords * i + eventId) (omega arith) j;
+          message = part o (past (eventWords * suc i + eventMessage) (eventWords * i + eventMessage) (omega arith) j) (past (eventWords * suc i + eventMessageLen) (eventWords * i + eventMessageLen) (omega arith) j);
         }
 
     events-past : (k i : ℕ) → eventsFrom o (e ++ ws) k (suc i) ≡ eventsFrom o ws k i
@@ -115,9 +115,9 @@ module _ (e ws : List ℕ) (ten : length e ≡ 10) where
     fits-past i f =
         record {
           there = omega (arith, f .there, length-append e ws, ten);
-          scheme = rw (past (10 * suc i) (10 * i) (omega arith), past (10 * suc i + 1) (10 * i + 1) (omega arith)) (f .scheme);
-          value = rw (past (10 * suc i + 2) (10 * i + 2) (omega arith), past (10 * suc i + 3) (10 * i + 3) (omega arith)) (f .value);
-          message = rw (past (10 * suc i + 8) (10 * i + 8) (omega arith), past (10 * suc i + 9) (10 * i + 9) (omega arith)) (f .message);
+          scheme = rw (past (eventWords * suc i) (eventWords * i) (omega arith), past (eventWords * suc i + eventSchemeLen) (eventWords * i + eventSchemeLen) (omega arith)) (f .scheme);
+          value = rw (past (eventWords * suc i + eventValue) (eventWords * i + eventValue) (omega arith), past (eventWords * suc i + eventValueLen) (eventWords * i + eventValueLen) (omega arith)) (f .value);
+          message = rw (past (eventWords * suc i + eventMessage) (eventWords * i + eventMessage) (omega arith), past (eventWords * suc i + eventMessageLen) (eventWords * i + eventMessageLen) (omega arith)) (f .message);
         }
 
 -- ---- all events
@@ -136,7 +136,7 @@ module _ (t : Track) (bmdt : ℕ) (o rest : List ℕ) where
   words-boxes [] = refl
   words-boxes (r ∷ rs) =
       let ws : List ℕ = allRebuilt t bmdt (length rs) (wordsOf rs ++ rest) in
-      let ten : length (rebuilt t bmdt (recordWords r)) ≡ 10 = length-rebuilt bmdt 10 (recordWords r) (omega arith) t in
+      let ten : length (rebuilt t bmdt (recordWords r)) ≡ eventWords = length-rebuilt bmdt eventWords (recordWords r) (omega arith) t in
       let others : eventsFrom o (rebuilt t bmdt (recordWords r) ++ ws) (length rs) 1 ≡ boxes t bmdt (map (eventOf o) rs) =
       events-past (rebuilt t bmdt (recordWords r)) ws ten o (length rs) 0 ∙ words-boxes rs in
       λ j. event-boxed t bmdt o r ws j ∷ others j
@@ -160,7 +160,7 @@ module _ (o rest : List ℕ) where
 
   -- the parts of the records of a list that stands in the object lie in it
   pub words-inside : (F : List Row) (place n : ℕ) (rs : List Record) → recordsF F place (slice place (place + n) o) ≡ some rs
-      → place + n ≤ length o → n ≤ blockMost → length rs ≤ 16 → EventsFit o (wordsOf rs ++ rest) (length rs)
+      → place + n ≤ length o → n ≤ blockMost → length rs ≤ eventsMost → EventsFit o (wordsOf rs ++ rest) (length rs)
   words-inside F place n rs e h m few =
       let bs : List ℕ = slice place (place + n) o in
       let l = length-slice place (place + n) o h in
@@ -170,12 +170,12 @@ module _ (o rest : List ℕ) where
       }
 
 -- the words of at most 16 records, stored from the start on
-pub words-stored : (before : List ℕ) (rs : List Record) → length rs ≤ 16 → length before ≡ eventsLen
-    → sets before 0 (wordsOf (take 16 rs)) ≡ wordsOf rs ++ drop (10 * length rs) before
+pub words-stored : (before : List ℕ) (rs : List Record) → length rs ≤ eventsMost → length before ≡ eventsLen
+    → sets before 0 (wordsOf (take eventsMost rs)) ≡ wordsOf rs ++ drop (eventWords * length rs) before
 words-stored before rs h l =
-    let a : take 16 rs ≡ rs = take-all 16 rs h in
+    let a : take eventsMost rs ≡ rs = take-all eventsMost rs h in
     let n = length-words rs in
-    let k : 0 + length (wordsOf rs) ≡ 10 * length rs = omega (arith, n) in
+    let k : 0 + length (wordsOf rs) ≡ eventWords * length rs = omega (arith, n) in
     ap (λ (us : List Record). sets before 0 (wordsOf us)) a
     ∙ sets-eq (wordsOf rs) before 0 (omega (arith, n, l))
     ∙ ap (λ (m : ℕ). wordsOf rs ++ drop m before) k
@@ -205,7 +205,7 @@ listed-is F zs es e = rw e
 
 -- the records of a list that stands in the object, by their words
 records-told : (F : List Row) (t : Track) (bmdt : ℕ) (o : List ℕ) (place n : ℕ) (rs : List Record) (rest events zs : List ℕ)
-    → recordsF F place (slice place (place + n) o) ≡ some rs → place + n ≤ length o → n ≤ blockMost → length rs ≤ 16
+    → recordsF F place (slice place (place + n) o) ≡ some rs → place + n ≤ length o → n ≤ blockMost → length rs ≤ eventsMost
     → events ≡ wordsOf rs ++ rest → listed F (some zs) ≡ map (eventOf o) rs → length zs ≡ n → EventsTold F t bmdt o events (length rs) n (some zs)
 records-told F t bmdt o place n rs rest events zs q h m few w l size =
     record {
@@ -244,14 +244,14 @@ module _ (F : List Row) (o : List ℕ) (end : ℕ) (words before events zs : Lis
   events-size = omega (arith, ap length bytes, length-slice (h .place) (h .place + getD words (numberAt 25) 0) o within)
 
   -- at most 16, in at most 4,096 bytes
-  pub events-told : (t : Track) (bmdt : ℕ) → length before ≡ eventsLen → getD words (manyAt 25) 0 ≤ 16 → getD words (numberAt 25) 0 ≤ eventBytesMost
+  pub events-told : (t : Track) (bmdt : ℕ) → length before ≡ eventsLen → getD words (manyAt 25) 0 ≤ eventsMost → getD words (numberAt 25) 0 ≤ eventBytesMost
       → EventsTold F t bmdt o events (getD words (manyAt 25) 0) (getD words (numberAt 25) 0) (some zs)
   events-told t bmdt l few small =
-      let k : length records ≤ 16 = omega (arith, how-many) in
-      let w : events ≡ wordsOf records ++ drop (10 * length records) before = h .records refl .3 ∙ words-stored before records k l in
+      let k : length records ≤ eventsMost = omega (arith, how-many) in
+      let w : events ≡ wordsOf records ++ drop (eventWords * length records) before = h .records refl .3 ∙ words-stored before records k l in
       let q = h .records refl .1 in
       rw how-many
-      (records-told F t bmdt o (h .place) (getD words (numberAt 25) 0) records (drop (10 * length records) before) events zs q within (omega arith) k w list events-size)
+      (records-told F t bmdt o (h .place) (getD words (numberAt 25) 0) records (drop (eventWords * length records) before) events zs q within (omega arith) k w list events-size)
 
 -- where nothing is said of them there are none
 pub events-none : (F : List Row) (t : Track) (bmdt : ℕ) (o events : List ℕ) → EventsTold F t bmdt o events 0 0 none
@@ -278,7 +278,7 @@ module _ (F : List Row) (o : List ℕ) (end : ℕ) (words before events : List �
   said-size (some zs) h = events-size F o end words before events zs h e
 
   pub said-told : (said : Option (List ℕ)) → Tells F o end words before events 25 said → (t : Track) (bmdt : ℕ)
-      → length before ≡ eventsLen → getD words (manyAt 25) 0 ≤ 16 → getD words (numberAt 25) 0 ≤ eventBytesMost
+      → length before ≡ eventsLen → getD words (manyAt 25) 0 ≤ eventsMost → getD words (numberAt 25) 0 ≤ eventBytesMost
       → EventsTold F t bmdt o events (getD words (manyAt 25) 0) (getD words (numberAt 25) 0) said
   said-told none h t bmdt l few small =
       let k : getD words (manyAt 25) 0 ≡ 0 = h 2 (omega arith) in

@@ -8,6 +8,7 @@ use mathlib.Core.Option.{Option, none, some, Option·map}
 use borrow.Author.Tests.{eq-eqb}
 use lib.ListN.{length, getD, take}
 use lib.Seq.{slice, sets}
+use Rattle.constants.specs.Maxima.{eventsMost}
 use Rattle.locmaf_read_index.specs.Places.{indexLen, standsAt, numberAt, manyAt}
 use Rattle.wire.specs.declared.form.Row.{Row}
 use Rattle.byte_parts.specs.declared.Part.{Part}
@@ -41,7 +42,7 @@ module _ (F : List Row) (s : List ℕ) (end : ℕ) (h : end ≤ length s) where
   kind-records id p e = rw e
 
   heard-records : (p : Part) (events : List ℕ) (rs : List Record) → recordsRun F (p .at) (bytesOf s p) .items ≡ rs
-      → heard F s (Records p) events ≡ sets events 0 (wordsOf (take 16 rs))
+      → heard F s (Records p) events ≡ sets events 0 (wordsOf (take eventsMost rs))
   unfolding heard
   heard-records p events rs e = rw e
 
@@ -70,7 +71,7 @@ module _ (F : List Row) (s : List ℕ) (end : ℕ) (h : end ≤ length s) where
           → (rs : List Record)
           × (recordsF F (q .at) (slice (q .at) (q .at + getD words (numberAt (t .id)) 0) s) ≡ some rs)
           × (getD words (manyAt (t .id)) 0 ≡ length rs)
-          × (events ≡ sets before 0 (wordsOf (take 16 rs)))
+          × (events ≡ sets before 0 (wordsOf (take eventsMost rs)))
       listed u =
           let kind : t .kind ≡ Records q = p .kind ∙ kind-records (t .id) q u in
           let o : t .id % 2 ≡ 0 → ⊥ = λ z. omega arith in

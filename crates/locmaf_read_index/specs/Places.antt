@@ -1,10 +1,11 @@
 -- The words of a block's index: three for each id from 0 to 27.
 -- ==== What only mirrors the code
 use Prim.Native.Nat.{ℕ, _+_, _*_}
+use Rattle.constants.specs.Ids.{idCount}
 
 -- three words for each of the ids
 abbrev pub indexLen : ℕ
-indexLen = 84
+indexLen = 3 * idCount
 
 -- the first says whether the id stands: one more than the place of its part, or 0
 abbrev pub standsAt : ℕ → ℕ

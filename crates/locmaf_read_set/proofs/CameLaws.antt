@@ -31,7 +31,7 @@ use Rattle.field_table.specs.declared.lines.Want.{Want}
 use Rattle.field_table.specs.declared.lines.Want.the-variants.{One, LessOne, Count, Ivs, Sum}
 use Rattle.field_table.specs.declared.lines.Line.{Line}
 use Rattle.field_table.specs.declared.lines.Measure.{Measure}
-use Rattle.field_table.specs.Lines.{every, lines, spare, setLen, wanted, absentValue, lineCount}
+use Rattle.field_table.specs.Lines.{every, lines, spare, setLen, wanted, absentValue, lineCount, subsamplesLine}
 use Rattle.field_set.specs.Lawful.{inUse, lawful, measureOf}
 use Rattle.field_table.proofs.LineLaws.{line-count, every-at, shaped}
 use Rattle.field_set.proofs.RegionLaws.{used}
@@ -254,40 +254,40 @@ late : Line → Bool
 late l = isSum (l .want) || eqb (l .room) 1
 
 -- computed over the last four lines of the table, ids 12, 13, 15 and 16
-all-late : every late (drop 10 lines) ≡ true
+all-late : every late (drop (subsamplesLine + 1) lines) ≡ true
 unfolding every late isSum lines _and_
 all-late = refl
 
-late-at : (i : ℕ) → 10 ≤ i → i < lineCount → Late (getD lines i spare)
+late-at : (i : ℕ) → subsamplesLine + 1 ≤ i → i < lineCount → Late (getD lines i spare)
 unfolding late
 late-at i a b = go (isSum (getD lines i spare .want)) refl test
   where
     test : late (getD lines i spare) ≡ true
     test =
-        let n : 10 + (i - 10) ≡ i = omega arith in
-        let k : length (drop 10 lines) ≡ 4 = length-drop 10 lines ∙ rw line-count in
-        ap late (sym (getD-drop 10 lines (i - 10) spare ∙ ap (λ (x : ℕ). getD lines x spare) n))
-        ∙ every-at late (drop 10 lines) (i - 10) spare all-late (omega arith)
+        let n : subsamplesLine + 1 + (i - (subsamplesLine + 1)) ≡ i = omega arith in
+        let k : length (drop (subsamplesLine + 1) lines) ≡ lineCount - (subsamplesLine + 1) = length-drop (subsamplesLine + 1) lines ∙ rw line-count in
+        ap late (sym (getD-drop (subsamplesLine + 1) lines (i - (subsamplesLine + 1)) spare ∙ ap (λ (x : ℕ). getD lines x spare) n))
+        ∙ every-at late (drop (subsamplesLine + 1) lines) (i - (subsamplesLine + 1)) spare all-late (omega arith)
 
     go : (c : Bool) → isSum (getD lines i spare .want) ≡ c → (c || eqb (getD lines i spare .room) 1) ≡ true → Late (getD lines i spare)
     go true q e = inl (sum-is _ q)
     go false q e = let one : getD lines i spare .room ≡ 1 = eqb-true _ _ e in inr (one, shaped i b .single one)
 
 -- whose lengths go by the count
-eleven-count : getD lines 9 spare .want ≡ Count
+eleven-count : getD lines subsamplesLine spare .want ≡ Count
 unfolding lines
 eleven-count = refl
 
 module _ (t : Track) (delta : Bool) (r : List ℕ) (says : Says) (m : Measure) where
   -- the lengths of ids 12 to 16 are not asked before the sum
-  pub late-first : (i : ℕ) → 10 ≤ i → i < lineCount → cameOf t delta r says m (getD lines i spare) .cell .first ≡ true
+  pub late-first : (i : ℕ) → subsamplesLine + 1 ≤ i → i < lineCount → cameOf t delta r says m (getD lines i spare) .cell .first ≡ true
   unfolding cameOf
   late-first i a b = late-cell t (codingFor delta) delta r (wasOf t delta r) (getD lines i spare) m (late-at i a b) _
 
   -- that of id 11 is not asked after it
-  pub second-eleven : cameOf t delta r says m (getD lines 9 spare) .cell .second ≡ true
+  pub second-eleven : cameOf t delta r says m (getD lines subsamplesLine spare) .cell .second ≡ true
   unfolding cameOf
-  second-eleven = count-second t (codingFor delta) delta r (wasOf t delta r) (getD lines 9 spare) m eleven-count _
+  second-eleven = count-second t (codingFor delta) delta r (wasOf t delta r) (getD lines subsamplesLine spare) m eleven-count _
 
 -- ---- how long a field is
 

@@ -21,7 +21,7 @@ use Rattle.track.specs.declared.Track.{Track}
 use Rattle.field_table.specs.declared.lines.Want.the-variants.{Sum}
 use Rattle.field_table.specs.declared.lines.Line.{Line}
 use Rattle.field_table.specs.declared.lines.Measure.{Measure}
-use Rattle.field_table.specs.Lines.{lines, marksOf, spare, lineFor, setLen, wanted, Small, lineCount}
+use Rattle.field_table.specs.Lines.{lines, marksOf, spare, lineFor, setLen, wanted, Small, lineCount, subsamplesLine}
 use Rattle.field_set.specs.Lawful.{has, valuesOf, saizOk, setRules, sameIvSize, measureOf, lawful}
 use Rattle.field_table.proofs.LineLaws.{every-at, line-count}
 use Rattle.field_set.proofs.LawfulLaws.{Lawful, lawful-facts, lawful-all}
@@ -56,12 +56,12 @@ keeps-of m l none k = tt
 keeps-of m l (some vs) k = k vs refl
 
 -- the lengths of id 11 go by the count
-eleven-early : getD lines 9 spare .want ≡ Sum → ⊥
+eleven-early : getD lines subsamplesLine spare .want ≡ Sum → ⊥
 unfolding lines
 eleven-early e = let no : _≡_ {A = ℕ} 0 1 = cc in absurd (omega arith)
 
 -- and are it
-eleven-wanted : (m : Measure) → wanted (getD lines 9 spare .want) m ≡ m .count
+eleven-wanted : (m : Measure) → wanted (getD lines subsamplesLine spare .want) m ≡ m .count
 unfolding lines wanted
 eleven-wanted m = refl
 
@@ -105,11 +105,11 @@ module _ (t : Track) (delta : Bool) (r : List ℕ) (says : Says) where
   count-le good = count-within (codingFor delta) (says 14) (wasOf t delta r .count) (was-within t delta r good)
 
   -- the subsample counts are the field of id 11
-  pub subsamples-are : subsamples t delta r says ≡ numbers (fieldOf t delta r says (getD lines 9 spare))
+  pub subsamples-are : subsamples t delta r says ≡ numbers (fieldOf t delta r says (getD lines subsamplesLine spare))
   unfolding subsamples came
   subsamples-are =
       rw eleven-for
-      (ap (λ x. numbers (x .field)) (came-early t delta r says (countOf t delta r says) (sum (subsamples t delta r says)) 0 (getD lines 9 spare) eleven-early))
+      (ap (λ x. numbers (x .field)) (came-early t delta r says (countOf t delta r says) (sum (subsamples t delta r says)) 0 (getD lines subsamplesLine spare) eleven-early))
 
   -- the new set's lengths
   abbrev pub lengths : Measure
@@ -123,9 +123,9 @@ module _ (t : Track) (delta : Bool) (r : List ℕ) (says : Says) where
 
   module _ (words : length r ≡ setLen) (good : delta ≡ true → lawful t r ≡ true) where
     -- there are as many of them as samples
-    eleven-long : (vs : List ℕ) → fieldOf t delta r says (getD lines 9 spare) ≡ some vs → length vs ≡ countOf t delta r says
+    eleven-long : (vs : List ℕ) → fieldOf t delta r says (getD lines subsamplesLine spare) ≡ some vs → length vs ≡ countOf t delta r says
     unfolding came
-    eleven-long vs e = came-length t delta r words good 9 (omega arith) says lengths vs e ∙ eleven-wanted lengths
+    eleven-long vs e = came-length t delta r words good subsamplesLine (omega arith) says lengths vs e ∙ eleven-wanted lengths
 
     module _ (k : Taken) (iv : t .«iv_size» ≤ 16) where
       -- they keep the maxima
@@ -160,7 +160,7 @@ module _ (t : Track) (delta : Bool) (r : List ℕ) (says : Says) where
         values-are : valuesOf 11 (countOf t delta r says) (newWords t delta r says bmdt) ≡ subsamples t delta r says
         values-are =
             around-id 11 (countOf t delta r says) _ _ _ eleven-for
-            (words-around bmdt (countOf t delta r says) (fieldOf t delta r says) (new-fits k iv) 9 (omega arith)) eleven-long
+            (words-around bmdt (countOf t delta r says) (fieldOf t delta r says) (new-fits k iv) subsamplesLine (omega arith)) eleven-long
             ∙ sym subsamples-are
 
         -- the lengths of the new words

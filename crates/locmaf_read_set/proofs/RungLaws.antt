@@ -1,6 +1,6 @@
 -- The rules of the fields in their order: what is found by taking id 11, the lines before it and those after it is what the rules ask. Assumes
 -- nothing.
-use Prim.Native.Nat.{ℕ, _-_, _/_, _≤_, _<_}
+use Prim.Native.Nat.{ℕ, _+_, _-_, _/_, _≤_, _<_}
 use native.Mathlib.Omega.{arith}
 use mathlib.Core.Path.{_≡_, refl, sym, _∙_, ap}
 use mathlib.Core.Bool.{Bool, true, false, false≢true, not, _&&_}
@@ -24,7 +24,7 @@ use Rattle.field_table.specs.declared.lines.Want.{Want}
 use Rattle.field_table.specs.declared.lines.Want.the-variants.{One, LessOne, Count, Ivs, Sum}
 use Rattle.field_table.specs.declared.lines.Line.{Line}
 use Rattle.field_table.specs.declared.lines.Measure.{Measure}
-use Rattle.field_table.specs.Lines.{every, lines, spare, lineFor, setLen, wanted, lineCount}
+use Rattle.field_table.specs.Lines.{every, lines, spare, lineFor, setLen, wanted, lineCount, subsamplesLine}
 use Rattle.field_set.specs.Lawful.{saizOk, setRules, sameIvSize, valuesOf, lawful, TallyOf}
 use Rattle.field_set.proofs.TallyLaws.{saiz-is}
 use Rattle.locmaf_read_field.specs.declared.cells.Cell.{Cell}
@@ -47,16 +47,16 @@ every-append p [] ys = refl
 every-append p (l ∷ xs) ys = ap (λ (b : Bool). p l and b) (every-append p xs ys) ∙ sym (and-assoc (p l) (every p xs) (every p ys))
 
 -- the lines before id 11, its own, and those after it
-every-parted : (p : Line → Bool) → every p lines ≡ (every p (slice 0 9 lines) and (every p (slice 9 10 lines) and every p (slice 10 lineCount lines)))
+every-parted : (p : Line → Bool) → every p lines ≡ (every p (slice 0 subsamplesLine lines) and (every p (slice subsamplesLine (subsamplesLine + 1) lines) and every p (slice (subsamplesLine + 1) lineCount lines)))
 every-parted p =
     ap (every p) parted
-    ∙ every-append p (slice 0 9 lines) (slice 9 10 lines ++ slice 10 lineCount lines)
-    ∙ ap (λ (b : Bool). every p (slice 0 9 lines) and b) (every-append p (slice 9 10 lines) (slice 10 lineCount lines))
+    ∙ every-append p (slice 0 subsamplesLine lines) (slice subsamplesLine (subsamplesLine + 1) lines ++ slice (subsamplesLine + 1) lineCount lines)
+    ∙ ap (λ (b : Bool). every p (slice 0 subsamplesLine lines) and b) (every-append p (slice subsamplesLine (subsamplesLine + 1) lines) (slice (subsamplesLine + 1) lineCount lines))
 
 -- the one line of id 11
-every-eleven : (p : Line → Bool) → every p (slice 9 10 lines) ≡ p (getD lines 9 spare)
+every-eleven : (p : Line → Bool) → every p (slice subsamplesLine (subsamplesLine + 1) lines) ≡ p (getD lines subsamplesLine spare)
 unfolding every lines
-every-eleven p = and-end (p (getD lines 9 spare))
+every-eleven p = and-end (p (getD lines subsamplesLine spare))
 
 -- tests that say the same of the lines that pass another
 every-same : (p q s : Line → Bool) → ((l : Line) → s l ≡ true → p l ≡ q l) → (ls : List Line) → every s ls ≡ true → every p ls ≡ every q ls
@@ -88,11 +88,11 @@ not-sum w h e = let z : false ≡ true = rw e at h in false≢true z
 unfoldable early : Line → Bool
 early l = not (bySum (l .want))
 
-early-front : every early (slice 0 9 lines) ≡ true
+early-front : every early (slice 0 subsamplesLine lines) ≡ true
 unfolding every early bySum lines _and_
 early-front = refl
 
-early-eleven : every early (slice 9 10 lines) ≡ true
+early-eleven : every early (slice subsamplesLine (subsamplesLine + 1) lines) ≡ true
 unfolding every early bySum lines _and_
 early-eleven = refl
 
@@ -155,15 +155,15 @@ module _ (t : Track) (delta : Bool) (r : List ℕ) (says : Says) (n : ℕ) (en :
   unfolding early
   came-any k l e = came-is l ∙ came-early t delta r says n k (sum (subsamples t delta r says)) l (not-sum (l .want) e)
 
-  subsamples-are : subsamples t delta r says ≡ numbers (cameOf t delta r says (measure t n 0) (getD lines 9 spare) .field)
+  subsamples-are : subsamples t delta r says ≡ numbers (cameOf t delta r says (measure t n 0) (getD lines subsamplesLine spare) .field)
   unfolding subsamples
   subsamples-are = rw (count-is, eleven-for)
 
-  late-all : (m : Measure) → every (λ l. cameOf t delta r says m l .cell .first) (slice 10 lineCount lines) ≡ true
+  late-all : (m : Measure) → every (λ l. cameOf t delta r says m l .cell .first) (slice (subsamplesLine + 1) lineCount lines) ≡ true
   unfolding every lines
   late-all m =
-      let at : (i : ℕ) → 10 ≤ i → i < lineCount → cameOf t delta r says m (getD lines i spare) .cell .first ≡ true = late-first t delta r says m in
-      both _ _ (at 10 (omega arith) (omega arith))
+      let at : (i : ℕ) → subsamplesLine + 1 ≤ i → i < lineCount → cameOf t delta r says m (getD lines i spare) .cell .first ≡ true = late-first t delta r says m in
+      both _ _ (at (subsamplesLine + 1) (omega arith) (omega arith))
       (both _ _ (at 11 (omega arith) (omega arith)) (both _ _ (at 12 (omega arith) (omega arith)) (both _ _ (at 13 (omega arith) (omega arith)) refl)))
 
   -- a test of the lines before id 11, of its own and of those after it
@@ -176,13 +176,13 @@ module _ (t : Track) (delta : Bool) (r : List ℕ) (says : Says) (n : ℕ) (en :
   same-rest p ls = ap (λ (f : Line → Came). every (λ l. p (f l)) ls) (λ j l. came-is l j)
 
   parts-are : (p : Came → Bool) (x y z : Bool)
-      → x ≡ every (λ l. p (cameOf t delta r says (measure t n 0) l)) (slice 0 9 lines)
-      → y ≡ every (λ l. p (cameOf t delta r says (measure t n 0) l)) (slice 9 10 lines)
-      → z ≡ every (λ l. p (cameOf t delta r says (measure t n (sum (subsamples t delta r says))) l)) (slice 10 lineCount lines)
+      → x ≡ every (λ l. p (cameOf t delta r says (measure t n 0) l)) (slice 0 subsamplesLine lines)
+      → y ≡ every (λ l. p (cameOf t delta r says (measure t n 0) l)) (slice subsamplesLine (subsamplesLine + 1) lines)
+      → z ≡ every (λ l. p (cameOf t delta r says (measure t n (sum (subsamples t delta r says))) l)) (slice (subsamplesLine + 1) lineCount lines)
       → every (λ l. p (came t delta r says l)) lines ≡ (x and (y and z))
   parts-are p x y z ex ey ez =
       every-parted (λ l. p (came t delta r says l))
-      ∙ rw (ex, ey, ez, same-front p (slice 0 9 lines) early-front, same-front p (slice 9 10 lines) early-eleven, same-rest p (slice 10 lineCount lines))
+      ∙ rw (ex, ey, ez, same-front p (slice 0 subsamplesLine lines) early-front, same-front p (slice subsamplesLine (subsamplesLine + 1) lines) early-eleven, same-rest p (slice (subsamplesLine + 1) lineCount lines))
 
   module _ (words : length r ≡ setLen) (law : delta ≡ true → lawful t r ≡ true) (iv : t .«iv_size» ≤ 16) (few : n ≤ samplesMost) where
     fits-at : (k : ℕ) → k ≤ subsamplesMost → AllFit (λ l. cameOf t delta r says (measure t n k) l .field)
@@ -194,7 +194,7 @@ module _ (t : Track) (delta : Bool) (r : List ℕ) (says : Says) (n : ℕ) (en :
 
     -- ---- id 11, and the lines before it
     module _ (x₀ : List ℕ) (ex : x₀ ≡ setWords 0 n noFields) (b : Cell) (x₁ : List ℕ)
-        (hb : TakenAll (cameOf t delta r says (measure t n 0)) (slice 9 10 lines) x₀ b x₁)
+        (hb : TakenAll (cameOf t delta r says (measure t n 0)) (slice subsamplesLine (subsamplesLine + 1) lines) x₀ b x₁)
         (c : Tally) (hc : TallyOf c ((253 - t .«iv_size») / 6) (valuesOf 11 n x₁)) where
       eleven-long : length x₁ ≡ setLen
       eleven-long = hb .long ∙ start-long n x₀ ex
@@ -202,9 +202,9 @@ module _ (t : Track) (delta : Bool) (r : List ℕ) (says : Says) (n : ℕ) (en :
       eleven-second : b .second ≡ true
       eleven-second = hb .second ∙ every-eleven (λ l. cameOf t delta r says (measure t n 0) l .cell .second) ∙ second-eleven t delta r says (measure t n 0)
 
-      eleven-came : came t delta r says (getD lines 9 spare) ≡ cameOf t delta r says (measure t n 0) (getD lines 9 spare)
+      eleven-came : came t delta r says (getD lines subsamplesLine spare) ≡ cameOf t delta r says (measure t n 0) (getD lines subsamplesLine spare)
       unfolding early bySum lines
-      eleven-came = came-any 0 (getD lines 9 spare) refl
+      eleven-came = came-any 0 (getD lines subsamplesLine spare) refl
 
       eleven-within : came t delta r says (lineFor 11 lines) .cell .within ≡ b .within
       eleven-within =
@@ -218,10 +218,10 @@ module _ (t : Track) (delta : Bool) (r : List ℕ) (says : Says) (n : ℕ) (en :
         unfolding wanted lines
         tallied-are bw =
             let f : Line → Held = λ l. cameOf t delta r says (measure t n 0) l .field in
-            let e : x₁ ≡ storeAll f (slice 9 10 lines) (setWords 0 n noFields) = hb .stored bf eleven-second bw ∙ ap (storeAll f (slice 9 10 lines)) ex in
+            let e : x₁ ≡ storeAll f (slice subsamplesLine (subsamplesLine + 1) lines) (setWords 0 n noFields) = hb .stored bf eleven-second bw ∙ ap (storeAll f (slice subsamplesLine (subsamplesLine + 1) lines)) ex in
             ap (valuesOf 11 n) e
-            ∙ eleven-values f (fits-at 0 (omega arith) 9 (omega arith)) n
-            (λ vs q. came-length t delta r words law 9 (omega arith) says (measure t n 0) vs q)
+            ∙ eleven-values f (fits-at 0 (omega arith) subsamplesLine (omega arith)) n
+            (λ vs q. came-length t delta r words law subsamplesLine (omega arith) says (measure t n 0) vs q)
             ∙ sym subsamples-are
 
         saiz-found : b .within ≡ true → saizOk (t .«iv_size») (subsamples t delta r says) ≡ c .ok
@@ -252,7 +252,7 @@ module _ (t : Track) (delta : Bool) (r : List ℕ) (says : Says) (n : ℕ) (en :
             go true q = ap (λ (k : Bool). k and leb (sum (subsamples t delta r says)) subsamplesMost) (saiz-found q) ∙ inner q (c .ok) refl
             go false q = refl
 
-      module _ (e : Cell) (x₂ : List ℕ) (he : TakenAll (cameOf t delta r says (measure t n 0)) (slice 0 9 lines) x₁ e x₂)
+      module _ (e : Cell) (x₂ : List ℕ) (he : TakenAll (cameOf t delta r says (measure t n 0)) (slice 0 subsamplesLine lines) x₁ e x₂)
           (w : Bool) (ew : w ≡ brandsFit (says 23)) where
         front-long : length x₂ ≡ setLen
         front-long = he .long ∙ eleven-long
@@ -302,12 +302,12 @@ module _ (t : Track) (delta : Bool) (r : List ℕ) (says : Says) (n : ℕ) (en :
             pub sum-measured : Measured (measure t n (c .sum))
             sum-measured = measured t n (c .sum) iv few sum-small
 
-            module _ (d : Cell) (x₃ : List ℕ) (hd : TakenAll (cameOf t delta r says (measure t n (c .sum))) (slice 10 lineCount lines) x₂ d x₃)
+            module _ (d : Cell) (x₃ : List ℕ) (hd : TakenAll (cameOf t delta r says (measure t n (c .sum))) (slice (subsamplesLine + 1) lineCount lines) x₂ d x₃)
                 (rules : Bool) (er : rules ≡ setRules t n (marks t delta r says)) where
               rest-long : length x₃ ≡ setLen
               rest-long = hd .long ∙ front-long
 
-              rest-taken : TakenAll (cameOf t delta r says (measure t n (sum (subsamples t delta r says)))) (slice 10 lineCount lines) x₂ d x₃
+              rest-taken : TakenAll (cameOf t delta r says (measure t n (sum (subsamples t delta r says)))) (slice (subsamplesLine + 1) lineCount lines) x₂ d x₃
               rest-taken = rw sum-is at hd
 
               -- the third rule
@@ -351,18 +351,18 @@ module _ (t : Track) (delta : Bool) (r : List ℕ) (says : Says) (n : ℕ) (en :
                     let g : Line → Held = λ l. cameOf t delta r says (measure t n 0) l .field in
                     let k : Line → Held = λ l. cameOf t delta r says (measure t n (sum (subsamples t delta r says))) l .field in
                     let fk : f ≡ k = λ j l. came-is l j .field in
-                    let s₁ : x₁ ≡ storeAll f (slice 9 10 lines) (setWords 0 n noFields) =
+                    let s₁ : x₁ ≡ storeAll f (slice subsamplesLine (subsamplesLine + 1) lines) (setWords 0 n noFields) =
                     hb .stored b-first eleven-second b-within
-                    ∙ ap (storeAll g (slice 9 10 lines)) ex
-                    ∙ sym (store-same f g early (λ l h. ap (λ (z : Came). z .field) (came-any 0 l h)) (slice 9 10 lines) early-eleven _) in
-                    let s₂ : x₂ ≡ storeAll f (slice 0 9 lines) x₁ =
+                    ∙ ap (storeAll g (slice subsamplesLine (subsamplesLine + 1) lines)) ex
+                    ∙ sym (store-same f g early (λ l h. ap (λ (z : Came). z .field) (came-any 0 l h)) (slice subsamplesLine (subsamplesLine + 1) lines) early-eleven _) in
+                    let s₂ : x₂ ≡ storeAll f (slice 0 subsamplesLine lines) x₁ =
                     he .stored e-first e-second ew
-                    ∙ sym (store-same f g early (λ l h. ap (λ (z : Came). z .field) (came-any 0 l h)) (slice 0 9 lines) early-front x₁) in
-                    let s₃ : x₃ ≡ storeAll f (slice 10 lineCount lines) x₂ =
-                    rest-taken .stored d-first d-second dw ∙ ap (λ (z : Line → Held). storeAll z (slice 10 lineCount lines) x₂) (sym fk) in
+                    ∙ sym (store-same f g early (λ l h. ap (λ (z : Came). z .field) (came-any 0 l h)) (slice 0 subsamplesLine lines) early-front x₁) in
+                    let s₃ : x₃ ≡ storeAll f (slice (subsamplesLine + 1) lineCount lines) x₂ =
+                    rest-taken .stored d-first d-second dw ∙ ap (λ (z : Line → Held). storeAll z (slice (subsamplesLine + 1) lineCount lines) x₂) (sym fk) in
                     let fit : AllFit f = rw fk (fits-at (sum (subsamples t delta r says)) (omega (arith, sum-is, sum-small))) in
                     s₃
-                    ∙ ap (storeAll f (slice 10 lineCount lines)) (s₂ ∙ ap (storeAll f (slice 0 9 lines)) s₁)
+                    ∙ ap (storeAll f (slice (subsamplesLine + 1) lineCount lines)) (s₂ ∙ ap (storeAll f (slice 0 subsamplesLine lines)) s₁)
                     ∙ stored-words f fit n
                     ∙ ap (λ (m : ℕ). setWords 0 m f) (sym count-is)
 

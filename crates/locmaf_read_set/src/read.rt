@@ -20,6 +20,7 @@ use field_set::lawful;
 use field_set::rules;
 use field_table::lines;
 use field_table::lines::Measure;
+use field_table::order;
 use locmaf_read_field::cells;
 use locmaf_read_field::cells::Cell;
 use locmaf_read_index::places;
@@ -33,9 +34,9 @@ use wire::zigzag::Coding;
 use wire::zigzag::Reached;
 
 // The line of id 11, whose sum the lengths of ids 13 and 15 go by, and the one behind it.
-const PAIRS: usize = 9;
+const PAIRS: usize = order::SUBSAMPLES;
 
-const PAST_PAIRS: usize = 10;
+const PAST_PAIRS: usize = order::SUBSAMPLES + 1;
 
 // The sample count that the object gives.
 fn count_of(coding: Coding, index: &[u64], old: u64) -> Reached

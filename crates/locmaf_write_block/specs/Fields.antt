@@ -11,7 +11,7 @@ use Rattle.wire.specs.declared.zigzag.Coding.the-variants.{Plain}
 use Rattle.wire.specs.Zigzag.{codeOf}
 use Rattle.track.specs.declared.Track.{Track}
 use Rattle.field_table.specs.declared.lines.Line.{Line}
-use Rattle.field_table.specs.Lines.{lines, spare, lineCount, bmdtAt, countAt}
+use Rattle.field_table.specs.Lines.{lines, spare, lineCount, bmdtAt, countAt, subsamplesLine, protectedLine}
 use Rattle.field_rules.specs.Fields.{codingFor}
 use Rattle.effective.specs.Follows.{nextTime}
 use Rattle.locmaf_write_block.specs.declared.cells.Change.{Change}
@@ -40,12 +40,12 @@ module _ (t : Track) (delta : Bool) (r x : List ℕ) where
   unfoldable pub countStands : Bool
   countStands = not delta || not (eqb (getD x countAt 0) (getD r countAt 0))
 
--- how many lines stand before BMDT, and before the sample count
+-- how many lines stand before BMDT, which comes before id 11, and before the sample count, which comes before id 15
 abbrev pub beforeBmdt : ℕ
-beforeBmdt = 9
+beforeBmdt = subsamplesLine
 
 abbrev pub beforeCount : ℕ
-beforeCount = 12
+beforeCount = protectedLine
 
 module _ (F : List Row) (t : Track) (delta : Bool) (r x : List ℕ) where
   unfoldable pub linesItems : List Line → Items

@@ -18,16 +18,17 @@ use field_rules::rules::coding_for;
 use field_set::lawful;
 use field_table::lines;
 use field_table::lines::Measure;
+use field_table::order;
 use locmaf_write_tuples::tuples;
 use locmaf_write_tuples::tuples::Weight;
 use track::Track;
 use wire::form::Form;
 use wire::zigzag::Coding;
 
-// The lines before BMDT, and those before the sample count.
-const BEFORE_BMDT: usize = 9;
+// The lines before BMDT, whose id is below that of the subsample counts, and those before the sample count, below that of the protected bytes.
+const BEFORE_BMDT: usize = order::SUBSAMPLES;
 
-const BEFORE_COUNT: usize = 12;
+const BEFORE_COUNT: usize = order::PROTECTED;
 
 // The lines that a chunk's set can have: all but the last, id 16's, since the track's parameter cuts a chunk's IVs.
 const CHUNK_LINES: usize = lines::LINES - 1;

@@ -15,7 +15,7 @@ use Rattle.boxes.proofs.BoxLaws.{length-fullBox}
 use Rattle.cmaf_read_tree.specs.Numbers.{u32, u64}
 use Rattle.byte_parts.specs.declared.Part.{Part}
 use Rattle.cmaf_read_shape.specs.Parts.{part, endOf}
-use Rattle.event_value.specs.Events.{Event, eventAt, eventsFrom, eventsOf}
+use Rattle.event_value.specs.Events.{Event, eventAt, eventsFrom, eventsOf, eventWords}
 use Rattle.cmaf_write_emsg.specs.Emsg.{emsgBox, emsgBoxes}
 use Rattle.cmaf_read_prelude.specs.Emsg.{beforeZero, zeroFrom, schemeAt, schemeEnd, valueEnd, boxWords, emsgWords}
 use Rattle.cmaf_read_shape.specs.Left.{Left}
@@ -109,10 +109,10 @@ module _ {c : List ℕ} {at end : ℕ} (e : Event) (ys : List ℕ) (h : Left c a
 event-past : (o xs ws : List ℕ) → length xs ≡ 10 → (i : ℕ) → eventAt o (xs ++ ws) (suc i) ≡ eventAt o ws i
 unfolding eventAt
 event-past o xs ws long i =
-    let z : 10 * suc i ≡ length xs + 10 * i = omega arith in
-    let at : (j : ℕ) → getD (xs ++ ws) (10 * suc i + j) 0 ≡ getD ws (10 * i + j) 0 =
-    λ j. ap (λ (n : ℕ). getD (xs ++ ws) n 0) (omega arith) ∙ getD-append-add xs ws (10 * i + j) 0 in
-    rw (z, getD-append-add xs ws (10 * i) 0, ← z, at 1, at 2, at 3, at 4, at 5, at 6, at 7, at 8, at 9)
+    let z : eventWords * suc i ≡ length xs + eventWords * i = omega arith in
+    let at : (j : ℕ) → getD (xs ++ ws) (eventWords * suc i + j) 0 ≡ getD ws (eventWords * i + j) 0 =
+    λ j. ap (λ (n : ℕ). getD (xs ++ ws) n 0) (omega arith) ∙ getD-append-add xs ws (eventWords * i + j) 0 in
+    rw (z, getD-append-add xs ws (eventWords * i) 0, ← z, at 1, at 2, at 3, at 4, at 5, at 6, at 7, at 8, at 9)
 
 events-past : (o xs ws : List ℕ) → length xs ≡ 10 → (k i : ℕ) → eventsFrom o (xs ++ ws) k (suc i) ≡ eventsFrom o ws k i
 unfolding eventsFrom

@@ -6,7 +6,7 @@ use mathlib.Core.Bool.{true, _&&_}
 use mathlib.Core.List.{List}
 use lib.Dec.{leb}
 use Rattle.laws.specs.Ladder.{Hold}
-use Rattle.constants.specs.Maxima.{samplesMost, subsamplesMost, eventsMost, eventBytesMost, payloadMost}
+use Rattle.constants.specs.Maxima.{samplesMost, subsamplesMost, eventsMost, eventBytesMost, payloadMost, brandsMost}
 use Rattle.laws.proofs.TestLaws.{both}
 use Rattle.wire.specs.declared.form.Row.{Row}
 use Rattle.cmaf_read_tree.specs.Whole.{whole}
@@ -17,7 +17,7 @@ use Rattle.cmaf_read_shape.specs.declared.inner.Inner.{Inner}
 use Rattle.cmaf_read_shape.specs.Parts.{bodyOf}
 use Rattle.cmaf_read_shape.specs.Top.{topOf, topOk}
 use Rattle.cmaf_read_shape.specs.Inner.{innerOf, innerOk}
-use Rattle.cmaf_read_prelude.specs.Styp.{stypOk, brandsIn, brandsMost}
+use Rattle.cmaf_read_prelude.specs.Styp.{stypOk, brandsIn}
 use Rattle.cmaf_read_prelude.specs.Prft.{prftOk}
 use Rattle.cmaf_read_prelude.specs.Emsg.{emsgsOk, emsgWords}
 use Rattle.cmaf_read_moof.specs.Headers.{mfhdOk, tfdtOk, bmdtOf}

@@ -7,8 +7,10 @@ use mathlib.Core.List.{List, _++_}
 use borrow.Author.Tests.{leb-true}
 use lib.ListN.{length, getD, take, drop}
 use lib.Seq.{slice}
+use Rattle.laws.specs.Writes.{Wrote}
 use Rattle.laws.proofs.LadderLaws.{broken, passed, top}
 use Rattle.laws.proofs.SliceLaws.{slice-lent, slice-to-end}
+use Rattle.laws.proofs.WriteLaws.{wrote-front}
 use Rattle.wire.specs.declared.form.Row.{Row}
 use Rattle.track.specs.declared.Track.{Track}
 use Rattle.track.specs.Track.{u32}
@@ -79,15 +81,15 @@ module _ (F : List Row) (o s : List ℕ) (t : Track) (p : Place) (a : Judgeable 
       pub need-is : (n q : ℕ) → n ≡ length (chunk F o s) → q ≡ sequence F o s → n ≡ length (fronted q)
       need-is n q h u = h ∙ ap length (sym (ap fronted u ∙ front-is))
 
-      pub done-is : (output : List ℕ) (q n : ℕ) (after kept : List ℕ) → q ≡ sequence F o s → n ≡ length (fronted q)
-          → after ≡ fronted q ++ drop n output → kept ≡ keptWords (p .delta) q (j .prft) x s
+      pub done-is : (output : List ℕ) (q n : ℕ) (after kept : List ℕ) → q ≡ sequence F o s → Wrote output 0 (fronted q) after n
+          → kept ≡ keptWords (p .delta) q (j .prft) x s
           → AnsweredAs (done F o output s) o (record { number = 0; front = n; payload = record { at = p .end; len = length o - p .end } }) after kept
       unfolding accepted
-      done-is output q n after kept u h f g =
+      done-is output q n after kept u f g =
           let w : fronted q ≡ chunk F o s = ap fronted u ∙ front-is in
-          let l : n ≡ length (chunk F o s) = h ∙ ap length w in
+          let l : n ≡ length (chunk F o s) = wrote-front f .0 ∙ ap length w in
           let d : p .delta ≡ isDelta F o = ap (λ (z : Place). z .delta) (a .place) in
-          let y : after ≡ chunk F o s ++ drop (length (chunk F o s)) output = f ∙ (λ i. w i ++ drop (l i) output) in
+          let y : after ≡ chunk F o s ++ drop (length (chunk F o s)) output = wrote-front f .1 ∙ (λ i. w i ++ drop (length (w i)) output) in
           let z : kept ≡ keptWords (isDelta F o) (sequence F o s) (prft F o s .prft) (newSet F o s) s =
           g ∙ (λ i. keptWords (d i) (u i) (r .time i) (r .words i) s) in
           record { so = λ i. out (took 0 (l i) (behind-is i) (y i)) (z i); inside = omega (arith, rest-long) }

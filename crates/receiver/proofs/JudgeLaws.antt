@@ -81,7 +81,7 @@ module _ (F : List Row) (o s : List ℕ) where
     told : prft F o s .ok ≡ true
     carried : length (payload F o) ≤ payloadMost
     named : length (brands F o s) ≤ brandBytesMost
-    few : length (events F o s) ≤ 16
+    few : length (events F o s) ≤ eventsMost
     small : length (numbers (saying F o 25)) ≤ eventBytesMost
 
   plain-facts : plainOk ≡ true → Plain

@@ -21,7 +21,7 @@ use Rattle.locmaf_read_block.proofs.EventsWritten.{body-events}
 use Rattle.locmaf_read_block.proofs.WiresLaws.{plain-wires}
 use Rattle.track.specs.declared.Track.{Track}
 use Rattle.field_table.specs.declared.lines.Line.{Line}
-use Rattle.field_table.specs.Lines.{lines, spare, lineFor, every, lineCount}
+use Rattle.field_table.specs.Lines.{lines, spare, lineFor, every, lineCount, ivSizeLine}
 use Rattle.field_set.specs.Lawful.{has}
 use Rattle.field_table.proofs.LineLaws.{line-count, every-at}
 use Rattle.share_words.specs.Share.{setAt}
@@ -86,7 +86,7 @@ module _ {s c : List ℕ} {delta : Bool} (k : Known s c delta) where
   unfolding has lines lineFor
   no-sixteen =
       line-said k 13 (omega arith)
-      ∙ unsaid (trackOf s) delta (drop setAt s) (fields (trackOf s) c) (getD lines 13 spare) (not-false _ (k .given .set .no-iv-size))
+      ∙ unsaid (trackOf s) delta (drop setAt s) (fields (trackOf s) c) (getD lines ivSizeLine spare) (not-false _ (k .given .set .no-iv-size))
 
   -- nothing is said of an id past the last
   past : (id : ℕ) → idCount ≤ id → f id ≡ none

@@ -15,7 +15,7 @@ use Rattle.laws.proofs.TestLaws.{both}
 use Rattle.laws.specs.Ladder.{Hold}
 use Rattle.laws.specs.Options.{isSome}
 use Rattle.track.specs.declared.Track.{Track}
-use Rattle.field_table.specs.Lines.{lines, marksOf, spare, lineFor, every, bmdtAt, countAt, ivSizeAt, lineCount}
+use Rattle.field_table.specs.Lines.{lines, marksOf, spare, lineFor, every, bmdtAt, countAt, ivSizeAt, lineCount, subsamplesLine}
 use Rattle.field_set.specs.Lawful.{has, valuesOf, saizOk, setRules, sameIvSize, measureOf}
 use Rattle.field_set.proofs.LawfulLaws.{Lawful, lawful-facts, lawful-region}
 use Rattle.field_table.proofs.LineLaws.{line-count, every-holds}
@@ -56,7 +56,7 @@ module _ {t : Track} {delta : Bool} {r x : List ℕ} {f : Says} (w : Writable t 
   counts-are =
       rw (eleven-for, count-is)
       (ap (λ (z : Came). numbers (z .field))
-      (came-early t delta r f n _ 0 (getD lines 9 spare) (λ e. let no : _≡_ {A = ℕ} 0 1 = cc in absurd (omega arith)) ∙ came-is 9 (omega arith))
+      (came-early t delta r f n _ 0 (getD lines subsamplesLine spare) (λ e. let no : _≡_ {A = ℕ} 0 1 = cc in absurd (omega arith)) ∙ came-is subsamplesLine (omega arith))
       ∙ held-values t x)
 
   field-is : (i : ℕ) → i < lineCount → came t delta r f (getD lines i spare) ≡ well (fieldIn t x (getD lines i spare))

@@ -1,8 +1,9 @@
 -- The words of a slot's share. From word 0 on: the eight parameters, the count of accepted objects, the mark of the reference, the mark of
 -- the current full object's `prft` with its four fields, and the set of moof fields.
-use Prim.Native.Nat.{ℕ, _-_, _*_}
+use Prim.Native.Nat.{ℕ, _+_, _-_, _*_}
 use mathlib.Core.List.{List, _++_}
 use lib.ListN.{take, replicate}
+use Rattle.field_table.specs.Lines.{setLen}
 
 -- ==== The rules
 
@@ -60,7 +61,7 @@ abbrev pub setAt : ℕ
 setAt = 15
 
 abbrev pub shareLen : ℕ
-shareLen = 996
+shareLen = setAt + setLen
 
 -- 01: "a table of eight slots (0 to 7)"
 abbrev pub slotCount : ℕ

@@ -5,6 +5,7 @@ ghost use Prim.Native.Nat.{_≤_, _-_, _*_};
 ghost use mathlib.Core.List.{_++_};
 ghost use lib.ListN.{length, take, drop, replicate};
 ghost use Rattle.share_words.specs.Share.{shareLen, fresh, dropped};
+use field_table::lines;
 
 // The places of a share's words: the eight parameters from TRACK on, the accepted objects, the mark of the reference, the mark and the
 // fields of the current full object's prft, and the set of moof fields.
@@ -44,7 +45,7 @@ pub const PRFT_END: usize = 15;
 pub const SET: usize = 15;
 
 // The words of a share.
-pub const SHARE: usize = 996;
+pub const SHARE: usize = SET + lines::SET;
 
 // The slots of a table, and its words.
 pub const SLOTS: usize = 8;

@@ -2,7 +2,6 @@
 use borrow.Author.Needs.{needs}
 use native.Mathlib.Omega.{arith}
 use Rattle.laws.specs.Bytes.{be}
-use Rattle.laws.proofs.WriteLaws.{wrote-front}
 use Rattle.laws.proofs.PartLaws.{parts-all, parts-room, parts-then, parts-none}
 use Rattle.boxes.specs.Box.{words}
 use Rattle.event_value.specs.Events.{eventsOf}
@@ -118,8 +117,7 @@ returns c =
     let whole = front-parts (a .t) (a .sequence) (a .w .now) (a .payload) (a .prft) es (a .brands .now) in
     let h = parts-all (a .out .now) 0 parts whole (omega (arith, b₅ .pre .1 .0, b₅ .pre .1 .1)) in
     let k = parts-then (parts-then (parts-then h (b₄ .put-styp .ensures)) (b₃ .put-prft .ensures)) (b₂ .put-emsgs .ensures) in
-    let f = wrote-front (parts-none (parts-then (parts-then k (b₁ .put-moof .ensures)) (c .before .before .put-words .ensures))) in
-    (f .0, rw (f .0) (f .1))
+    parts-none (parts-then (parts-then k (b₁ .put-moof .ensures)) (c .before .before .put-words .ensures))
 
 pub put-front-spec : {M : Type 1} → statement M
 put-front-spec =

@@ -46,7 +46,7 @@ returns c =
     let output = now (w .before .before .before .before .before .before .before .before .before .before .args .output) in
     λ F v.
     let h = v .acceptable .head in
-    done-is _ _ _ _ _ h _ _ _ (v .acceptable .ready) (v .named) output _ _ _ _ (sequence-is _ _ _ _ _ h) (w .put-front .ensures .0) (w .put-front .ensures .1)
+    done-is _ _ _ _ _ h _ _ _ (v .acceptable .ready) (v .named) output _ _ _ _ (sequence-is _ _ _ _ _ h) (w .put-front .ensures)
     (c .before .before .keep .ensures)
 
 pub write-spec : {M : Type 1} → statement M
