@@ -110,7 +110,7 @@ module _ {F : List Row} {o s : List ℕ} {t : Track} {p : Place} {n : ℕ} {inde
   -- a rule of the block or of its set is broken
   pub refuses-read : (a : Judged) (ws w : List ℕ) → a ≡ noneJudged n → (n ≡ 0 → ⊥) → JudgedAs (judgeRungs F o s) F o s a ws w
   refuses-read a ws w e m =
-      judged-none F o s (judgeRungs F o s) n a ws w e m
+      judged-none F o s (judgeRungs F o s) n a ws w (ap (λ (u : Judged). u .number) e) m
       (b .answered ∙ stopped-on (readRungs F o s) (valueRungs F o s) (λ i. i) 0 (λ y. m (b .answered ∙ y)) ∙ values-last F o s)
 
   -- none is, and the rest is the values'

@@ -36,7 +36,7 @@ use Rattle.locmaf_read_times.specs.declared.prft.Told.{Told}
 use Rattle.locmaf_read_times.specs.Bmdt.{bmdtOf}
 use Rattle.effective.specs.Durations.{Timed}
 use Rattle.locmaf_read_times.specs.Prft.{prftOf}
-use Rattle.locmaf_read_events.specs.Events.{EventsRead}
+use Rattle.locmaf_read_events.specs.Events.{EventsRead, eventsOk}
 use Rattle.locmaf_read_events.specs.Values.{allFit, boxes}
 use Rattle.told_sizes.specs.Sums.{Summable}
 use Rattle.effective.specs.Sums.{sizesOk, protectedOk}
@@ -47,7 +47,8 @@ use Rattle.byte_parts.specs.declared.Part.{Part}
 use Rattle.receiver.specs.declared.judge.Judged.{Judged}
 use Rattle.receiver.specs.Object.{isDelta, blockEnd, saying, payload}
 use Rattle.receiver.specs.Receive.{track, reference, bmdt, prft, events, brands, newSet, valuesOk, sumsOk, valueRungs}
-use Rattle.receiver.specs.Judge.{partIn, noneJudged, Judgeable, Split, JudgedAs}
+use Rattle.receiver.specs.declared.judge.Values.{Values}
+use Rattle.receiver.specs.Judge.{partIn, sumsIn, Judgeable, Split, TestedAs, JudgedAs}
 use Rattle.locmaf_read_times.proofs.PrftFacts.{prft-says, prft-headed}
 use Rattle.reference.proofs.OpenLaws.{reference-long}
 use Rattle.receiver.proofs.ShareFacts.{iv-most, delta-lawful, reference-timed, kept-small}
@@ -70,14 +71,14 @@ module _ (F : List Row) (o s : List ℕ) where
   -- all but the events
   abbrev pub plainOk : Bool
   plainOk =
-      leb (bmdt F o s) 0x3fff_ffff_ffff_ffff
+      leb (bmdt F o s) numberMost
       && (prft F o s .ok
       && (leb (length (payload F o)) payloadMost
       && (leb (length (brands F o s)) brandBytesMost && (leb (length (events F o s)) eventsMost && leb (length (numbers (saying F o 25))) eventBytesMost))))
 
   -- one by one
   record Plain : Type 0 where
-    start : bmdt F o s ≤ 0x3fff_ffff_ffff_ffff
+    start : bmdt F o s ≤ numberMost
     told : prft F o s .ok ≡ true
     carried : length (payload F o) ≤ payloadMost
     named : length (brands F o s) ≤ brandBytesMost
@@ -86,12 +87,12 @@ module _ (F : List Row) (o s : List ℕ) where
 
   plain-facts : plainOk ≡ true → Plain
   plain-facts e =
-      let e₂ = and-right (leb (bmdt F o s) 0x3fff_ffff_ffff_ffff) _ e in
+      let e₂ = and-right (leb (bmdt F o s) numberMost) _ e in
       let e₃ = and-right (prft F o s .ok) _ e₂ in
       let e₄ = and-right (leb (length (payload F o)) payloadMost) _ e₃ in
       let e₅ = and-right (leb (length (brands F o s)) brandBytesMost) _ e₄ in
       record {
-        start = leb-true _ _ (and-left (leb (bmdt F o s) 0x3fff_ffff_ffff_ffff) _ e);
+        start = leb-true _ _ (and-left (leb (bmdt F o s) numberMost) _ e);
         told = and-left (prft F o s .ok) _ e₂;
         carried = leb-true _ _ (and-left (leb (length (payload F o)) payloadMost) _ e₃);
         named = leb-true _ _ (and-left (leb (length (brands F o s)) brandBytesMost) _ e₄);
@@ -120,12 +121,10 @@ module _ (F : List Row) (o s : List ℕ) where
   unfolding valueRungs
   nothing e h = passed _ _ _ _ _ e (passed _ _ _ _ _ h (top _ _))
 
-  -- a refusal says nothing but its number
-  pub judged-none : (rungs : List Rung) (k : ℕ) (a : Judged) (ws x : List ℕ) → a ≡ noneJudged k → (k ≡ 0 → ⊥) → k ≡ ladder rungs (λ i. i) 0
+  -- of a refusal its number is asked alone
+  pub judged-none : (rungs : List Rung) (k : ℕ) (a : Judged) (ws x : List ℕ) → a .number ≡ k → (k ≡ 0 → ⊥) → k ≡ ladder rungs (λ i. i) 0
       → JudgedAs rungs F o s a ws x
-  judged-none rungs k a ws x e n h =
-      let m : a .number ≡ k = ap (λ (u : Judged). u .number) e in
-      record { answered = m ∙ h; ready = λ z. absurd (n (sym m ∙ z)) }
+  judged-none rungs k a ws x e n h = record { answered = e ∙ h; ready = λ z. absurd (n (sym e ∙ z)) }
 
 -- ---- what is lent
 
@@ -197,14 +196,10 @@ module _ {F : List Row} {o s : List ℕ} {t : Track} {p : Place} {index ev : Lis
       ∙ said-size F o (blockEnd F o) index (replicate eventsLen 0) ev (w .head .inside) (saying F o 25) (w .split .list)
 
   -- the code's test of all but the events
-  pub plain-is : (leb b 0x3fff_ffff_ffff_ffff
+  pub plain-is : (leb b numberMost
       && (r .ok && (leb (length o - p .end) payloadMost && (leb (q .len) brandBytesMost && (leb (getD index (manyAt 25) 0) eventsMost && leb (getD index (numberAt 25) 0) eventBytesMost)))))
       ≡ plainOk F o s
   plain-is = rw (bmdt-is, prft-is, payload-long (w .head), brands-are .long, events-many, events-size)
-
-  -- it fails
-  pub refuses-plain : (a : Judged) (ws x : List ℕ) → a ≡ noneJudged 15 → plainOk F o s ≡ false → JudgedAs (valueRungs F o s) F o s a ws x
-  refuses-plain a ws x e h = judged-none F o s (valueRungs F o s) 15 a ws x e (λ z. omega arith) (fifteen F o s (values-broken F o s h))
 
   -- it holds
   module _ (ok : plainOk F o s ≡ true) where
@@ -233,10 +228,6 @@ module _ {F : List Row} {o s : List ℕ} {t : Track} {p : Place} {index ev : Lis
           ∙ ap (λ (u : Track). allFit u b (events F o s)) (w .head .track)
           ∙ ap (λ (n : ℕ). allFit (track F o s) n (events F o s)) bmdt-is
           ∙ sym (values-fit F o s ok)
-
-      -- an event is out of its range
-      pub refuses-events : (a : Judged) (x : List ℕ) → a ≡ noneJudged 15 → valuesOk F o s ≡ false → JudgedAs (valueRungs F o s) F o s a ws x
-      refuses-events a x e h = judged-none F o s (valueRungs F o s) 15 a ws x e (λ n. omega arith) (fifteen F o s h)
 
       boxes-are : eventsOf o ws (getD index (manyAt 25) 0) ≡ boxes (track F o s) (bmdt F o s) (events F o s)
       unfolding events
@@ -299,10 +290,6 @@ module _ {F : List Row} {o s : List ℕ} {t : Track} {p : Place} {index ev : Lis
             ∙ ap (λ (v : List ℕ). sizesOk t v (length (payload F o)) and protectedOk t v (length (payload F o))) stored-set
             ∙ ap (λ (u : Track). sizesOk u (newSet F o s) (length (payload F o)) and protectedOk u (newSet F o s) (length (payload F o))) (w .head .track)
 
-        -- the sums disagree
-        pub refuses-sums : (a : Judged) (v : List ℕ) → a ≡ noneJudged 16 → sumsOk F o s ≡ false → JudgedAs (valueRungs F o s) F o s a ws v
-        refuses-sums a v e h = judged-none F o s (valueRungs F o s) 16 a ws v e (λ n. omega arith) (sixteen F o s fit h)
-
         -- ---- all is right
 
         headed : Headed (r .prft)
@@ -350,3 +337,43 @@ module _ {F : List Row} {o s : List ℕ} {t : Track} {p : Place} {index ev : Lis
                     writable = writable h;
                   };
             }
+
+-- ---- what was tested of the values decides the number
+module _ {F : List Row} {o s : List ℕ} {t : Track} {p : Place} {index ev x : List ℕ} {r : Told} (v : Values) (w : Worked F o s t p index ev (v .bmdt .0) r (v .brands))
+    (g : Gathered F o s t x) (same : v .ok ≡ plainOk F o s) {n : ℕ} {ws y : List ℕ}
+    (h : TestedAs t o v (length o - p .end) ev (getD index (manyAt 25) 0) x n ws y) where
+  abbrev judged : Judged
+  judged = record { number = n; prft = r .prft; events = getD index (manyAt 25) 0; brands = v .brands }
+
+  pub values-judged : JudgedAs (valueRungs F o s) F o s judged ws y
+  values-judged = by-value (v .ok) refl
+    where
+      refused : (k : ℕ) → n ≡ k → (k ≡ 0 → ⊥) → k ≡ ladder (valueRungs F o s) (λ i. i) 0 → JudgedAs (valueRungs F o s) F o s judged ws y
+      refused k = judged-none F o s (valueRungs F o s) k judged ws y
+
+      by-sums : (e : v .ok ≡ true) → eventsOk (v .bmdt .0) o (getD index (manyAt 25) 0) ev ≡ true → (z : Bool) → sumsIn t (store x 0 (v .bmdt .0)) (length o - p .end) ≡ z
+          → JudgedAs (valueRungs F o s) F o s judged ws y
+      by-sums e q z u = go z u
+        where
+          ok : plainOk F o s ≡ true
+          ok = sym same ∙ e
+
+          fit : valuesOk F o s ≡ true
+          fit = sym (fit-is w ok (h .read e)) ∙ q
+
+          sums : sumsIn t (store x 0 (v .bmdt .0)) (length o - p .end) ≡ sumsOk F o s
+          sums = sums-are w g ok (h .read e) fit refl
+
+          go : (z : Bool) → sumsIn t (store x 0 (v .bmdt .0)) (length o - p .end) ≡ z → JudgedAs (valueRungs F o s) F o s judged ws y
+          go false u = refused 16 (h .sums e q ∙ rw u) (λ i. omega arith) (sixteen F o s fit (sym sums ∙ u))
+          go true u =
+              let a : n ≡ 0 = h .sums e q ∙ rw u in
+              rw (a, h .stored e q) (accepts w g ok (h .read e) fit refl (sym sums ∙ u))
+
+      by-events : (e : v .ok ≡ true) (z : Bool) → eventsOk (v .bmdt .0) o (getD index (manyAt 25) 0) ev ≡ z → JudgedAs (valueRungs F o s) F o s judged ws y
+      by-events e false q = refused 15 (h .event e q) (λ i. omega arith) (fifteen F o s (sym (fit-is w (sym same ∙ e) (h .read e)) ∙ q))
+      by-events e true q = by-sums e q (sumsIn t (store x 0 (v .bmdt .0)) (length o - p .end)) refl
+
+      by-value : (z : Bool) → v .ok ≡ z → JudgedAs (valueRungs F o s) F o s judged ws y
+      by-value false e = refused 15 (h .out e) (λ i. omega arith) (fifteen F o s (values-broken F o s (sym same ∙ e)))
+      by-value true e = by-events e (eventsOk (v .bmdt .0) o (getD index (manyAt 25) 0) ev) refl

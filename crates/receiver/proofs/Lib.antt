@@ -2,6 +2,7 @@ pub mod ShareFacts
 pub mod SaidLaws
 pub mod SplitLaws
 pub mod BrandLaws
+pub mod TestedLaws
 pub mod JudgeLaws
 pub mod ClimbLaws
 pub mod HeadRungs

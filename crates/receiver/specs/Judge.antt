@@ -1,23 +1,27 @@
 -- What the code works out of an object before it acts.
 -- ==== What only mirrors the code
-use Prim.Native.Nat.{ℕ, _+_, _-_, _≤_}
+use Prim.Native.Nat.{ℕ, _+_, _-_, _≤_, _<_}
 use mathlib.Core.Path.{_≡_}
-use mathlib.Core.Bool.{Bool, true, cond, _&&_}
+use mathlib.Core.Bool.{Bool, true, false, cond, _&&_}
 use mathlib.Core.List.{List, _++_}
 use lib.Dec.{eqb, leb}
-use lib.ListN.{length, getD, replicate, drop}
+use lib.ListN.{length, getD, replicate, drop, set}
 use lib.Seq.{slice}
 use Rattle.laws.specs.Ladder.{Rung, ladder, Hold}
+use Rattle.laws.specs.Tests.{_and_}
 use Rattle.constants.specs.Maxima.{blockMost, numberMost, payloadMost, brandBytesMost, eventsMost, eventBytesMost}
 use Rattle.wire.specs.declared.form.Row.{Row}
 use Rattle.track.specs.declared.Track.{Track}
+use Rattle.field_table.specs.Lines.{bmdtAt}
 use Rattle.field_set.specs.Lawful.{lawful as lawfulSet}
+use Rattle.told_sizes.specs.Sums.{Summable}
+use Rattle.effective.specs.Sums.{sizesOk, protectedOk}
 use Rattle.slots.specs.declared.lawful.Side.the-variants.{Receiver}
 use Rattle.share_words.specs.Share.{shareLen, setAt}
 use Rattle.slots.specs.Share.{isOpen, lawful}
 use Rattle.locmaf_read_index.specs.Held.{Tells}
 use Rattle.prft_value.specs.Prft.{absentPrft}
-use Rattle.event_value.specs.Events.{eventsLen, eventsOf}
+use Rattle.event_value.specs.Events.{eventsLen, eventsOf, EventsFit}
 use Rattle.locmaf_read_index.specs.Places.{standsAt, numberAt}
 use Rattle.locmaf_read_set.specs.Read.{setRungs, newWords}
 use Rattle.cmaf_write_front.specs.Writable.{Writable}
@@ -26,6 +30,7 @@ use Rattle.locmaf_read_head.specs.declared.head.Place.{Place}
 use Rattle.locmaf_read_head.specs.Head.{placeOf}
 use Rattle.locmaf_read_times.specs.Bmdt.{bmdtOf}
 use Rattle.locmaf_read_times.specs.Prft.{prftOf}
+use Rattle.locmaf_read_events.specs.Events.{EventsRead, eventsOk}
 use Rattle.locmaf_read_events.specs.Values.{boxes}
 use Rattle.byte_parts.specs.declared.Part.{Part}
 use Rattle.receiver.specs.declared.judge.Judged.{Judged}
@@ -49,6 +54,10 @@ pub record ValuesTold (t : Track) (delta : Bool) (payload events : ℕ) (s index
       && (prftOf delta (scalarIn index) s .ok
       && (leb payload payloadMost
       && (leb (v .brands .len) brandBytesMost && (leb events eventsMost && leb (getD index (numberAt 25) 0) eventBytesMost)))))
+
+-- whether sizes and protected sums agree, by the words of the set
+abbrev pub sumsIn : Track → List ℕ → ℕ → Bool
+sumsIn t x payload = sizesOk t x payload and protectedOk t x payload
 
 -- nothing but a number
 abbrev pub noneJudged : ℕ → Judged
@@ -91,6 +100,22 @@ readRungs F o s = splitRungs F o s ++ setRungs (track F o s) (isDelta F o) (refe
 pub record BlockReadAs (F : List Row) (o s : List ℕ) (t : Track) (p : Place) (number : ℕ) (index events x : List ℕ) : Type 0 where
   pub answered : number ≡ ladder (readRungs F o s) (λ k. k) 0
   pub read : number ≡ 0 → SetRead F o s t p index events x
+
+-- what the rules on values and sums are asked of: what was told, the words of k events, and those of the set, which have no BMDT yet
+pub record Testable (o : List ℕ) (v : Values) (payload : ℕ) (events : List ℕ) (k : ℕ) (x : List ℕ) : Type 0 where
+  pub long : length events ≡ eventsLen
+  pub room : bmdtAt < length x
+  pub fit : v .ok ≡ true → EventsFit o events k
+  pub summable : v .ok ≡ true → Summable (set x bmdtAt (v .bmdt .0))
+  pub small : v .ok ≡ true → payload ≤ payloadMost
+
+-- the number of the first that is broken, and what the words have become where the values are right
+pub record TestedAs (t : Track) (o : List ℕ) (v : Values) (payload : ℕ) (events : List ℕ) (k : ℕ) (x : List ℕ) (number : ℕ) (ws y : List ℕ) : Type 0 where
+  pub out : v .ok ≡ false → number ≡ 15
+  pub read : v .ok ≡ true → EventsRead t (v .bmdt .0) o events k (eventsOk (v .bmdt .0) o k events) ws
+  pub event : v .ok ≡ true → eventsOk (v .bmdt .0) o k events ≡ false → number ≡ 15
+  pub stored : v .ok ≡ true → eventsOk (v .bmdt .0) o k events ≡ true → y ≡ set x bmdtAt (v .bmdt .0)
+  pub sums : v .ok ≡ true → eventsOk (v .bmdt .0) o k events ≡ true → number ≡ cond (sumsIn t (set x bmdtAt (v .bmdt .0)) payload) 0 16
 
 -- the scratch words have all that the front is made of
 pub record Ready (F : List Row) (o s : List ℕ) (j : Judged) (ws x : List ℕ) : Type 0 where

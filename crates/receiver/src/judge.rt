@@ -13,12 +13,10 @@ ghost use Rattle.event_value.specs.Events.{eventsLen};
 ghost use Rattle.locmaf_read_index.specs.Places.{indexLen};
 ghost use Rattle.told_sizes.specs.Sums.{Summable};
 ghost use Rattle.effective.specs.Durations.{Timed};
-ghost use Rattle.effective.specs.Sums.{sizesOk, protectedOk};
-ghost use Rattle.laws.specs.Tests.{_and_};
 ghost use Rattle.share_words.specs.Share.{shareLen, setAt};
 ghost use Rattle.slots.specs.Share.{trackOf};
 ghost use Rattle.receiver.specs.Judge.{partIn, noneJudged, Judgeable, SplitAs, SetRead, BlockReadAs};
-ghost use Rattle.receiver.specs.Judge.{ValuesTold, AllJudged, ValuesJudged};
+ghost use Rattle.receiver.specs.Judge.{ValuesTold, sumsIn, Testable, TestedAs, AllJudged, ValuesJudged};
 use byte_parts::Part;
 use constants::ids;
 use constants::maxima;
@@ -185,31 +183,49 @@ fn judge_values(
     let k = index[places::EVENTS_COUNT] as usize;
     let payload = o.len() - p.end;
     let v = values_of(t, p.delta, payload, k, s, index);
-    if !v.ok {
-        return refused(15);
-    }
-    let bmdt = v.bmdt;
-    if !locmaf_read_events::events::events_ok(t, bmdt, o, &mut *events, k) {
-        return refused(15);
-    }
-    x[lines::BMDT] = bmdt.0;
-    if !sums_ok(t, x, payload as u64) {
-        return refused(16);
-    }
+    let number = values_number(t, o, v, payload as u64, events, k, x);
     let prft = v.prft;
     let brands = v.brands;
     Judged {
-        number: 0,
+        number,
         prft,
         events: k,
         brands,
     }
 }
 
+// The number of the first rule on values and sums that is broken, or 0. BMDT goes into the set's words on the way.
+fn values_number(
+    t: Track,
+    o: &[u8],
+    v: Values,
+    payload: u64,
+    events: &mut [u64],
+    k: usize,
+    x: &mut [u64],
+) -> u64
+    requires { ⌜ Testable (now o) v payload (now events) k (now x) ⌝ }
+    ensures { λ n. ⌜ TestedAs t (now (o .entry)) v payload (now (events .entry)) k (now (x .entry))
+        n (now (events .exit)) (now (x .exit)) ⌝ }
+{
+    if !v.ok {
+        return 15;
+    }
+    let bmdt = v.bmdt;
+    if !locmaf_read_events::events::events_ok(t, bmdt, o, &mut *events, k) {
+        return 15;
+    }
+    x[lines::BMDT] = bmdt.0;
+    if !sums_ok(t, x, payload) {
+        return 16;
+    }
+    0
+}
+
 // The sizes and the protected sums.
 fn sums_ok(t: Track, x: &[u64], payload: u64) -> bool
     requires { ⌜ (Summable (now x)) × (payload ≤ payloadMost) ⌝ }
-    ensures { λ r. ⌜ r ≡ (sizesOk t (now (x .entry)) payload and protectedOk t (now (x .entry)) payload) ⌝ }
+    ensures { λ r. ⌜ r ≡ sumsIn t (now (x .entry)) payload ⌝ }
 {
     if !effective::sums::sizes_ok(t, x, payload) {
         return false;

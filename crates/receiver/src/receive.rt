@@ -11,7 +11,7 @@ ghost use Rattle.slots.specs.Table.{out, onTable};
 ghost use Rattle.answers.specs.Took.{took, refused};
 ghost use Rattle.answers.specs.Answered.{AnsweredAs};
 ghost use Rattle.receiver.specs.Receive.{refusing, done, written, taken, receiving};
-ghost use Rattle.receiver.specs.Judge.{Judgeable, Acceptable, Roomy};
+ghost use Rattle.receiver.specs.Judge.{Judgeable, AllJudged, Acceptable, Roomy};
 ghost use Rattle.receiver.specs.Opened.{OpenedAs};
 use crate::judge;
 use crate::judge::Judged;
@@ -118,7 +118,31 @@ fn accept(
     write(t, p, o, s, j, list, x, names, need, output)
 }
 
-// An object with its head read, on an open share: number first, then act.
+// An object that was judged: number first, then act.
+fn take_judged(
+    t: Track,
+    p: Place,
+    o: &[u8],
+    s: &mut [u64],
+    j: Judged,
+    list: &[u64],
+    x: &[u64],
+    output: &mut [u8],
+) -> Answer
+    requires { ⌜ ((F : List Row) × Judgeable F (now o) (now s) t p × AllJudged F (now o) (now s) j (now list) (now x)) ⌝ }
+    ensures { λ a. ⌜ ((F : List Row) → Judgeable F (now (o .entry)) (now (s .entry)) t p
+        → AllJudged F (now (o .entry)) (now (s .entry)) j (now (list .entry)) (now (x .entry))
+        → AnsweredAs (taken F (now (o .entry)) (now (output .entry)) (now (s .entry)))
+        (now (o .entry)) a (now (output .exit)) (now (s .exit))) ⌝ }
+{
+    let k = j.number;
+    if k != 0 {
+        return refuse(s, k);
+    }
+    accept(t, p, o, s, j, list, x, output)
+}
+
+// An object with its head read, on an open share.
 fn take_block(form: Form, t: Track, p: Place, o: &[u8], s: &mut [u64], output: &mut [u8]) -> Answer
     requires { ⌜ Judgeable (rows form) (now o) (now s) t p ⌝ }
     ensures { λ a. ⌜ AnsweredAs (taken (rows form) (now (o .entry)) (now (output .entry)) (now (s .entry)))
@@ -127,11 +151,7 @@ fn take_block(form: Form, t: Track, p: Place, o: &[u8], s: &mut [u64], output: &
     let mut events = [0u64; event_value::ALL_WORDS];
     let mut x = [0u64; lines::SET];
     let j = judge::judge(form, t, o, p, s, &mut events, &mut x);
-    let k = j.number;
-    if k != 0 {
-        return refuse(s, k);
-    }
-    accept(t, p, o, s, j, &events, &x, output)
+    take_judged(t, p, o, s, j, &events, &x, output)
 }
 
 // All that is asked before the block is read: the share, the head, and whether there is a reference for a delta.

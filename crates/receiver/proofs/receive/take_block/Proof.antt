@@ -1,10 +1,7 @@
--- `receiver::receive::take_block` meets its contract, by the laws of `proofs/ReceiveLaws.antt`. Assumes nothing.
+-- `receiver::receive::take_block` meets its contract. Assumes nothing.
 use mathlib.Core.Path.{refl}
-use denote.Ref.{now}
-use Rattle.wire.specs.Form.{rows}
-use Rattle.answers.proofs.AnsweredLaws.{answered-on}
-use Rattle.receiver.proofs.ReceiveLaws.{judged-stops, judged-climbs}
 use borrow.Author.Needs.{needs}
+use Rattle.wire.specs.Form.{rows}
 use Rattle.receiver.proofs.receive.take_block.Statement.{statement}
 use Rattle.receiver.proofs.receive.take_block.Tie as tie
 
@@ -17,43 +14,30 @@ slice-aggregate-judge-2 c = search needs
 judge-requires : tie.Need-judge-requires
 judge-requires c κs = (c .before .before .before .before .before .before .pre, (refl, refl))
 
-refuse-requires : tie.Need-refuse-requires
-refuse-requires c κs = search needs
+slice-aggregate-take-judged : tie.Need-slice-aggregate-take-judged
+slice-aggregate-take-judged c = search needs
+
+slice-aggregate-take-judged-2 : tie.Need-slice-aggregate-take-judged-2
+slice-aggregate-take-judged-2 c = search needs
+
+take-judged-requires : tie.Need-take-judged-requires
+take-judged-requires c κs =
+    let j = c .before .before .before .before .before .before in
+    let b = j .before .before .before .before .before .before .before in
+    (rows (b .args .form), b .pre, j .judge .ensures)
 
 same-length : tie.Need-same-length
 same-length c = search needs
 
-returns : tie.Need-returns
-returns c =
-    let j = c .before .before .before .before .before .before .before in
-    let output = now (j .before .before .before .before .before .before .before .args .output) in
-    answered-on (c .before .before .refuse .ensures _ output) (judged-stops _ _ _ output _ _ _ (j .judge .ensures) (c .before .before .before .before .if1 .taken))
-
-slice-aggregate-accept : tie.Need-slice-aggregate-accept
-slice-aggregate-accept c = search needs
-
-slice-aggregate-accept-2 : tie.Need-slice-aggregate-accept-2
-slice-aggregate-accept-2 c = search needs
-
-accept-requires : tie.Need-accept-requires
-accept-requires c κs =
-    let j = c .before .before .before .before .before .before .before in
-    let b = j .before .before .before .before .before .before .before in
-    (rows (b .args .form), record { head = b .pre; ready = j .judge .ensures .ready (c .before .before .before .before .if1 .left) })
-
 same-length-2 : tie.Need-same-length-2
 same-length-2 c = search needs
 
-same-length-3 : tie.Need-same-length-3
-same-length-3 c = search needs
-
-returns-2 : tie.Need-returns-2
-returns-2 c =
-    let j = c .before .before .before .before .before .before .before .before .before .before .before .before in
+returns : tie.Need-returns
+returns c =
+    let a = c .before .before .before .before in
+    let j = a .before .before .before .before .before .before .before in
     let b = j .before .before .before .before .before .before .before in
-    let z = c .before .before .before .before .before .before .before .before .before .if1 .left in
-    answered-on (c .before .before .before .before .accept .ensures (rows (b .args .form)) (record { head = b .pre; ready = j .judge .ensures .ready z }))
-    (judged-climbs _ _ _ (now (b .args .output)) _ _ _ (j .judge .ensures) z)
+    a .take-judged .ensures (rows (b .args .form)) (b .pre) (j .judge .ensures)
 
 pub take-block-spec : {M : Type 1} → statement M
 take-block-spec =
@@ -62,12 +46,9 @@ take-block-spec =
     slice-aggregate-judge
     slice-aggregate-judge-2
     judge-requires
-    refuse-requires
+    slice-aggregate-take-judged
+    slice-aggregate-take-judged-2
+    take-judged-requires
     same-length
-    returns
-    slice-aggregate-accept
-    slice-aggregate-accept-2
-    accept-requires
     same-length-2
-    same-length-3
-    returns-2)
+    returns)
