@@ -1,4 +1,5 @@
 // One chunk from end to end: as an object, as a chunk again, and once more as an object.
+ghost use mathlib.Core.Path.{_≡_};
 ghost use Rattle.io.specs.Counts.{Counts};
 use crate::calls;
 use crate::calls::Whole;
@@ -65,6 +66,21 @@ fn counted(chunk: usize, object: &[u8], front: u64, same: bool) -> Passed {
     }
 }
 
+// Its way ends there.
+fn stopped(number: u64) -> Passage
+    ensures { λ r. ⌜ (r .object ≡ 0) × (r .rebuilt .end ≡ 0) ⌝ }
+{
+    Passage {
+        passed: refused(number),
+        object: 0,
+        rebuilt: Whole {
+            number,
+            front: 0,
+            end: 0,
+        },
+    }
+}
+
 // A chunk on the tables of an encoder and a receiver. The last two buffers are room for its object and for the rebuilt chunk.
 pub fn pass(
     encoder: &mut [u64],
@@ -78,16 +94,7 @@ pub fn pass(
 {
     let e = calls::encoded(&mut *encoder, calls::FIRST, wish, chunk, &mut *object);
     if e.number != 0 {
-        let rebuilt = Whole {
-            number: e.number,
-            front: 0,
-            end: 0,
-        };
-        return Passage {
-            passed: refused(e.number),
-            object: 0,
-            rebuilt,
-        };
+        return stopped(e.number);
     }
     let n = e.end;
     let o = &object[..n];
