@@ -25,7 +25,7 @@ module _ (F : List Row) (t : Track) (delta : Bool) (r x : List ℕ) where
   -- what follows the middle lines, BMDT and the low lines
 
   abbrev last : Items
-  last = countItems F t delta r x before between F t delta r x beforeCount chunkLines
+  last = countItems F delta r x before between F t delta r x beforeCount chunkLines
 
   abbrev rest : Items
   rest = between F t delta r x beforeBmdt beforeCount before last
@@ -35,11 +35,11 @@ module _ (F : List Row) (t : Track) (delta : Bool) (r x : List ℕ) where
 
   -- all were weighed: the lines in one walk, and then the two numbers that stand between them
   pub set-weighed : {a b c : Weight} → WeighedAs F (between F t delta r x 0 chunkLines) (lineMost * chunkLines) a → WeighedAs F (bmdtItems F t delta r x) pairMost b
-      → WeighedAs F (countItems F t delta r x) pairMost c → (u z : Weight) → Sum b c u → Sum a u z → WeighedAs F (fieldItems F t delta r x) setMost z
+      → WeighedAs F (countItems F delta r x) pairMost c → (u z : Weight) → Sum b c u → Sum a u z → WeighedAs F (fieldItems F t delta r x) setMost z
   unfolding fieldItems
   set-weighed p q s u z g h =
       weighed-alike F
-      (interleaved F (between F t delta r x 0 beforeBmdt) (between F t delta r x beforeBmdt beforeCount) (between F t delta r x beforeCount chunkLines) (bmdtItems F t delta r x) (countItems F t delta r x))
+      (interleaved F (between F t delta r x 0 beforeBmdt) (between F t delta r x beforeBmdt beforeCount) (between F t delta r x beforeCount chunkLines) (bmdtItems F t delta r x) (countItems F delta r x))
       (weighed-both (weighed-as (three-parts F t delta r x) p) (weighed-both q s g) h)
 
   -- all are left to be written; then all but the low lines, and so on
@@ -61,6 +61,6 @@ module _ (F : List Row) (t : Track) (delta : Bool) (r x : List ℕ) where
           pub before-count : Left F (fieldItems F t delta r x) l at last o u
           before-count = left-next F (fieldItems F t delta r x) l at _ _ _ _ before-middle o u w₃
 
-          module _ (k : List ℕ) (v : ℕ) (w₄ : Wrote o u (bytesOf F (countItems F t delta r x)) k v) where
+          module _ (k : List ℕ) (v : ℕ) (w₄ : Wrote o u (bytesOf F (countItems F delta r x)) k v) where
             pub before-high : Left F (fieldItems F t delta r x) l at (between F t delta r x beforeCount chunkLines) k v
             before-high = left-next F (fieldItems F t delta r x) l at _ _ _ _ before-count k v w₄

@@ -53,7 +53,8 @@ module _ (t : Track) (delta : Bool) (r x : List ℕ) where
     unfolding bmdtItems
     bmdt-is e f = rw (e, f)
 
-    pub count-is : {b : Bool} {coding : Coding} {c : Coded} → b ≡ countStands t delta r x → coding ≡ codingFor delta
-        → c ≡ codeOf F coding (getD r countAt 0) (getD x countAt 0) → itemsIf b (numberItem 14 c) ≡ countItems F t delta r x
-    unfolding countItems
-    count-is e g f = rw (e, f, g)
+module _ (delta : Bool) (r x : List ℕ) (F : List Row) where
+  pub count-is : {b : Bool} {coding : Coding} {c : Coded} → b ≡ countStands delta r x → coding ≡ codingFor delta
+      → c ≡ codeOf F coding (getD r countAt 0) (getD x countAt 0) → itemsIf b (numberItem 14 c) ≡ countItems F delta r x
+  unfolding countItems
+  count-is e g f = rw (e, f, g)

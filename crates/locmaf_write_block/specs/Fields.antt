@@ -37,8 +37,8 @@ module _ (t : Track) (delta : Bool) (r x : List ℕ) where
   unfoldable pub bmdtStands : Bool
   bmdtStands = not delta || not (eqb (getD x bmdtAt 0) (nextTime t r))
 
-  unfoldable pub countStands : Bool
-  countStands = not delta || not (eqb (getD x countAt 0) (getD r countAt 0))
+unfoldable pub countStands : Bool → List ℕ → List ℕ → Bool
+countStands delta r x = not delta || not (eqb (getD x countAt 0) (getD r countAt 0))
 
 -- how many lines stand before BMDT, which comes before id 11, and before the sample count, which comes before id 15
 abbrev pub beforeBmdt : ℕ
@@ -46,6 +46,9 @@ beforeBmdt = subsamplesLine
 
 abbrev pub beforeCount : ℕ
 beforeCount = protectedLine
+
+unfoldable pub countItems : List Row → Bool → List ℕ → List ℕ → Items
+countItems F delta r x = itemsIf (countStands delta r x) (numberItem 14 (codeOf F (codingFor delta) (getD r countAt 0) (getD x countAt 0)))
 
 module _ (F : List Row) (t : Track) (delta : Bool) (r x : List ℕ) where
   unfoldable pub linesItems : List Line → Items
@@ -59,13 +62,14 @@ module _ (F : List Row) (t : Track) (delta : Bool) (r x : List ℕ) where
   unfoldable pub bmdtItems : Items
   bmdtItems = itemsIf (bmdtStands t delta r x) (numberItem 10 (codeOf F Plain 0 (getD x bmdtAt 0)))
 
-  unfoldable pub countItems : Items
-  countItems = itemsIf (countStands t delta r x) (numberItem 14 (codeOf F (codingFor delta) (getD r countAt 0) (getD x countAt 0)))
-
   -- ids 1 to 15: the lines that a chunk can have, and ids 10 and 14 between them
   unfoldable pub fieldItems : Items
   fieldItems =
-      between 0 beforeBmdt before bmdtItems before between beforeBmdt beforeCount before countItems before between beforeCount chunkLines
+      between 0 beforeBmdt
+      before bmdtItems
+      before between beforeBmdt beforeCount
+      before countItems F delta r x
+      before between beforeCount chunkLines
 
   unfoldable pub deletionItems : Items
   deletionItems = itemsIf (not (eqb (length (goneOf t delta r x lines)) 0)) (runItem F Plain 27 0 [] (goneOf t delta r x lines))

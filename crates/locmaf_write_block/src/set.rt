@@ -6,7 +6,6 @@ ghost use Prim.Native.Nat.{_+_, _-_, _*_, _≤_, _<_};
 ghost use lib.ListN.{length};
 ghost use Rattle.wire.specs.Form.{rows};
 ghost use Rattle.laws.specs.Options.{isSome};
-ghost use Rattle.track.specs.declared.Track.{Track};
 ghost use Rattle.field_table.specs.Lines.{lines, setLen};
 ghost use Rattle.locmaf_write_tuples.specs.Items.{pairMost, WeighedAs, RoomFor, WroteItems};
 ghost use Rattle.locmaf_write_block.specs.Changes.{chunkLines, basisOf, Writable, Based, lineMost};
@@ -72,7 +71,7 @@ fn bmdt_stands(t: Track, delta: bool, r: &[u64], x: &[u64]) -> bool
 
 fn count_stands(delta: bool, r: &[u64], x: &[u64]) -> bool
     requires { ⌜ (length (now r) ≡ setLen) × (length (now x) ≡ setLen) ⌝ }
-    ensures { λ b. ⌜ ((t : Track) → b ≡ countStands t delta (now (r .entry)) (now (x .entry))) ⌝ }
+    ensures { λ b. ⌜ b ≡ countStands delta (now (r .entry)) (now (x .entry)) ⌝ }
 {
     !delta | (x[lines::COUNT] != r[lines::COUNT])
 }
@@ -106,11 +105,11 @@ fn put_bmdt(
     tuples::put_number(form, bmdt_stands(t, delta, r, x), ids::BMDT, c, out, at)
 }
 
-// The sample count's tuple, whatever the track is.
+// The sample count's tuple.
 fn count_size(form: Form, delta: bool, r: &[u64], x: &[u64]) -> Weight
     requires { ⌜ (length (now r) ≡ setLen) × (length (now x) ≡ setLen) ⌝ }
-    ensures { λ w. ⌜ ((t : Track)
-        → WeighedAs (rows form) (countItems (rows form) t delta (now (r .entry)) (now (x .entry))) pairMost w) ⌝ }
+    ensures { λ w. ⌜ WeighedAs (rows form) (countItems (rows form) delta (now (r .entry)) (now (x .entry)))
+        pairMost w ⌝ }
 {
     let c = wire::zigzag::code(form, coding_for(delta), r[lines::COUNT], x[lines::COUNT]);
     tuples::number_size(form, count_stands(delta, r, x), ids::COUNT, c)
@@ -118,11 +117,10 @@ fn count_size(form: Form, delta: bool, r: &[u64], x: &[u64]) -> Weight
 
 fn put_count(form: Form, delta: bool, r: &[u64], x: &[u64], out: &mut [u8], at: usize) -> usize
     requires { ⌜ (length (now r) ≡ setLen) × (length (now x) ≡ setLen) ⌝ }
-    requires { ⌜ ((t : Track) × (isSome (countItems (rows form) t delta (now r) (now x)) ≡ true)
-        × RoomFor (rows form) (countItems (rows form) t delta (now r) (now x)) (now out) at) ⌝ }
-    ensures { λ p. ⌜ ((t : Track)
-        → WroteItems (rows form) (countItems (rows form) t delta (now (r .entry)) (now (x .entry)))
-        (now (out .entry)) at (now (out .exit)) p) ⌝ }
+    requires { ⌜ isSome (countItems (rows form) delta (now r) (now x)) ≡ true ⌝ }
+    requires { ⌜ RoomFor (rows form) (countItems (rows form) delta (now r) (now x)) (now out) at ⌝ }
+    ensures { λ p. ⌜ WroteItems (rows form) (countItems (rows form) delta (now (r .entry)) (now (x .entry)))
+        (now (out .entry)) at (now (out .exit)) p ⌝ }
 {
     let c = wire::zigzag::code(form, coding_for(delta), r[lines::COUNT], x[lines::COUNT]);
     tuples::put_number(form, count_stands(delta, r, x), ids::COUNT, c, out, at)

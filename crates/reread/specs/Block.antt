@@ -54,7 +54,7 @@ module _ (s c : List ℕ) (delta : Bool) where
       cond (moofField id) (lineSays t delta r x (lineFor id lines))
       (cond (leb idCount id) none
       (cond (eqb id 10) (saidIf (bmdtStands t delta r x) (getD x bmdtAt 0 ∷ []))
-      (cond (eqb id 14) (saidIf (countStands t delta r x) (against (getD r countAt 0) (getD x countAt 0)))
+      (cond (eqb id 14) (saidIf (countStands delta r x) (against (getD r countAt 0) (getD x countAt 0)))
       (cond (eqb id 18) (saidIf (prft c .stands) (against (getD s ntpAt 0) (prft c .ntp .0)))
       (cond (eqb id 20) (saidIf (prft c .stands) (against (getD s mediaTimeAt 0) (prft c .media .0)))
       (cond (eqb id 22) (unless (keptFor delta (getD s versionAt 0) 1) (prft c .version))

@@ -28,7 +28,7 @@ returns : tie.Need-returns
 returns c =
     let b₁ = c .before .before in
     let b₂ = b₁ .before .before .before in
-    λ t. weighed-as (count-is _ _ _ _ _ (c .before .count-stands .ensures t) (b₂ .coding-for .ensures) (b₁ .code .ensures)) (c .number-size .ensures)
+    weighed-as (count-is _ _ _ _ (c .before .count-stands .ensures) (b₂ .coding-for .ensures) (b₁ .code .ensures)) (c .number-size .ensures)
 
 pub count-size-spec : {M : Type 1} → statement M
 count-size-spec =

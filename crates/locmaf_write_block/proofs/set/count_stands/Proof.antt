@@ -13,7 +13,7 @@ shared-slice-read-result-2 c = search needs
 
 returns : tie.Need-returns
 unfolding countStands
-returns c = λ t. refl
+returns c = refl
 
 pub count-stands-spec : {M : Type 1} → statement M
 count-stands-spec =

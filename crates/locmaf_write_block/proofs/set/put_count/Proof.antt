@@ -26,7 +26,7 @@ put-number-requires c κs =
     let b₂ = b₁ .before .before .before in
     let b₃ = b₂ .before .before .before .before in
     let n = b₃ .pre .1 in
-    put-needs _ (count-is _ _ _ _ _ (c .before .count-stands .ensures (n .0)) (b₂ .coding-for .ensures) (b₁ .code .ensures)) _ _ (n .1) (n .2)
+    put-needs _ (count-is _ _ _ _ (c .before .count-stands .ensures) (b₂ .coding-for .ensures) (b₁ .code .ensures)) _ _ (n .0) (n .1)
 
 same-length : tie.Need-same-length
 same-length c = search needs
@@ -37,7 +37,7 @@ returns c =
     let b₂ = b₁ .before .before in
     let b₃ = b₂ .before in
     let b₄ = b₃ .before .before .before in
-    λ t. put-as _ (count-is _ _ _ _ _ (b₂ .count-stands .ensures t) (b₄ .coding-for .ensures) (b₃ .code .ensures)) (b₁ .put-number .ensures)
+    put-as _ (count-is _ _ _ _ (b₂ .count-stands .ensures) (b₄ .coding-for .ensures) (b₃ .code .ensures)) (b₁ .put-number .ensures)
 
 pub put-count-spec : {M : Type 1} → statement M
 put-count-spec =

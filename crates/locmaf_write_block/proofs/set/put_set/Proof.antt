@@ -35,7 +35,7 @@ put-count-requires c κs =
     _ _ (b₃ .put-lines .ensures) _ _ (b₂ .put-bmdt .ensures) _ _ (b₁ .put-middle .ensures) in
     let n = left-first _ _ _ _ _ _ _ _ h in
     let w = b₄ .pre .0 .0 in
-    ((w .old-words, w .new-words), (b₄ .args .t, n .0, n .1))
+    ((w .old-words, w .new-words), n)
 
 put-high-requires : tie.Need-put-high-requires
 put-high-requires c κs =
@@ -45,7 +45,7 @@ put-high-requires c κs =
     let b₄ = b₃ .before .before .before .before in
     let b₅ = b₄ .before .before .before .before .before in
     let h = before-high _ _ _ _ _ (b₅ .args .out .now) _ (b₅ .pre .1 .0) (b₅ .pre .1 .1)
-    _ _ (b₄ .put-lines .ensures) _ _ (b₃ .put-bmdt .ensures) _ _ (b₂ .put-middle .ensures) _ _ (b₁ .put-count .ensures _) in
+    _ _ (b₄ .put-lines .ensures) _ _ (b₃ .put-bmdt .ensures) _ _ (b₂ .put-middle .ensures) _ _ (b₁ .put-count .ensures) in
     (b₅ .pre .0, (h .fits, h .room))
 
 same-length : tie.Need-same-length
@@ -60,7 +60,7 @@ returns c =
     let b₅ = b₄ .before .before .before .before in
     let b₆ = b₅ .before .before .before .before .before in
     let h = before-high _ _ _ _ _ (b₆ .args .out .now) _ (b₆ .pre .1 .0) (b₆ .pre .1 .1)
-    _ _ (b₅ .put-lines .ensures) _ _ (b₄ .put-bmdt .ensures) _ _ (b₃ .put-middle .ensures) _ _ (b₂ .put-count .ensures _) in
+    _ _ (b₅ .put-lines .ensures) _ _ (b₄ .put-bmdt .ensures) _ _ (b₃ .put-middle .ensures) _ _ (b₂ .put-count .ensures) in
     h .rest _ _ (b₁ .put-high .ensures)
 
 pub put-set-spec : {M : Type 1} → statement M

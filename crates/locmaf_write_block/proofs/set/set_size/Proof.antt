@@ -14,17 +14,17 @@ count-size-requires : tie.Need-count-size-requires
 count-size-requires c κs = search needs
 
 both-requires : tie.Need-both-requires
-both-requires c κs = search (needs, c .count-size .ensures (c .before .before .before .before .before .args .t) .small)
+both-requires c κs = search (needs, c .count-size .ensures .small)
 
 both-requires-2 : tie.Need-both-requires-2
-both-requires-2 c κs = search (needs, c .before .count-size .ensures (c .before .before .before .before .before .before .args .t) .small)
+both-requires-2 c κs = search (needs, c .before .count-size .ensures .small)
 
 returns : tie.Need-returns
 returns c =
     let b₁ = c .before in
     let b₂ = b₁ .before in
     let b₃ = b₂ .before in
-    set-weighed _ _ _ _ _ (b₃ .before .lines-size .ensures) (b₃ .bmdt-size .ensures) (b₂ .count-size .ensures _) _ _ (b₁ .both .ensures) (c .both2 .ensures)
+    set-weighed _ _ _ _ _ (b₃ .before .lines-size .ensures) (b₃ .bmdt-size .ensures) (b₂ .count-size .ensures) _ _ (b₁ .both .ensures) (c .both2 .ensures)
 
 pub set-size-spec : {M : Type 1} → statement M
 set-size-spec =
