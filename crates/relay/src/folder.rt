@@ -8,7 +8,6 @@ use accounts::tally::Tally;
 use accounts::words;
 use inputs::arguments::Options;
 use inputs::files;
-use inputs::numbers;
 use share_words::share::TABLE;
 use slots::lawful::Side;
 
