@@ -22,7 +22,7 @@ use Rattle.boxes.proofs.BoxLaws.{words-long, box-words, length-box, length-full
 use Rattle.boxes.specs.Box as B
 use Rattle.cmaf_write_moof.proofs.ProtectionLaws.{protection-same}
 use Rattle.effective.specs.Sizes.{sizeOf, lastSize, sizeBy}
-use Rattle.cmaf_write_moof.specs.Moof.{mfhdBox, tfhdFlags, tfhdBox, tfdtBox, offsetField, trunRow, trunRows, trunFlags, trunBox, plain, moofBox, moofWhole, protection}
+use Rattle.cmaf_write_moof.specs.Moof.{whenMarked, mfhdBox, tfhdFlags, tfhdBox, tfdtBox, offsetField, trunRow, trunRows, trunFlags, trunBox, plain, moofBox, moofWhole, protection}
 use Rattle.cmaf_write_moof.specs.Lengths.{tfhdLength, rowLength, trunLength, plainLength}
 use Rattle.effective.proofs.SizeLaws.{size-by}
 
@@ -32,8 +32,9 @@ pub when-length : (b : Bool) (v : ℕ) → length (when b (be 4 v)) ≡ flagWhen
 when-length true v = length-be 4 v
 when-length false v = refl
 
-pub when-as : {l m : List ℕ} {at p u v : ℕ} (b : Bool) → u ≡ v → Wrote l at (when b (be 4 u)) m p → Wrote l at (when b (be 4 v)) m p
-when-as b e w = wrote-as (ap (λ (n : ℕ). when b (be 4 n)) e) w
+pub marked-as : {l m : List ℕ} {at p u v : ℕ} (w : List ℕ) (mark : ℕ) → u ≡ v
+    → Wrote l at (whenMarked w mark u) m p → Wrote l at (whenMarked w mark v) m p
+marked-as w mark e h = wrote-as (ap (whenMarked w mark) e) h
 
 pub flag-low : (b : Bool) (v : ℕ) → flagWhen b v ≤ v
 flag-low true v = omega arith

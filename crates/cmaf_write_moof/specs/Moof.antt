@@ -1,9 +1,9 @@
 -- The `moof`, written from the words of a lawful set. 01: "Same box order, `senc saiz saio` last; `tfdt` and `trun` version 1; `tfhd` flags
 -- 0x020000 plus ids 2, 4, 8; `trun` with data offset, ids 3, 5, 7, 12, and sizes if there are samples."
 use Prim.Native.Nat.{ℕ, zero, suc, _+_, _%_, _^_}
-use mathlib.Core.Bool.{_||_}
+use mathlib.Core.Bool.{not, _||_}
 use mathlib.Core.List.{List, [], _++_}
-use lib.Dec.{ltb}
+use lib.Dec.{eqb, ltb}
 use lib.ListN.{length, getD}
 use Rattle.laws.specs.Bytes.{be}
 use Rattle.track.specs.declared.Track.{Track}
@@ -79,3 +79,9 @@ moofBox t sequence w payload offset =
 -- 01: "data offset present and equal to the `moof` size plus 8"; what the offset is doesn't change the size
 unfoldable pub moofWhole : Track → ℕ → List ℕ → ℕ → List ℕ
 moofWhole t sequence w payload = moofBox t sequence w payload (length (moofBox t sequence w payload 0) + 8)
+
+-- ==== What only mirrors the code
+
+-- a number in four bytes, where the mark at a place of the words stands
+abbrev pub whenMarked : List ℕ → ℕ → ℕ → List ℕ
+whenMarked w mark v = when (not (eqb (getD w mark 0) 0)) (be 4 v)

@@ -2,7 +2,7 @@
 // Letters: `t` the track, `w` the words of a set.
 ghost use mathlib.Core.Path.{_≡_};
 ghost use Prim.Native.Nat.{ℕ, _+_, _≤_, _<_};
-ghost use lib.ListN.{length};
+ghost use lib.ListN.{length, getD};
 ghost use Rattle.laws.specs.Bytes.{be};
 ghost use Rattle.laws.specs.Writes.{Wrote};
 ghost use Rattle.media.specs.Flags.{wideOf};
@@ -10,7 +10,7 @@ ghost use Rattle.constants.specs.Maxima.{samplesMost};
 ghost use Rattle.field_table.specs.Lines.{setLen};
 ghost use Rattle.boxes.specs.Box.{when, flagWhen};
 ghost use Rattle.field_set.specs.Lawful.{countIn};
-ghost use Rattle.cmaf_write_moof.specs.Moof.{tfhdFlags, tfhdBox, tfdtBox, offsetField, trunRow, trunRows, trunFlags, trunBox, plain, moofBox, moofWhole};
+ghost use Rattle.cmaf_write_moof.specs.Moof.{whenMarked, tfhdFlags, tfhdBox, tfdtBox, offsetField, trunRow, trunRows, trunFlags, trunBox, plain, moofBox, moofWhole};
 ghost use Rattle.cmaf_write_moof.specs.Lengths.{tfhdLength, rowLength, trunLength, plainLength, trunMost, plainMost, moofMost};
 ghost use Rattle.cmaf_write_senc.specs.Protection.{Protectable};
 ghost use Rattle.effective.specs.Sizes.{Sized};
@@ -47,6 +47,28 @@ fn wide(v: u64) -> u64
     f as u64
 }
 
+// The value at a place of the words, where the mark of its field stands.
+fn put_value(w: &[u64], mark: usize, place: usize, out: &mut [u8], at: usize) -> usize
+    requires { ⌜ (mark < length (now w)) × (place < length (now w)) ⌝ }
+    requires { ⌜ at + length (whenMarked (now w) mark (getD (now w) place 0)) ≤ length (now out) ⌝ }
+    ensures { λ r. ⌜ Wrote (now (out .entry)) at
+        (whenMarked (now (w .entry)) mark (getD (now (w .entry)) place 0))
+        (now (out .exit)) r ⌝ }
+{
+    put_when(w[mark] != 0, w[place], out, at)
+}
+
+// The sample flags at a place of the words, where the mark of their field stands.
+fn put_flags(w: &[u64], mark: usize, place: usize, out: &mut [u8], at: usize) -> usize
+    requires { ⌜ (mark < length (now w)) × (place < length (now w)) ⌝ }
+    requires { ⌜ at + length (whenMarked (now w) mark (wideOf (getD (now w) place 0))) ≤ length (now out) ⌝ }
+    ensures { λ r. ⌜ Wrote (now (out .entry)) at
+        (whenMarked (now (w .entry)) mark (wideOf (getD (now (w .entry)) place 0)))
+        (now (out .exit)) r ⌝ }
+{
+    put_when(w[mark] != 0, wide(w[place]), out, at)
+}
+
 // ---- tfhd
 
 fn tfhd_length(w: &[u64]) -> u64
@@ -75,15 +97,9 @@ fn put_tfhd(t: Track, w: &[u64], out: &mut [u8], at: usize) -> usize
 {
     let head: [u64; 4] = [tfhd_length(w), kinds::TFHD, tfhd_flags(w), t.id as u64];
     let a = put::put_words(out, at, &head);
-    let b = put_when(
-        w[lines::DESCRIPTION] != 0,
-        w[lines::DESCRIPTION + 1],
-        out,
-        a,
-    );
-    let c = put_when(w[lines::DURATION] != 0, w[lines::DURATION + 1], out, b);
-    let flags = wide(w[lines::DEFAULT_FLAGS + 1]);
-    put_when(w[lines::DEFAULT_FLAGS] != 0, flags, out, c)
+    let b = put_value(w, lines::DESCRIPTION, lines::DESCRIPTION + 1, out, a);
+    let c = put_value(w, lines::DURATION, lines::DURATION + 1, out, b);
+    put_flags(w, lines::DEFAULT_FLAGS, lines::DEFAULT_FLAGS + 1, out, c)
 }
 
 // ---- tfdt
@@ -136,23 +152,27 @@ fn offset_field(v: u64) -> u64
     (v % 0x1_0000_0000 + 0x8000_0000) % 0x1_0000_0000
 }
 
+// The composition offset at a place of the words, where the mark of the offsets stands.
+fn put_offset(w: &[u64], mark: usize, place: usize, out: &mut [u8], at: usize) -> usize
+    requires { ⌜ (mark < length (now w)) × (place < length (now w)) ⌝ }
+    requires { ⌜ at + length (whenMarked (now w) mark (offsetField (getD (now w) place 0))) ≤ length (now out) ⌝ }
+    ensures { λ r. ⌜ Wrote (now (out .entry)) at
+        (whenMarked (now (w .entry)) mark (offsetField (getD (now (w .entry)) place 0)))
+        (now (out .exit)) r ⌝ }
+{
+    put_when(w[mark] != 0, offset_field(w[place]), out, at)
+}
+
 // The columns of the sample with the number i.
 fn put_row(w: &[u64], size: u64, i: usize, out: &mut [u8], at: usize) -> usize
     requires { ⌜ (length (now w) ≡ setLen) × (i < samplesMost) ⌝ }
     requires { ⌜ at + length (trunRow (now w) size i) ≤ length (now out) ⌝ }
     ensures { λ r. ⌜ Wrote (now (out .entry)) at (trunRow (now (w .entry)) size i) (now (out .exit)) r ⌝ }
 {
-    let a = put_when(
-        w[lines::DURATIONS] != 0,
-        w[lines::DURATIONS + 1 + i],
-        out,
-        at,
-    );
+    let a = put_value(w, lines::DURATIONS, lines::DURATIONS + 1 + i, out, at);
     let b = put::put_u32(out, a, size);
-    let flags = wide(w[lines::FLAGS + 1 + i]);
-    let c = put_when(w[lines::FLAGS] != 0, flags, out, b);
-    let offset = offset_field(w[lines::OFFSETS + 1 + i]);
-    put_when(w[lines::OFFSETS] != 0, offset, out, c)
+    let c = put_flags(w, lines::FLAGS, lines::FLAGS + 1 + i, out, b);
+    put_offset(w, lines::OFFSETS, lines::OFFSETS + 1 + i, out, c)
 }
 
 fn put_rows(t: Track, w: &[u64], payload: u64, out: &mut [u8], at: usize) -> usize
@@ -188,8 +208,7 @@ fn put_trun(t: Track, w: &[u64], payload: u64, offset: u64, out: &mut [u8], at: 
         offset,
     ];
     let a = put::put_words(out, at, &head);
-    let first = wide(w[lines::FIRST_FLAGS + 1]);
-    let b = put_when(w[lines::FIRST_FLAGS] != 0, first, out, a);
+    let b = put_flags(w, lines::FIRST_FLAGS, lines::FIRST_FLAGS + 1, out, a);
     put_rows(t, w, payload, out, b)
 }
 

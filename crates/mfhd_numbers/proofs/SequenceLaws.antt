@@ -14,7 +14,7 @@ use Rattle.laws.proofs.TestLaws.{both-of}
 use Rattle.cmaf_read_tree.specs.Numbers.{u32}
 use Rattle.byte_parts.specs.declared.Part.{Part}
 use Rattle.cmaf_read_shape.specs.Parts.{part, Inside}
-use Rattle.mfhd_numbers.specs.Sequence.{mfhdOf, numberOf, valueOf, SameBut}
+use Rattle.mfhd_numbers.specs.Sequence.{mfhdOf, numberOf, valueOf, SameBut, SameAround}
 
 module _ (c : List ℕ) where
   pub number-none : (m : Part) → m ≡ mfhdOf c → m .len < 16 → (part 0 0 ≡ numberOf c) × Inside c (part 0 0)
@@ -52,8 +52,23 @@ rest i l = take (length l - i) (drop i l)
 rest-is : (i : ℕ) (l : List ℕ) → rest i l ≡ drop i l
 rest-is i l = take-all (length l - i) (drop i l) (omega (arith, length-drop i l))
 
--- the parts that were read, whether all before them is the same (s), and whether all behind them is (t)
-module _ (front : ℕ) (a b : List ℕ) (p q : Part) (s t : Bool) (e : p ≡ numberOf a) (f : q ≡ numberOf b) where
+-- two chunks with a part of each: whether all before the parts is the same (s), and whether all behind them is (t)
+module _ (a : List ℕ) (p : Part) (b : List ℕ) (q : Part) (s t : Bool) where
+  pub around-same : (s ≡ true → take (p .at) a ≡ take (q .at) b) → (t ≡ true → rest (p .at + p .len) a ≡ rest (q .at + q .len) b)
+      → (s && t) ≡ true → SameAround a p b q
+  around-same g h x =
+      let y = both-of s t x in
+      record { before = g (y .0); behind = sym (rest-is _ a) ∙ h (y .1) ∙ rest-is _ b }
+
+  pub same-around : (take (p .at) a ≡ take (q .at) b → s ≡ true) → (rest (p .at + p .len) a ≡ rest (q .at + q .len) b → t ≡ true)
+      → SameAround a p b q → (s && t) ≡ true
+  same-around g h x =
+      let i : s ≡ true = g (x .before) in
+      let j : t ≡ true = h (rest-is _ a ∙ x .behind ∙ sym (rest-is _ b)) in
+      rw (i, j)
+
+-- the parts that were read, and whether all around them is the same (s)
+module _ (front : ℕ) (a b : List ℕ) (p q : Part) (s : Bool) (e : p ≡ numberOf a) (f : q ≡ numberOf b) where
   at-a : p .at ≡ numberOf a .at
   at-a = ap (λ (x : Part). x .at) e
 
@@ -67,39 +82,42 @@ module _ (front : ℕ) (a b : List ℕ) (p q : Part) (s t : Bool) (e : p ≡ num
   len-b = ap (λ (x : Part). x .len) f
 
   abbrev tested : Bool
-  tested = ((((eqb (p .len) 4 && eqb (q .len) 4) && eqb (p .at) (q .at)) && leb (p .at + p .len) front) && s) && t
+  tested = (((eqb (p .len) 4 && eqb (q .len) 4) && eqb (p .at) (q .at)) && leb (p .at + p .len) front) && s
 
-  pub tested-same : (s ≡ true → take (p .at) a ≡ take (q .at) b) → (t ≡ true → rest (p .at + p .len) a ≡ rest (q .at + q .len) b) → tested ≡ true → SameBut front a b
-  tested-same g h x =
-      let h1 = both-of _ t x in
-      let h2 = both-of _ s (h1 .0) in
-      let h3 = both-of _ (leb (p .at + p .len) front) (h2 .0) in
-      let h4 = both-of _ (eqb (p .at) (q .at)) (h3 .0) in
-      let h5 = both-of (eqb (p .len) 4) (eqb (q .len) 4) (h4 .0) in
-      let m : p .len ≡ 4 = eqb-true _ _ (h5 .0) in
-      let n : q .len ≡ 4 = eqb-true _ _ (h5 .1) in
-      let k : p .at + p .len ≤ front = leb-true _ _ (h3 .1) in
+  pub tested-same : (s ≡ true → SameAround a p b q) → tested ≡ true → SameBut front a b
+  tested-same g x =
+      let h1 = both-of _ s x in
+      let h2 = both-of _ (leb (p .at + p .len) front) (h1 .0) in
+      let h3 = both-of _ (eqb (p .at) (q .at)) (h2 .0) in
+      let h4 = both-of (eqb (p .len) 4) (eqb (q .len) 4) (h3 .0) in
+      let m : p .len ≡ 4 = eqb-true _ _ (h4 .0) in
+      let n : q .len ≡ 4 = eqb-true _ _ (h4 .1) in
+      let k : p .at + p .len ≤ front = leb-true _ _ (h2 .1) in
       let u : numberOf a .at + 4 ≡ p .at + p .len = omega (arith, at-a, m) in
       let v : q .at + q .len ≡ numberOf b .at + 4 = omega (arith, at-b, n) in
       record {
         one = sym len-a ∙ m;
         other = sym len-b ∙ n;
-        there = sym at-a ∙ eqb-true _ _ (h4 .1) ∙ at-b;
+        there = sym at-a ∙ eqb-true _ _ (h3 .1) ∙ at-b;
         inside = omega (arith, u, k);
-        before = ap (λ (i : ℕ). take i a) (sym at-a) ∙ g (h2 .1) ∙ ap (λ (i : ℕ). take i b) at-b;
-        behind = ap (λ (i : ℕ). drop i a) u ∙ sym (rest-is _ a) ∙ h (h1 .1) ∙ rest-is _ b ∙ ap (λ (i : ℕ). drop i b) v;
+        before = ap (λ (i : ℕ). take i a) (sym at-a) ∙ g (h1 .1) .before ∙ ap (λ (i : ℕ). take i b) at-b;
+        behind = ap (λ (i : ℕ). drop i a) u ∙ g (h1 .1) .behind ∙ ap (λ (i : ℕ). drop i b) v;
       }
 
-  pub same-tested : (take (p .at) a ≡ take (q .at) b → s ≡ true) → (rest (p .at + p .len) a ≡ rest (q .at + q .len) b → t ≡ true) → SameBut front a b → tested ≡ true
-  same-tested g h x =
+  pub same-tested : (SameAround a p b q → s ≡ true) → SameBut front a b → tested ≡ true
+  same-tested g x =
       let m : p .len ≡ 4 = len-a ∙ x .one in
       let n : q .len ≡ 4 = len-b ∙ x .other in
       let u : p .at + p .len ≡ numberOf a .at + 4 = omega (arith, at-a, m) in
       let v : numberOf b .at + 4 ≡ q .at + q .len = omega (arith, at-b, n) in
+      let around : SameAround a p b q =
+      record {
+        before = ap (λ (i : ℕ). take i a) at-a ∙ x .before ∙ ap (λ (i : ℕ). take i b) (sym at-b);
+        behind = ap (λ (i : ℕ). drop i a) u ∙ x .behind ∙ ap (λ (i : ℕ). drop i b) v;
+      } in
       let i1 : eqb (p .len) 4 ≡ true = eq-eqb _ _ m in
       let i2 : eqb (q .len) 4 ≡ true = eq-eqb _ _ n in
       let i3 : eqb (p .at) (q .at) ≡ true = eq-eqb _ _ (at-a ∙ x .there ∙ sym at-b) in
       let i4 : leb (p .at + p .len) front ≡ true = le-leb (p .at + p .len) front (omega (arith, u, x .inside)) in
-      let i5 : s ≡ true = g (ap (λ (i : ℕ). take i a) at-a ∙ x .before ∙ ap (λ (i : ℕ). take i b) (sym at-b)) in
-      let i6 : t ≡ true = h (rest-is _ a ∙ ap (λ (i : ℕ). drop i a) u ∙ x .behind ∙ ap (λ (i : ℕ). drop i b) v ∙ sym (rest-is _ b)) in
-      rw (i1, i2, i3, i4, i5, i6)
+      let i5 : s ≡ true = g around in
+      rw (i1, i2, i3, i4, i5)

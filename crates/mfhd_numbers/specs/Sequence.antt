@@ -35,3 +35,10 @@ pub record SameBut (front : ℕ) (a b : List ℕ) : Type 0 where
   pub inside : numberOf a .at + 4 ≤ front
   pub before : take (numberOf a .at) a ≡ take (numberOf b .at) b
   pub behind : drop (numberOf a .at + 4) a ≡ drop (numberOf b .at + 4) b
+
+-- ==== What only mirrors the code
+
+-- all before two parts and all behind them is the same
+pub record SameAround (a : List ℕ) (p : Part) (b : List ℕ) (q : Part) : Type 0 where
+  pub before : take (p .at) a ≡ take (q .at) b
+  pub behind : drop (p .at + p .len) a ≡ drop (q .at + q .len) b

@@ -4,7 +4,7 @@ ghost use mathlib.Core.Path.{_≡_};
 ghost use mathlib.Core.Bool.{true};
 ghost use Prim.Native.Nat.{_<_, _^_};
 ghost use Rattle.cmaf_read_shape.specs.Parts.{Inside};
-ghost use Rattle.mfhd_numbers.specs.Sequence.{mfhdOf, numberOf, valueOf, lessBy, SameBut};
+ghost use Rattle.mfhd_numbers.specs.Sequence.{mfhdOf, numberOf, valueOf, lessBy, SameBut, SameAround};
 use byte_parts::Part;
 use cmaf_read_shape::inner;
 use cmaf_read_shape::top;
@@ -52,6 +52,17 @@ fn value(c: &[u8], number: Part) -> u64
     numbers::u32_at(c, number.at)
 }
 
+// Whether two chunks are the same before two parts of them, and behind them.
+fn same_around(a: &[u8], p: Part, b: &[u8], q: Part) -> bool
+    requires { ⌜ Inside (now a) p × Inside (now b) q ⌝ }
+    ensures { λ r. ⌜ (r ≡ true → SameAround (now (a .entry)) p (now (b .entry)) q)
+        × (SameAround (now (a .entry)) p (now (b .entry)) q → r ≡ true) ⌝ }
+{
+    let to = p.at + p.len;
+    let second_to = q.at + q.len;
+    check::same(&a[..p.at], &b[..q.at]) & check::same(&a[to..], &b[second_to..])
+}
+
 // Two chunks with fronts of that length. What stands before the number and what stands behind it is compared, which is to compare both with 0 in its place.
 pub fn compare(front: u64, a: &[u8], b: &[u8]) -> Compared
     ensures { λ r. ⌜ (r .same ≡ true → SameBut front (now (a .entry)) (now (b .entry)))
@@ -60,15 +71,10 @@ pub fn compare(front: u64, a: &[u8], b: &[u8]) -> Compared
 {
     let p = number_of(a);
     let q = number_of(b);
-    let from = p.at;
     let to = p.at + p.len;
-    let second_from = q.at;
-    let second_to = q.at + q.len;
-    let stand = (p.len == 4) & (q.len == 4) & (from == second_from) & (to as u64 <= front);
+    let stand = (p.len == 4) & (q.len == 4) & (p.at == q.at) & (to as u64 <= front);
     Compared {
-        same: stand
-            & check::same(&a[..from], &b[..second_from])
-            & check::same(&a[to..], &b[second_to..]),
+        same: stand & same_around(a, p, b, q),
         less: (value(a, p) + TWO_32 - value(b, q)) % TWO_32,
     }
 }

@@ -1,25 +1,22 @@
 -- The loop of `fill`: what was read, with what is left to read, is the whole. Assumes nothing.
 use Prim.Native.Nat.{ℕ, suc, _+_, _-_, _≤_, _<_}
 use native.Mathlib.Nat.{add-zero, sub-zero}
-use native.Mathlib.Numerals.{add-one}
 use native.Mathlib.Omega.{arith}
 use mathlib.Core.Path.{_≡_, refl, sym, _∙_, ap}
 use mathlib.Core.List.{List}
-use lib.ListN.{length, getD, drop, set, length-set}
+use lib.ListN.{length, drop, set, length-set}
 use lib.Seq.{slice, sets, slice-cons}
-use Rattle.laws.proofs.SliceLaws.{slice-none, drop-slice}
+use Rattle.laws.proofs.SliceLaws.{slice-none}
 use Rattle.wire.specs.declared.form.Row.{Row}
-use Rattle.wire.specs.declared.varint.Got.the-variants.{Value, Cut}
 use Rattle.wire.specs.declared.zigzag.Coding.{Coding}
-use Rattle.wire.specs.declared.zigzag.Reached.the-variants.{To}
-use Rattle.wire.specs.declared.zigzag.Reached.the-variants.{Outside as Beyond}
-use Rattle.wire.specs.Varint.{readF}
-use Rattle.wire.specs.Zigzag.{reached}
 use Rattle.runs.specs.declared.Outcome.{Outcome}
 use Rattle.runs.specs.declared.Outcome.the-variants.{Done, Misfit, Outside}
-use Rattle.runs.specs.Run.{Filled, FilledAs, stop, more, filled, filledAt}
-use Rattle.runs.proofs.OldLaws.{first-drop, rest-drop}
-use Rattle.runs.proofs.RunLaws.{filled-outside, filled-inside, filled-none, filled-cut, filled-beyond, filled-to}
+use Rattle.runs.specs.declared.Next.{Next}
+use Rattle.runs.specs.declared.Next.the-variants.{Value, Cut}
+use Rattle.runs.specs.declared.Next.the-variants.{Outside as Beyond}
+use Rattle.runs.specs.Run.{Filled, FilledAs, stop, more, filled, filledAt, nextAt, outcomeOf}
+use Rattle.runs.proofs.RunLaws.{filled-outside, filled-inside, filled-none}
+use Rattle.runs.proofs.NextLaws.{onNext, by-next}
 
 -- i values are read and stored, and the next stands at the place p
 pub record Filling (F : List Row) (coding : Coding) (base bound : ℕ) (s : List ℕ) (at end : ℕ) (old out₀ : List ℕ) (to n : ℕ) (out : List ℕ) (p i : ℕ)
@@ -73,36 +70,32 @@ module _ (F : List Row) (coding : Coding) (base bound : ℕ) (s : List ℕ) (at 
         stopped Done (rw (e, filled-none, slice-none p end s le))
 
     module _ (lt : i < n) where
-      left : n - i ≡ suc (n - (i + 1))
-      left = omega arith
+      left : filled F coding base bound (n - i) (drop i old) (slice p end s)
+          ≡ onNext (nextAt F coding base bound old s p end i)
+          (λ v q. more v (filled F coding base bound (n - (i + 1)) (drop (i + 1) old) (slice q end s)))
+      left =
+          let e : n - i ≡ suc (n - (i + 1)) = omega arith in
+          rw e (by-next F coding base bound old s p end i (n - (i + 1)) (h .bytes))
 
-      -- there is no varint
-      pub cut : readF F (slice p end s) ≡ Cut → FilledAs (filledAt F coding base bound n old s at end) out₀ to Misfit out
-      cut e = stopped Misfit (rw left (filled-cut F coding base bound (n - (i + 1)) (drop i old) (slice p end s) e))
+      -- no value is next
+      pub halt : (g : Next) → g ≡ nextAt F coding base bound old s p end i → ((v q : ℕ) → g ≡ Value v q → ⊥)
+          → FilledAs (filledAt F coding base bound n old s at end) out₀ to (outcomeOf g) out
+      halt (Value v q) e none = absurd (none v q refl)
+      halt Cut e none = stopped Misfit (rw (← e) at left)
+      halt Beyond e none = stopped Outside (rw (← e) at left)
 
-      module _ (z k : ℕ) (e : readF F (slice p end s) ≡ Value z k) where
-        -- the value is out of range
-        pub beyond : reached coding (getD old i base) bound z ≡ Beyond
-            → FilledAs (filledAt F coding base bound n old s at end) out₀ to Outside out
-        beyond t =
-            stopped Outside
-            (rw left (filled-beyond F coding base bound (n - (i + 1)) (drop i old) (slice p end s) z k e (rw (first-drop old i base) t)))
-
-        -- a value more
-        pub next : (v : ℕ) → reached coding (getD old i base) bound z ≡ To v
-            → Filling F coding base bound s at end old out₀ to n (set out (to + i) v) (p + k) (i + 1)
-        next v t =
-            let others : Filled = filled F coding base bound (n - (i + 1)) (drop (i + 1) old) (slice (p + k) end s) in
-            let one : filled F coding base bound (n - i) (drop i old) (slice p end s) ≡ more v others =
-            rw left
-            (filled-to F coding base bound (n - (i + 1)) (drop i old) (slice p end s) z k v e (rw (first-drop old i base) t)
-            ∙ rw (rest-drop old i, drop-slice p end k s, add-one)) in
-            let q : to + (i + 1) ≡ suc (to + i) = omega arith in
-            record {
-              count = omega arith;
-              bytes = h .bytes;
-              room = h .room;
-              same = length-set out (to + i) v ∙ h .same;
-              answer = sym (ap (λ (f : Filled). f .answer) one) ∙ h .answer;
-              values = rw q (sym (ap (λ (f : Filled). sets out (to + i) (f .values)) one) ∙ h .values);
-            }
+      -- a value more
+      pub next : {g : Next} (v q : ℕ) → g ≡ nextAt F coding base bound old s p end i → g ≡ Value v q
+          → Filling F coding base bound s at end old out₀ to n (set out (to + i) v) q (i + 1)
+      next v q e f =
+          let others : Filled = filled F coding base bound (n - (i + 1)) (drop (i + 1) old) (slice q end s) in
+          let one : filled F coding base bound (n - i) (drop i old) (slice p end s) ≡ more v others = rw (← e, f) at left in
+          let r : to + (i + 1) ≡ suc (to + i) = omega arith in
+          record {
+            count = omega arith;
+            bytes = h .bytes;
+            room = h .room;
+            same = length-set out (to + i) v ∙ h .same;
+            answer = sym (ap (λ (f : Filled). f .answer) one) ∙ h .answer;
+            values = rw r (sym (ap (λ (f : Filled). sets out (to + i) (f .values)) one) ∙ h .values);
+          }

@@ -43,17 +43,8 @@ module _ (F : List Row) (coding : Coding) (base bound : ℕ) where
   unfolding filled
   filled-none old s = refl
 
-  -- a value more: there is no varint, it is out of range, or it is read before the rest
+  -- a value more, read before the rest
   module _ (n : ℕ) (old s : List ℕ) where
-    pub filled-cut : readF F s ≡ Cut → filled F coding base bound (suc n) old s ≡ stop Misfit
-    unfolding filled
-    filled-cut e = rw e
-
-    pub filled-beyond : (z k : ℕ) → readF F s ≡ Value z k → reached coding (first base old) bound z ≡ Beyond
-        → filled F coding base bound (suc n) old s ≡ stop Outside
-    unfolding filled
-    filled-beyond z k e t = rw (e, t)
-
     pub filled-to : (z k v : ℕ) → readF F s ≡ Value z k → reached coding (first base old) bound z ≡ To v
         → filled F coding base bound (suc n) old s ≡ more v (filled F coding base bound n (rest old) (drop k s))
     unfolding filled

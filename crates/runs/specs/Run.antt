@@ -5,17 +5,20 @@ use mathlib.Core.Bool.{cond}
 use mathlib.Core.Path.{_≡_}
 use mathlib.Core.List.{List, [], _∷_, _++_}
 use lib.Dec.{leb}
-use lib.ListN.{length, drop}
+use lib.ListN.{length, getD, drop}
 use lib.Seq.{sets, slice}
 use Rattle.wire.specs.declared.form.Row.{Row}
 use Rattle.wire.specs.declared.zigzag.Coding.{Coding}
 use Rattle.wire.specs.declared.zigzag.Coded.{Coded}
 use Rattle.wire.specs.declared.zigzag.Coded.the-variants.{Number}
 use Rattle.wire.specs.declared.zigzag.Coded.the-variants.{TooWide as Wide}
-use Rattle.wire.specs.Varint.{readF, onGot, encode, sizeOf}
+use Rattle.wire.specs.Varint.{readF, readAt, onGot, encode, sizeOf}
 use Rattle.wire.specs.Zigzag.{codeOf, reached, onReached}
 use Rattle.runs.specs.declared.Outcome.{Outcome}
 use Rattle.runs.specs.declared.Outcome.the-variants.{Done, Misfit, Outside}
+use Rattle.runs.specs.declared.Next.{Next}
+use Rattle.runs.specs.declared.Next.the-variants.{Value, Cut}
+use Rattle.runs.specs.declared.Next.the-variants.{Outside as Beyond}
 use Rattle.runs.specs.declared.Measured.{Measured}
 use Rattle.runs.specs.declared.Measured.the-variants.{Bytes, TooWide}
 
@@ -76,9 +79,20 @@ module _ (F : List Row) (coding : Coding) (base bound : ℕ) where
       (λ z k. onReached (reached coding (first base old) bound z) (λ v. more v (filled n (rest old) (drop k s))) (stop Outside))
       (stop Misfit)
 
+  -- the value with the number i, whose varint stands at the place p and ends before the place end
+  unfoldable pub nextAt : List ℕ → List ℕ → ℕ → ℕ → ℕ → Next
+  nextAt old s p end i =
+      onGot (readAt F s p end) (λ z next. onReached (reached coding (getD old i base) bound z) (λ v. Value v next) Beyond) Cut
+
   -- n values that fill the bytes from the place at to the place end
   unfoldable pub filledAt : ℕ → List ℕ → List ℕ → ℕ → ℕ → Filled
   filledAt n old s at end = cond (leb end (length s)) (filled n old (slice at end s)) (stop Misfit)
+
+-- what came in the way of the next value, as the answer for the run; where a value is next, nothing did
+abbrev pub outcomeOf : Next → Outcome
+outcomeOf (Value v next) = Done
+outcomeOf Cut = Misfit
+outcomeOf Beyond = Outside
 
 -- a call answered r, and left what it read from the place `to` on
 pub record FilledAs (f : Filled) (before : List ℕ) (to : ℕ) (r : Outcome) (after : List ℕ) : Type 0 where

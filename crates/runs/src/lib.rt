@@ -6,7 +6,7 @@ ghost use Prim.Native.Nat.{_+_, _≤_};
 ghost use lib.ListN.{length, getD};
 ghost use Rattle.laws.specs.Writes.{Wrote};
 ghost use Rattle.wire.specs.Form.{rows};
-ghost use Rattle.runs.specs.Run.{FilledAs, filledAt, runOf, measured};
+ghost use Rattle.runs.specs.Run.{FilledAs, filledAt, nextAt, outcomeOf, runOf, measured};
 use wire::form::Form;
 use wire::varint::Got;
 use wire::zigzag::Coded;
@@ -31,6 +31,49 @@ fn old_at(old: &[u64], i: usize, base: u64) -> u64
     ensures { λ r. ⌜ r ≡ getD (now (old .entry)) i base ⌝ }
 {
     if i < old.len() { old[i] } else { base }
+}
+
+// A value and the place after its varint, or what came in the way.
+enum Next {
+    Value(u64, usize),
+    Cut,
+    Outside,
+}
+
+// The value with the number i, whose varint stands at the place p.
+fn value_at(
+    form: Form,
+    coding: Coding,
+    s: &[u8],
+    p: usize,
+    end: usize,
+    old: &[u64],
+    i: usize,
+    base: u64,
+    bound: u64,
+) -> Next
+    ensures { λ r. ⌜ r ≡ nextAt (rows form) coding base bound (now (old .entry)) (now (s .entry)) p end i ⌝ }
+{
+    let g = wire::varint::read(form, s, p, end);
+    let Got::Value(z, next) = g else {
+        return Next::Cut;
+    };
+    let t = wire::zigzag::reach(coding, old_at(old, i, base), bound, z);
+    let Reached::To(v) = t else {
+        return Next::Outside;
+    };
+    Next::Value(v, next)
+}
+
+// What came in the way of the next value, as the answer for the run.
+fn outcome_of(g: Next) -> Outcome
+    ensures { λ r. ⌜ r ≡ outcomeOf g ⌝ }
+{
+    match g {
+        Next::Value(v, next) => Outcome::Done,
+        Next::Cut => Outcome::Misfit,
+        Next::Outside => Outcome::Outside,
+    }
 }
 
 // Reads n values, a varint each, that have to fill the bytes from at to end, and stores them from the word `to` on.
@@ -58,13 +101,9 @@ pub fn fill(
     let mut p = at;
     let mut i = 0;
     while i < n {
-        let g = wire::varint::read(form, s, p, end);
-        let Got::Value(z, next) = g else {
-            return Outcome::Misfit;
-        };
-        let t = wire::zigzag::reach(coding, old_at(old, i, base), bound, z);
-        let Reached::To(v) = t else {
-            return Outcome::Outside;
+        let g = value_at(form, coding, s, p, end, old, i, base, bound);
+        let Next::Value(v, next) = g else {
+            return outcome_of(g);
         };
         out[to + i] = v;
         p = next;

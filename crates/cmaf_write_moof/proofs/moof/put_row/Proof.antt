@@ -1,109 +1,70 @@
 -- `cmaf_write_moof::moof::put_row` meets its contract: its columns one after another. Assumes nothing.
 use borrow.Author.Needs.{needs}
+use native.Mathlib.Omega.{arith}
 use Rattle.laws.specs.Bytes.{be}
 use Rattle.laws.proofs.PartLaws.{parts-all, parts-room, parts-then, parts-none}
 use Rattle.field_table.specs.Lines.{lines, lineFor}
 use Rattle.field_set.specs.Lawful.{has}
-use Rattle.cmaf_write_moof.proofs.MoofLaws.{rowParts, row-parts, when-as}
+use Rattle.cmaf_write_moof.proofs.MoofLaws.{rowParts, row-parts}
 use Rattle.cmaf_write_moof.proofs.moof.put_row.Statement.{statement}
 use Rattle.cmaf_write_moof.proofs.moof.put_row.Tie as tie
 
-shared-slice-read-put-when : tie.Need-shared-slice-read-put-when
-shared-slice-read-put-when c = search needs
+add-put-value : tie.Need-add-put-value
+add-put-value c = search needs
 
-add-put-when : tie.Need-add-put-when
-add-put-when c = search needs
+add-put-value-2 : tie.Need-add-put-value-2
+add-put-value-2 c = search needs
 
-add-put-when-2 : tie.Need-add-put-when-2
-add-put-when-2 c = search needs
-
-mul-put-when : tie.Need-mul-put-when
-mul-put-when c = search needs
-
-shared-slice-read-put-when-2 : tie.Need-shared-slice-read-put-when-2
-shared-slice-read-put-when-2 c = search needs
-
-put-when-requires : tie.Need-put-when-requires
+put-value-requires : tie.Need-put-value-requires
 unfolding has lines lineFor
-put-when-requires c κs =
-    let b = c .before .before .before .before .before in
+put-value-requires c κs =
+    let b = c .before .before .before in
     let a = b .args in
-    let w = a .w .now in
-    let h = parts-all (a .out .now) (a .at) (rowParts w (a .size) (a .i)) (row-parts w (a .size) (a .i)) (b .pre .1) in
-    parts-room h
+    let h = parts-all (a .out .now) (a .at) (rowParts (a .w .now) (a .size) (a .i)) (row-parts (a .w .now) (a .size) (a .i)) (b .pre .1) in
+    ((omega arith, omega arith), parts-room h)
 
 put-u32-requires : tie.Need-put-u32-requires
 unfolding be has lines lineFor
 put-u32-requires c κs =
     let b₁ = c .before .before .before in
-    let b₂ = b₁ .before .before .before .before .before .before in
-    let a = b₂ .args in
-    let w = a .w .now in
-    let h = parts-all (a .out .now) (a .at) (rowParts w (a .size) (a .i)) (row-parts w (a .size) (a .i)) (b₂ .pre .1) in
-    parts-room (parts-then h (b₁ .put-when .ensures))
-
-add-wide : tie.Need-add-wide
-add-wide c = search needs
-
-add-wide-2 : tie.Need-add-wide-2
-add-wide-2 c = search needs
-
-mul-wide : tie.Need-mul-wide
-mul-wide c = search needs
-
-shared-slice-read-wide : tie.Need-shared-slice-read-wide
-shared-slice-read-wide c = search needs
-
-wide-requires : tie.Need-wide-requires
-wide-requires c κs = search needs
-
-shared-slice-read-put-when-3 : tie.Need-shared-slice-read-put-when-3
-shared-slice-read-put-when-3 c = search needs
-
-put-when-requires-2 : tie.Need-put-when-requires-2
-unfolding has lines lineFor
-put-when-requires-2 c κs =
-    let b₁ = c .before .before .before .before .before .before in
     let b₂ = b₁ .before .before .before .before in
-    let b₃ = b₂ .before .before .before .before .before .before in
-    let a = b₃ .args in
-    let w = a .w .now in
-    let h = parts-all (a .out .now) (a .at) (rowParts w (a .size) (a .i)) (row-parts w (a .size) (a .i)) (b₃ .pre .1) in
-    let k = parts-then (parts-then h (b₂ .put-when .ensures)) (b₁ .put-u32 .ensures) in
-    rw (c .before .before .wide .ensures) (parts-room k)
+    let a = b₂ .args in
+    let h = parts-all (a .out .now) (a .at) (rowParts (a .w .now) (a .size) (a .i)) (row-parts (a .w .now) (a .size) (a .i)) (b₂ .pre .1) in
+    parts-room (parts-then h (b₁ .put-value .ensures))
 
-add-offset-field : tie.Need-add-offset-field
-add-offset-field c = search needs
+add-put-flags : tie.Need-add-put-flags
+add-put-flags c = search needs
 
-add-offset-field-2 : tie.Need-add-offset-field-2
-add-offset-field-2 c = search needs
+add-put-flags-2 : tie.Need-add-put-flags-2
+add-put-flags-2 c = search needs
 
-mul-offset-field : tie.Need-mul-offset-field
-mul-offset-field c = search needs
-
-shared-slice-read-offset-field : tie.Need-shared-slice-read-offset-field
-shared-slice-read-offset-field c = search needs
-
-offset-field-requires : tie.Need-offset-field-requires
-offset-field-requires c κs = search needs
-
-shared-slice-read-put-when-4 : tie.Need-shared-slice-read-put-when-4
-shared-slice-read-put-when-4 c = search needs
-
-put-when-requires-3 : tie.Need-put-when-requires-3
+put-flags-requires : tie.Need-put-flags-requires
 unfolding has lines lineFor
-put-when-requires-3 c κs =
-    let b₁ = c .before .before .before .before .before .before in
-    let b₂ = b₁ .before .before .before in
+put-flags-requires c κs =
+    let b₁ = c .before .before .before in
+    let b₂ = b₁ .before .before .before .before in
+    let b₃ = b₂ .before .before .before .before in
+    let a = b₃ .args in
+    let h = parts-all (a .out .now) (a .at) (rowParts (a .w .now) (a .size) (a .i)) (row-parts (a .w .now) (a .size) (a .i)) (b₃ .pre .1) in
+    ((omega arith, omega arith), parts-room (parts-then (parts-then h (b₂ .put-value .ensures)) (b₁ .put-u32 .ensures)))
+
+add-put-offset : tie.Need-add-put-offset
+add-put-offset c = search needs
+
+add-put-offset-2 : tie.Need-add-put-offset-2
+add-put-offset-2 c = search needs
+
+put-offset-requires : tie.Need-put-offset-requires
+unfolding has lines lineFor
+put-offset-requires c κs =
+    let b₁ = c .before .before .before in
+    let b₂ = b₁ .before .before .before .before in
     let b₃ = b₂ .before .before .before .before in
     let b₄ = b₃ .before .before .before .before in
-    let b₅ = b₄ .before .before .before .before .before .before in
-    let a = b₅ .args in
-    let w = a .w .now in
-    let h = parts-all (a .out .now) (a .at) (rowParts w (a .size) (a .i)) (row-parts w (a .size) (a .i)) (b₅ .pre .1) in
-    let k = parts-then (parts-then h (b₄ .put-when .ensures)) (b₃ .put-u32 .ensures) in
-    let m = parts-then k (when-as (has 7 w) (b₂ .wide .ensures) (b₁ .put-when2 .ensures)) in
-    rw (c .before .before .offset-field .ensures) (parts-room m)
+    let a = b₄ .args in
+    let h = parts-all (a .out .now) (a .at) (rowParts (a .w .now) (a .size) (a .i)) (row-parts (a .w .now) (a .size) (a .i)) (b₄ .pre .1) in
+    let k = parts-then (parts-then h (b₃ .put-value .ensures)) (b₂ .put-u32 .ensures) in
+    ((omega arith, omega arith), parts-room (parts-then k (b₁ .put-flags .ensures)))
 
 same-length : tie.Need-same-length
 same-length c = search needs
@@ -111,43 +72,29 @@ same-length c = search needs
 returns : tie.Need-returns
 unfolding has lines lineFor
 returns c =
-    let b₁ = c .before .before .before .before .before in
+    let b₁ = c .before .before in
     let b₂ = b₁ .before .before .before .before in
-    let b₃ = b₂ .before .before .before in
+    let b₃ = b₂ .before .before .before .before in
     let b₄ = b₃ .before .before .before .before in
     let b₅ = b₄ .before .before .before .before in
-    let b₆ = b₅ .before .before .before .before .before .before in
-    let a = b₆ .args in
-    let w = a .w .now in
-    let h = parts-all (a .out .now) (a .at) (rowParts w (a .size) (a .i)) (row-parts w (a .size) (a .i)) (b₆ .pre .1) in
-    let k = parts-then (parts-then h (b₅ .put-when .ensures)) (b₄ .put-u32 .ensures) in
-    let m = parts-then k (when-as (has 7 w) (b₃ .wide .ensures) (b₂ .put-when2 .ensures)) in
-    parts-none (parts-then m (when-as (has 5 w) (b₁ .offset-field .ensures) (c .before .before .put-when3 .ensures)))
+    let a = b₅ .args in
+    let h = parts-all (a .out .now) (a .at) (rowParts (a .w .now) (a .size) (a .i)) (row-parts (a .w .now) (a .size) (a .i)) (b₅ .pre .1) in
+    let k = parts-then (parts-then h (b₄ .put-value .ensures)) (b₃ .put-u32 .ensures) in
+    parts-none (parts-then (parts-then k (b₂ .put-flags .ensures)) (b₁ .put-offset .ensures))
 
 pub put-row-spec : {M : Type 1} → statement M
 put-row-spec =
     tie.close
     (tie.spec
-    shared-slice-read-put-when
-    add-put-when
-    add-put-when-2
-    mul-put-when
-    shared-slice-read-put-when-2
-    put-when-requires
+    add-put-value
+    add-put-value-2
+    put-value-requires
     put-u32-requires
-    add-wide
-    add-wide-2
-    mul-wide
-    shared-slice-read-wide
-    wide-requires
-    shared-slice-read-put-when-3
-    put-when-requires-2
-    add-offset-field
-    add-offset-field-2
-    mul-offset-field
-    shared-slice-read-offset-field
-    offset-field-requires
-    shared-slice-read-put-when-4
-    put-when-requires-3
+    add-put-flags
+    add-put-flags-2
+    put-flags-requires
+    add-put-offset
+    add-put-offset-2
+    put-offset-requires
     same-length
     returns)

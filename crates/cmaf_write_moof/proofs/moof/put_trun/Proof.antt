@@ -1,11 +1,12 @@
 -- `cmaf_write_moof::moof::put_trun` meets its contract: its parts one after another. Assumes nothing.
 use borrow.Author.Needs.{needs}
+use native.Mathlib.Omega.{arith}
 use Rattle.laws.specs.Bytes.{be}
 use Rattle.laws.proofs.PartLaws.{parts-all, parts-room, parts-then, parts-none}
 use Rattle.field_table.specs.Lines.{lines, lineFor}
 use Rattle.field_set.specs.Lawful.{has}
 use Rattle.boxes.specs.Box.{words}
-use Rattle.cmaf_write_moof.proofs.MoofLaws.{trunParts, trun-parts, when-as}
+use Rattle.cmaf_write_moof.proofs.MoofLaws.{trunParts, trun-parts}
 use Rattle.cmaf_write_moof.proofs.moof.put_trun.Statement.{statement}
 use Rattle.cmaf_write_moof.proofs.moof.put_trun.Tie as tie
 
@@ -15,11 +16,11 @@ trun-length-requires c κs = search needs
 trun-flags-requires : tie.Need-trun-flags-requires
 trun-flags-requires c κs = search needs
 
-add-t13 : tie.Need-add-t13
-add-t13 c = search needs
+add-t12 : tie.Need-add-t12
+add-t12 c = search needs
 
-shared-slice-read-put-when : tie.Need-shared-slice-read-put-when
-shared-slice-read-put-when c = search needs
+shared-slice-read-t14 : tie.Need-shared-slice-read-t14
+shared-slice-read-t14 c = search needs
 
 slice-aggregate-put-words : tie.Need-slice-aggregate-put-words
 slice-aggregate-put-words c = search needs
@@ -38,25 +39,13 @@ put-words-requires c κs =
     let h = parts-all (a .out .now) (a .at) (trunParts (a .t) w (a .payload) (a .offset) (size .result) (flags .result)) whole (b₃ .pre .1 .1) in
     parts-room h
 
-add-wide : tie.Need-add-wide
-add-wide c = search needs
+add-put-flags : tie.Need-add-put-flags
+add-put-flags c = search needs
 
-mul-wide : tie.Need-mul-wide
-mul-wide c = search needs
-
-shared-slice-read-wide : tie.Need-shared-slice-read-wide
-shared-slice-read-wide c = search needs
-
-wide-requires : tie.Need-wide-requires
-wide-requires c κs = search needs
-
-shared-slice-read-put-when-2 : tie.Need-shared-slice-read-put-when-2
-shared-slice-read-put-when-2 c = search needs
-
-put-when-requires : tie.Need-put-when-requires
+put-flags-requires : tie.Need-put-flags-requires
 unfolding has lines lineFor
-put-when-requires c κs =
-    let b₁ = c .before .before .before .before .before .before in
+put-flags-requires c κs =
+    let b₁ = c .before .before .before in
     let b₂ = b₁ .before .before .before .before in
     let b₃ = b₂ .before in
     let b₄ = b₃ .before .before .before in
@@ -66,25 +55,23 @@ put-when-requires c κs =
     let flags = b₂ .trun-flags in
     let whole = trun-parts (a .t) w (a .payload) (a .offset) (size .result) (flags .result) (size .ensures .0) (flags .ensures .0) in
     let h = parts-all (a .out .now) (a .at) (trunParts (a .t) w (a .payload) (a .offset) (size .result) (flags .result)) whole (b₄ .pre .1 .1) in
-    rw (c .before .before .wide .ensures) (parts-room (parts-then h (b₁ .put-words .ensures)))
+    ((omega arith, omega arith), parts-room (parts-then h (b₁ .put-words .ensures)))
 
 put-rows-requires : tie.Need-put-rows-requires
 unfolding has lines lineFor
 put-rows-requires c κs =
     let b₁ = c .before .before .before in
-    let b₂ = b₁ .before .before .before in
+    let b₂ = b₁ .before .before .before .before in
     let b₃ = b₂ .before .before .before .before in
-    let b₄ = b₃ .before .before .before .before in
-    let b₅ = b₄ .before in
-    let b₆ = b₅ .before .before .before in
-    let a = b₆ .args in
+    let b₄ = b₃ .before in
+    let b₅ = b₄ .before .before .before in
+    let a = b₅ .args in
     let w = a .w .now in
-    let size = b₅ .trun-length in
-    let flags = b₄ .trun-flags in
+    let size = b₄ .trun-length in
+    let flags = b₃ .trun-flags in
     let whole = trun-parts (a .t) w (a .payload) (a .offset) (size .result) (flags .result) (size .ensures .0) (flags .ensures .0) in
-    let h = parts-all (a .out .now) (a .at) (trunParts (a .t) w (a .payload) (a .offset) (size .result) (flags .result)) whole (b₆ .pre .1 .1) in
-    let k = parts-then (parts-then h (b₃ .put-words .ensures)) (when-as (has 12 w) (b₂ .wide .ensures) (b₁ .put-when .ensures)) in
-    (b₆ .pre .0, (b₆ .pre .1 .0, parts-room k))
+    let h = parts-all (a .out .now) (a .at) (trunParts (a .t) w (a .payload) (a .offset) (size .result) (flags .result)) whole (b₅ .pre .1 .1) in
+    (b₅ .pre .0, (b₅ .pre .1 .0, parts-room (parts-then (parts-then h (b₂ .put-words .ensures)) (b₁ .put-flags .ensures))))
 
 same-length : tie.Need-same-length
 same-length c = search needs
@@ -92,8 +79,8 @@ same-length c = search needs
 returns : tie.Need-returns
 unfolding has lines lineFor
 returns c =
-    let b₁ = c .before .before .before .before .before .before in
-    let b₂ = b₁ .before .before .before in
+    let b₁ = c .before .before in
+    let b₂ = b₁ .before .before .before .before in
     let b₃ = b₂ .before .before .before .before in
     let b₄ = b₃ .before .before .before .before in
     let b₅ = b₄ .before in
@@ -104,8 +91,7 @@ returns c =
     let flags = b₄ .trun-flags in
     let whole = trun-parts (a .t) w (a .payload) (a .offset) (size .result) (flags .result) (size .ensures .0) (flags .ensures .0) in
     let h = parts-all (a .out .now) (a .at) (trunParts (a .t) w (a .payload) (a .offset) (size .result) (flags .result)) whole (b₆ .pre .1 .1) in
-    let k = parts-then (parts-then h (b₃ .put-words .ensures)) (when-as (has 12 w) (b₂ .wide .ensures) (b₁ .put-when .ensures)) in
-    parts-none (parts-then k (c .before .before .put-rows .ensures))
+    parts-none (parts-then (parts-then (parts-then h (b₃ .put-words .ensures)) (b₂ .put-flags .ensures)) (b₁ .put-rows .ensures))
 
 pub put-trun-spec : {M : Type 1} → statement M
 put-trun-spec =
@@ -113,16 +99,12 @@ put-trun-spec =
     (tie.spec
     trun-length-requires
     trun-flags-requires
-    add-t13
-    shared-slice-read-put-when
+    add-t12
+    shared-slice-read-t14
     slice-aggregate-put-words
     put-words-requires
-    add-wide
-    mul-wide
-    shared-slice-read-wide
-    wide-requires
-    shared-slice-read-put-when-2
-    put-when-requires
+    add-put-flags
+    put-flags-requires
     put-rows-requires
     same-length
     returns)
