@@ -95,19 +95,25 @@ sentList coding base bound want k olds zs =
     (sentIvs want k zs)
     (cond (eqb (length zs) k) (let f = stepsF coding base bound olds zs in filledAs (f .answer) (f .values)) (misfit want))
 
+-- a field that is omitted: b says that it stood
+abbrev pub keptField : Bool → Want → ℕ → ℕ → List ℕ → Came
+keptField b want j k olds = cond b (carried want j k olds) (well none)
+
+-- a field that is sent, against its old values
+abbrev pub sentField : Track → Coding → Line → Measure → List ℕ → List ℕ → Came
+sentField t coding l m olds zs =
+    let base = absentValue t (l .absent) in
+    let coded = codingOf coding (l .absent) in
+    cond (eqb (l .room) 1)
+    (sentOne coded (first base olds) (l .bound) (first 0 zs))
+    (sentList coded base (l .bound) (l .want) (wanted (l .want) m) olds zs)
+
 -- the field of a line: `held` says that there is a reference r, whose lengths go by `was`, and the new ones by `m`
 module _ (t : Track) (coding : Coding) (held : Bool) (r : List ℕ) (was : Measure) (l : Line) (m : Measure) where
   unfoldable pub cellOf : Saying → Came
-  cellOf omitted =
-      cond (stood held r l) (carried (l .want) (wanted (l .want) was) (wanted (l .want) m) (oldValues held r was l)) (well none)
+  cellOf omitted = keptField (stood held r l) (l .want) (wanted (l .want) was) (wanted (l .want) m) (oldValues held r was l)
   cellOf deleted = well none
-  cellOf (sent zs) =
-      let base = absentValue t (l .absent) in
-      let coded = codingOf coding (l .absent) in
-      let olds = oldValues held r was l in
-      cond (eqb (l .room) 1)
-      (sentOne coded (first base olds) (l .bound) (first 0 zs))
-      (sentList coded base (l .bound) (l .want) (wanted (l .want) m) olds zs)
+  cellOf (sent zs) = sentField t coding l m (oldValues held r was l) zs
 
 -- ==== What only mirrors the code
 
@@ -120,6 +126,10 @@ pub record TakenAs (f : Came) (place : ℕ) (before : List ℕ) (c : Cell) (afte
 -- the first n values at the place of a line
 abbrev pub valuesAt : List ℕ → Line → ℕ → List ℕ
 valuesAt r l n = slice (l .place + 1) (l .place + 1 + n) r
+
+-- the old values: b says that the field stood
+abbrev pub valuesIf : Bool → List ℕ → Measure → Line → List ℕ
+valuesIf b r was l = cond b (valuesAt r l (wanted (l .want) was)) []
 
 -- ---- what a word of the index says, by the bytes o of the object
 
@@ -134,10 +144,14 @@ listIn F o want s = cond (isIvs want) (spanBytes o s) (numbers (numbersF F (span
 abbrev pub listSent : List Row → List ℕ → Coding → ℕ → Line → Span → ℕ → List ℕ → Came
 listSent F o coding base l s k olds = sentList coding base (l .bound) (l .want) k olds (listIn F o (l .want) s)
 
+-- what is sent of a line: one number, or a list
+abbrev pub sentIn : List Row → List ℕ → Line → Span → List ℕ
+sentIn F o l s = cond (eqb (l .room) 1) (s .number ∷ []) (listIn F o (l .want) s)
+
 unfoldable pub said : List Row → List ℕ → Line → Word → Saying
 said F o l Omitted = omitted
 said F o l Deleted = deleted
-said F o l (Sent s) = sent (cond (eqb (l .room) 1) (s .number ∷ []) (listIn F o (l .want) s))
+said F o l (Sent s) = sent (sentIn F o l s)
 
 -- the bytes of a list are in o, and varints fill them, as many as the span says
 pub record Listed (F : List Row) (o : List ℕ) (want : Want) (s : Span) : Type 0 where
@@ -157,12 +171,16 @@ Spans F o l Omitted = Unit {0}
 Spans F o l Deleted = Unit {0}
 Spans F o l (Sent s) = (l .room ≡ 1 → ⊥) → Listed F o (l .want) s
 
--- what a call of `take` is lent: the line's region lies in both runs of words, and the lengths are within its room
-pub record Takeable (l : Line) (held : Bool) (r x : List ℕ) (was m : Measure) : Type 0 where
+-- the line's region lies in both runs of words, and the lengths are within its room: b says that the field stood
+pub record RegionFits (l : Line) (b : Bool) (r x : List ℕ) (was m : Measure) : Type 0 where
   pub there : l .place + 1 + l .room ≤ length r
   pub here : l .place + 1 + l .room ≤ length x
   pub single : l .room ≡ 1 → l .want ≡ One
   pub old : Small was
   pub new : Small m
   pub room : wanted (l .want) m ≤ l .room
-  pub kept : stood held r l ≡ true → wanted (l .want) was ≤ l .room
+  pub kept : b ≡ true → wanted (l .want) was ≤ l .room
+
+-- what a call of `take` is lent
+abbrev pub Takeable : Line → Bool → List ℕ → List ℕ → Measure → Measure → Type 0
+Takeable l held r x was m = RegionFits l (stood held r l) r x was m

@@ -2,13 +2,16 @@
 // Letters: `o` an object's bytes, `t` the track, `r` the words of the reference's set, `l` a line of the table of fields, `m` the lengths that
 //   fields go by, `x` the words of the new set.
 ghost use mathlib.Core.Path.{_≡_};
-ghost use Prim.Native.Nat.{_+_, _*_, _≤_};
+ghost use mathlib.Core.Bool.{cond};
+ghost use Prim.Native.Nat.{_+_, _*_, _≤_, _<_};
 ghost use mathlib.Core.List.{[]};
-ghost use lib.ListN.{length};
+ghost use lib.ListN.{length, getD};
 ghost use lib.Seq.{slice, sets};
 ghost use Rattle.laws.specs.Bytes.{de};
 ghost use Rattle.wire.specs.Form.{rows};
-ghost use Rattle.locmaf_read_field.specs.Cells.{right, misfitOf, outOfRange, missing, filledAs, carried, sentOne, sentIvs, valuesAt, spanBytes, listSent, said, cellOf, TakenAs, Listable, Spans, Takeable};
+ghost use Rattle.field_table.specs.Lines.{wanted, Small};
+ghost use Rattle.locmaf_read_said.specs.declared.said.Word.the-variants.{Sent};
+ghost use Rattle.locmaf_read_field.specs.Cells.{right, misfitOf, outOfRange, missing, filledAs, carried, sentOne, sentIvs, keptField, sentField, valuesAt, valuesIf, spanBytes, listSent, sentIn, said, cellOf, TakenAs, Listable, Spans, RegionFits, Takeable};
 ghost use Rattle.field_rules.specs.Fields.{packed};
 use field_rules::carried::carries;
 use field_rules::rules::absent_value;
@@ -223,6 +226,82 @@ fn send_list(
     filled(f)
 }
 
+// The old value at a place, or `base` where the field didn't stand.
+fn old_value(r: &[u64], stood: bool, at: usize, base: u64) -> u64
+    requires { ⌜ at < length (now r) ⌝ }
+    ensures { λ v. ⌜ v ≡ cond stood (getD (now (r .entry)) at 0) base ⌝ }
+{
+    if stood { r[at] } else { base }
+}
+
+// How many old values there are.
+fn old_length(stood: bool, want: Want, was: Measure) -> usize
+    requires { ⌜ Small was ⌝ }
+    ensures { λ u. ⌜ u ≡ cond stood (wanted want was) 0 ⌝ }
+{
+    if stood {
+        lines::length_of(want, was)
+    } else {
+        0
+    }
+}
+
+// A field that is omitted, and is carried on where it stood.
+fn keep(stood: bool, r: &[u64], was: Measure, l: Line, m: Measure, x: &mut [u64]) -> Cell
+    requires { ⌜ (Small was) × (Small m) ⌝ }
+    requires { ⌜ (l .place + 1 + wanted (l .want) m ≤ length (now r))
+        × (l .place + 1 + wanted (l .want) m ≤ length (now x)) ⌝ }
+    ensures { λ c. ⌜ TakenAs
+        (keptField stood (l .want) (wanted (l .want) was) (wanted (l .want) m)
+        (valuesAt (now (r .entry)) l (wanted (l .want) was)))
+        (l .place) (now (x .entry)) c (now (x .exit)) ⌝ }
+{
+    if !stood {
+        return well();
+    }
+    let want = l.want;
+    carry(
+        r,
+        l,
+        lines::length_of(want, was),
+        lines::length_of(want, m),
+        x,
+    )
+}
+
+// A field that is sent: one value or a list.
+fn send(
+    form: Form,
+    coding: Coding,
+    o: &[u8],
+    span: Span,
+    t: Track,
+    stood: bool,
+    r: &[u64],
+    was: Measure,
+    l: Line,
+    m: Measure,
+    x: &mut [u64],
+) -> Cell
+    requires { ⌜ RegionFits l stood (now r) (now x) was m ⌝ }
+    requires { ⌜ Spans (rows form) (now o) l (Sent span) ⌝ }
+    ensures { λ c. ⌜ TakenAs
+        (sentField t coding l m (valuesIf stood (now (r .entry)) was l) (sentIn (rows form) (now (o .entry)) l span))
+        (l .place) (now (x .entry)) c (now (x .exit)) ⌝ }
+{
+    let place = l.place;
+    let want = l.want;
+    let absent = l.absent;
+    let base = absent_value(t, absent);
+    let c = coding_of(coding, absent);
+    if l.room == 1 {
+        return send_one(c, span.number, old_value(r, stood, place + 1, base), l, x);
+    }
+    let k = lines::length_of(want, m);
+    let u = old_length(stood, want, was);
+    send_list(form, c, o, span, r, u, base, l, k, x)
+}
+
 // One field: `held` says that there is a reference r, whose lengths go by `was`, and the new ones by `m`.
 pub fn take(
     form: Form,
@@ -243,23 +322,10 @@ pub fn take(
         (l .place) (now (x .entry)) c (now (x .exit)) ⌝ }
 {
     let place = l.place;
-    let want = l.want;
-    let absent = l.absent;
-    let k = lines::length_of(want, m);
     let stood = held & (r[place] != 0);
-    let j = lines::length_of(want, was);
     match word {
         Word::Deleted => well(),
-        Word::Omitted => { if stood { carry(r, l, j, k, x) } else { well() } }
-        Word::Sent(span) => {
-            let base = absent_value(t, absent);
-            let c = coding_of(coding, absent);
-            if l.room == 1 {
-                let old = if stood { r[place + 1] } else { base };
-                return send_one(c, span.number, old, l, x);
-            }
-            let u = if stood { j } else { 0 };
-            send_list(form, c, o, span, r, u, base, l, k, x)
-        }
+        Word::Omitted => keep(stood, r, was, l, m, x),
+        Word::Sent(span) => send(form, coding, o, span, t, stood, r, was, l, m, x),
     }
 }

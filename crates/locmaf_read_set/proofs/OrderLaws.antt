@@ -27,7 +27,7 @@ use Rattle.field_rules.proofs.SetLaws.{words-none}
 use Rattle.wire.proofs.ZigzagLaws.{reached-most}
 use Rattle.field_table.proofs.LineLaws.{zeros-long}
 use Rattle.locmaf_read_set.proofs.ReadableLaws.{was-small}
-use Rattle.locmaf_read_set.proofs.RungLaws.{refused}
+use Rattle.locmaf_read_set.proofs.LastLaws.{refused}
 
 same-count : (m n : ℕ) → To m ≡ To n → m ≡ n
 same-count m n e = cc

@@ -1,5 +1,5 @@
--- The rules of the fields in their order: what is found by taking id 11, the lines before it and those after it is what the rules ask. Assumes
--- nothing.
+-- The rules of the fields in their order: what is found by taking id 11, the lines before it and then those behind it is what the rules ask.
+-- Assumes nothing.
 use Prim.Native.Nat.{ℕ, _+_, _-_, _/_, _≤_, _<_}
 use native.Mathlib.Omega.{arith}
 use mathlib.Core.Path.{_≡_, refl, sym, _∙_, ap}
@@ -12,11 +12,10 @@ use lib.ListN.{length, getD}
 use lib.Seq.{slice, sets}
 use Rattle.constants.specs.Maxima.{samplesMost, subsamplesMost}
 use Rattle.laws.specs.Tests.{_and_, sum}
-use Rattle.laws.specs.Ladder.{Rung, ladder}
+use Rattle.laws.specs.Ladder.{Rung, _else_, ladder}
 use Rattle.laws.proofs.GateLaws.{failed, held}
-use Rattle.laws.proofs.LadderLaws.{broken, passed, top}
+use Rattle.laws.proofs.LadderLaws.{broken, passed, agree, all-hold}
 use Rattle.laws.proofs.TestLaws.{left, right, both, and-left, and-right, and-end, and-assoc}
-use Rattle.wire.specs.declared.form.Row.{Row}
 use Rattle.wire.specs.declared.zigzag.Reached.the-variants.{To}
 use Rattle.track.specs.declared.Track.{Track}
 use Rattle.field_set.specs.declared.lawful.Tally.{Tally}
@@ -28,16 +27,15 @@ use Rattle.field_table.specs.Lines.{every, lines, spare, lineFor, setLen, wante
 use Rattle.field_set.specs.Lawful.{saizOk, setRules, sameIvSize, valuesOf, lawful, TallyOf}
 use Rattle.field_set.proofs.TallyLaws.{saiz-is}
 use Rattle.locmaf_read_field.specs.declared.cells.Cell.{Cell}
-use Rattle.locmaf_read_said.specs.Said.{Says, saysIn}
+use Rattle.locmaf_read_said.specs.Said.{Says}
 use Rattle.field_rules.specs.Fields.{numbers, Held, wordsOf}
 use Rattle.locmaf_read_field.specs.Cells.{Came}
 use Rattle.field_rules.proofs.RoomLaws.{wanted-room}
-use Rattle.locmaf_read_said.specs.declared.against.Against.{Against}
 use Rattle.field_rules.specs.Words.{measure, storeAll, setWords, noFields}
-use Rattle.locmaf_read_set.specs.Read.{brandsFit, marksIn, marks, newWords, countReached, countOf, cameOf, subsamples, came, fieldOf, fieldRungs, Readable, Measured, TakenAll, ReadAs}
+use Rattle.locmaf_read_set.specs.Read.{brandsFit, marks, newWords, countReached, countOf, cameOf, subsamples, came, fieldOf, fieldRungs, lastLines, lastWords, lastRungs, Measured, TakenAll, ReadAs, LastReadAs}
 use Rattle.field_rules.proofs.SetLaws.{eleven-for, Fits, AllFit, words-length, stored-words, eleven-values, parted}
-use Rattle.locmaf_read_set.proofs.CameLaws.{came-early, late-first, second-eleven, came-length}
-use Rattle.locmaf_read_set.proofs.StandingLaws.{marks-said}
+use Rattle.locmaf_read_set.proofs.CameLaws.{came-early, second-eleven, came-length}
+use Rattle.locmaf_read_set.proofs.LastLaws.{refused, late-all}
 
 -- ---- a table in three runs
 
@@ -47,11 +45,11 @@ every-append p [] ys = refl
 every-append p (l ∷ xs) ys = ap (λ (b : Bool). p l and b) (every-append p xs ys) ∙ sym (and-assoc (p l) (every p xs) (every p ys))
 
 -- the lines before id 11, its own, and those after it
-every-parted : (p : Line → Bool) → every p lines ≡ (every p (slice 0 subsamplesLine lines) and (every p (slice subsamplesLine (subsamplesLine + 1) lines) and every p (slice (subsamplesLine + 1) lineCount lines)))
+every-parted : (p : Line → Bool) → every p lines ≡ (every p (slice 0 subsamplesLine lines) and (every p (slice subsamplesLine (subsamplesLine + 1) lines) and every p (lastLines)))
 every-parted p =
     ap (every p) parted
-    ∙ every-append p (slice 0 subsamplesLine lines) (slice subsamplesLine (subsamplesLine + 1) lines ++ slice (subsamplesLine + 1) lineCount lines)
-    ∙ ap (λ (b : Bool). every p (slice 0 subsamplesLine lines) and b) (every-append p (slice subsamplesLine (subsamplesLine + 1) lines) (slice (subsamplesLine + 1) lineCount lines))
+    ∙ every-append p (slice 0 subsamplesLine lines) (slice subsamplesLine (subsamplesLine + 1) lines ++ lastLines)
+    ∙ ap (λ (b : Bool). every p (slice 0 subsamplesLine lines) and b) (every-append p (slice subsamplesLine (subsamplesLine + 1) lines) (lastLines))
 
 -- the one line of id 11
 every-eleven : (p : Line → Bool) → every p (slice subsamplesLine (subsamplesLine + 1) lines) ≡ p (getD lines subsamplesLine spare)
@@ -104,16 +102,16 @@ first-tests true true z = refl
 first-tests true false z = refl
 first-tests false y z = refl
 
-second-tests : (x y u z : Bool) → ((x and (y and u)) and z) ≡ (x && (y && (u && z)))
+second-tests : (x y u z : Bool) → ((x and (y and u)) and z) ≡ ((x && y) and (u and z))
 unfolding _and_
 second-tests true true true z = refl
 second-tests true true false z = refl
 second-tests true false u z = refl
 second-tests false y u z = refl
 
-last-tests : (x u s z : Bool) → (x ≡ true → u ≡ true → s ≡ z) → ((x and (true and u)) and z) ≡ (x && (u && s))
+last-tests : (x u s z : Bool) → (x ≡ true → s ≡ z) → ((x and (true and u)) and z) ≡ (x and (u and s))
 unfolding _and_
-last-tests true true s z h = sym (h refl refl)
+last-tests true true s z h = sym (h refl)
 last-tests true false s z h = refl
 last-tests false u s z h = refl
 
@@ -129,15 +127,6 @@ measured t n k iv few h = record { small = record { count = few; ivs = omega ari
 -- the words that the fields are stored into
 pub start-long : (n : ℕ) (x : List ℕ) → x ≡ setWords 0 n noFields → length x ≡ setLen
 start-long n x e = ap length e ∙ words-length 0 n noFields (λ i lt. tt)
-
--- the rules of the set, by the marks that code makes
-pub rules-said : (F : List Row) (o index gone : List ℕ) (t : Track) (a : Against) (r : List ℕ) → Readable F o index gone t a r → (n : ℕ) (m : List ℕ)
-    → m ≡ marksIn index gone (a .held) r → (b : Bool) → b ≡ setRules t n m → b ≡ setRules t n (marks t (a .held) r (saysIn F o index))
-rules-said F o index gone t a r h n m em b eb = eb ∙ ap (setRules t n) (em ∙ marks-said F o index gone t a r h)
-
--- a refusal
-pub refused : (rungs : List Rung) (words : List ℕ) (k : ℕ) (x : List ℕ) → (k ≡ 0 → ⊥) → k ≡ ladder rungs (λ j. j) 0 → length x ≡ setLen → ReadAs rungs words k x
-refused rungs words k x n e l = record { answered = e; stored = λ z. absurd (n z); long = l }
 
 -- ---- what the fields are by the count
 module _ (t : Track) (delta : Bool) (r : List ℕ) (says : Says) (n : ℕ) (en : countReached t delta r says ≡ To n) where
@@ -159,13 +148,6 @@ module _ (t : Track) (delta : Bool) (r : List ℕ) (says : Says) (n : ℕ) (en :
   unfolding subsamples
   subsamples-are = rw (count-is, eleven-for)
 
-  late-all : (m : Measure) → every (λ l. cameOf t delta r says m l .cell .first) (slice (subsamplesLine + 1) lineCount lines) ≡ true
-  unfolding every lines
-  late-all m =
-      let at : (i : ℕ) → subsamplesLine + 1 ≤ i → i < lineCount → cameOf t delta r says m (getD lines i spare) .cell .first ≡ true = late-first t delta r says m in
-      both _ _ (at (subsamplesLine + 1) (omega arith) (omega arith))
-      (both _ _ (at 11 (omega arith) (omega arith)) (both _ _ (at 12 (omega arith) (omega arith)) (both _ _ (at 13 (omega arith) (omega arith)) refl)))
-
   -- a test of the lines before id 11, of its own and of those after it
   same-front : (p : Came → Bool) (ls : List Line) → every early ls ≡ true
       → every (λ l. p (came t delta r says l)) ls ≡ every (λ l. p (cameOf t delta r says (measure t n 0) l)) ls
@@ -178,11 +160,11 @@ module _ (t : Track) (delta : Bool) (r : List ℕ) (says : Says) (n : ℕ) (en :
   parts-are : (p : Came → Bool) (x y z : Bool)
       → x ≡ every (λ l. p (cameOf t delta r says (measure t n 0) l)) (slice 0 subsamplesLine lines)
       → y ≡ every (λ l. p (cameOf t delta r says (measure t n 0) l)) (slice subsamplesLine (subsamplesLine + 1) lines)
-      → z ≡ every (λ l. p (cameOf t delta r says (measure t n (sum (subsamples t delta r says))) l)) (slice (subsamplesLine + 1) lineCount lines)
+      → z ≡ every (λ l. p (cameOf t delta r says (measure t n (sum (subsamples t delta r says))) l)) (lastLines)
       → every (λ l. p (came t delta r says l)) lines ≡ (x and (y and z))
   parts-are p x y z ex ey ez =
       every-parted (λ l. p (came t delta r says l))
-      ∙ rw (ex, ey, ez, same-front p (slice 0 subsamplesLine lines) early-front, same-front p (slice subsamplesLine (subsamplesLine + 1) lines) early-eleven, same-rest p (slice (subsamplesLine + 1) lineCount lines))
+      ∙ rw (ex, ey, ez, same-front p (slice 0 subsamplesLine lines) early-front, same-front p (slice subsamplesLine (subsamplesLine + 1) lines) early-eleven, same-rest p (lastLines))
 
   module _ (words : length r ≡ setLen) (law : delta ≡ true → lawful t r ≡ true) (iv : t .«iv_size» ≤ 16) (few : n ≤ samplesMost) where
     fits-at : (k : ℕ) → k ≤ subsamplesMost → AllFit (λ l. cameOf t delta r says (measure t n k) l .field)
@@ -261,7 +243,7 @@ module _ (t : Track) (delta : Bool) (r : List ℕ) (says : Says) (n : ℕ) (en :
         first-test : (every (λ l. came t delta r says l .cell .first) lines and brandsFit (says 23)) ≡ (e .first && (b .first && w))
         first-test =
             ap (λ (z : Bool). z and brandsFit (says 23))
-            (parts-are (λ z. z .cell .first) (e .first) (b .first) true (he .first) (hb .first) (sym (late-all _)))
+            (parts-are (λ z. z .cell .first) (e .first) (b .first) true (he .first) (hb .first) (sym (late-all t delta r says _)))
             ∙ ap (λ (z : Bool). (e .first and (b .first and true)) and z) (sym ew)
             ∙ first-tests (e .first) (b .first) w
 
@@ -302,102 +284,82 @@ module _ (t : Track) (delta : Bool) (r : List ℕ) (says : Says) (n : ℕ) (en :
             pub sum-measured : Measured (measure t n (c .sum))
             sum-measured = measured t n (c .sum) iv few sum-small
 
-            module _ (d : Cell) (x₃ : List ℕ) (hd : TakenAll (cameOf t delta r says (measure t n (c .sum))) (slice (subsamplesLine + 1) lineCount lines) x₂ d x₃)
-                (rules : Bool) (er : rules ≡ setRules t n (marks t delta r says)) where
-              rest-long : length x₃ ≡ setLen
-              rest-long = hd .long ∙ front-long
+            sum-holds : (came t delta r says (lineFor 11 lines) .cell .within
+                and (saizOk (t .«iv_size») (subsamples t delta r says) and leb (sum (subsamples t delta r says)) subsamplesMost)) ≡ true
+            sum-holds = held (sym (sum-test b-first)) q₂
 
-              rest-taken : TakenAll (cameOf t delta r says (measure t n (sum (subsamples t delta r says)))) (slice (subsamplesLine + 1) lineCount lines) x₂ d x₃
-              rest-taken = rw sum-is at hd
+            -- ---- the lines behind it
+            abbrev fields : Line → Held
+            fields = λ l. cameOf t delta r says (measure t n (sum (subsamples t delta r says))) l .field
 
-              -- the third rule
-              second-test : (every (λ l. came t delta r says l .cell .second) lines and setRules t (countOf t delta r says) (marks t delta r says))
-                  ≡ (e .second && (b .second && (d .second && rules)))
-              second-test =
-                  ap (λ (z : Bool). z and setRules t (countOf t delta r says) (marks t delta r says))
-                  (parts-are (λ z. z .cell .second) (e .second) (b .second) (d .second) (he .second) (hb .second) (rest-taken .second))
-                  ∙ ap (λ (m : ℕ). (e .second and (b .second and d .second)) and setRules t m (marks t delta r says)) count-is
-                  ∙ ap (λ (z : Bool). (e .second and (b .second and d .second)) and z) (sym er)
-                  ∙ second-tests (e .second) (b .second) (d .second) rules
+            -- what is asked of them, and what is stored
+            abbrev rungs : List Rung
+            rungs = lastRungs t delta r says (measure t n (sum (subsamples t delta r says))) (e .second && b .second) (e .within) x₂
 
-              sum-holds : (came t delta r says (lineFor 11 lines) .cell .within
-                  and (saizOk (t .«iv_size») (subsamples t delta r says) and leb (sum (subsamples t delta r says)) subsamplesMost)) ≡ true
-              sum-holds = held (sym (sum-test b-first)) q₂
+            abbrev words₃ : List ℕ
+            words₃ = lastWords t delta r says (measure t n (sum (subsamples t delta r says))) x₂
 
-              pub refuse-rules : not (e .second && (b .second && (d .second && rules))) ≡ true
-                  → ReadAs (fieldRungs t delta r says) (newWords t delta r says 0) 14 x₃
-              unfolding fieldRungs
-              refuse-rules q =
-                  refused _ _ 14 x₃ (λ z. omega arith)
-                  (passed _ 14 _ (λ k. k) 0 first-holds (passed _ 15 _ (λ k. k) 0 sum-holds (broken _ 14 _ (λ k. k) 0 (failed (sym second-test) q))))
-                  rest-long
+            -- all fields are stored
+            all-stored : e .second ≡ true → e .within ≡ true → words₃ ≡ newWords t delta r says 0
+            all-stored es ew =
+                let f : Line → Held = fieldOf t delta r says in
+                let g : Line → Held = λ l. cameOf t delta r says (measure t n 0) l .field in
+                let k : Line → Held = λ l. cameOf t delta r says (measure t n (sum (subsamples t delta r says))) l .field in
+                let fk : f ≡ k = λ j l. came-is l j .field in
+                let s₁ : x₁ ≡ storeAll f (slice subsamplesLine (subsamplesLine + 1) lines) (setWords 0 n noFields) =
+                hb .stored b-first eleven-second b-within
+                ∙ ap (storeAll g (slice subsamplesLine (subsamplesLine + 1) lines)) ex
+                ∙ sym (store-same f g early (λ l h. ap (λ (z : Came). z .field) (came-any 0 l h)) (slice subsamplesLine (subsamplesLine + 1) lines) early-eleven _) in
+                let s₂ : x₂ ≡ storeAll f (slice 0 subsamplesLine lines) x₁ =
+                he .stored e-first es ew
+                ∙ sym (store-same f g early (λ l h. ap (λ (z : Came). z .field) (came-any 0 l h)) (slice 0 subsamplesLine lines) early-front x₁) in
+                let fit : AllFit f = rw fk (fits-at (sum (subsamples t delta r says)) (omega (arith, sum-is, sum-small))) in
+                ap (λ (z : Line → Held). storeAll z lastLines x₂) (sym fk)
+                ∙ ap (storeAll f lastLines) (s₂ ∙ ap (storeAll f (slice 0 subsamplesLine lines)) s₁)
+                ∙ stored-words f fit n
+                ∙ ap (λ (m : ℕ). setWords 0 m f) (sym count-is)
 
-              module _ (q₃ : not (e .second && (b .second && (d .second && rules))) ≡ false) where
-                e-second : e .second ≡ true
-                e-second = and-left (e .second) (b .second && (d .second && rules)) (held refl q₃)
+            -- the third rule
+            second-test : (every (λ l. came t delta r says l .cell .second) lines and setRules t (countOf t delta r says) (marks t delta r says))
+                ≡ ((e .second && b .second)
+                and (every (λ l. cameOf t delta r says (measure t n (sum (subsamples t delta r says))) l .cell .second) lastLines and setRules t n (marks t delta r says)))
+            second-test =
+                ap (λ (z : Bool). z and setRules t (countOf t delta r says) (marks t delta r says))
+                (parts-are (λ z. z .cell .second) (e .second) (b .second) _ (he .second) (hb .second) refl)
+                ∙ rw count-is (second-tests (e .second) (b .second) _ _)
 
-                d-second : d .second ≡ true
-                d-second =
-                    and-left (d .second) rules
-                    (and-right (b .second) (d .second && rules) (and-right (e .second) (b .second && (d .second && rules)) (held refl q₃)))
+            -- the last rule
+            last-test : e .second ≡ true → (every (λ l. came t delta r says l .cell .within) lines and sameIvSize t (newWords t delta r says 0))
+                ≡ (e .within and (every (λ l. cameOf t delta r says (measure t n (sum (subsamples t delta r says))) l .cell .within) lastLines and sameIvSize t words₃))
+            last-test es =
+                ap (λ (z : Bool). z and sameIvSize t (newWords t delta r says 0))
+                (parts-are (λ z. z .cell .within) (e .within) true _ (he .within) (sym b-within ∙ hb .within) refl)
+                ∙ last-tests (e .within) _ _ _ (λ ew. ap (sameIvSize t) (all-stored es ew))
 
-                d-first : d .first ≡ true
-                d-first = hd .first ∙ late-all (measure t n (c .sum))
+            -- so both say the same
+            rungs-same : ladder rungs (λ k. k) 0
+                ≡ ladder
+                (((every (λ l. came t delta r says l .cell .second) lines and setRules t (countOf t delta r says) (marks t delta r says)) else 14)
+                ∷ ((every (λ l. came t delta r says l .cell .within) lines and sameIvSize t (newWords t delta r says 0)) else 15) ∷ []) (λ k. k) 0
+            unfolding lastRungs
+            rungs-same =
+                rw second-test
+                (agree (λ k. k) ((_ else 14) ∷ []) ((_ else 15) ∷ []) ((_ else 15) ∷ []) 0 0
+                (λ h. ap (λ (z : Bool). ladder ((z else 15) ∷ []) (λ k. k) 0) (sym (last-test (and-left (e .second) (b .second) (left _ _ (h .0)))))))
 
-                -- all fields are stored
-                all-stored : e .within ≡ true → d .within ≡ true → x₃ ≡ newWords t delta r says 0
-                all-stored ew dw =
-                    let f : Line → Held = fieldOf t delta r says in
-                    let g : Line → Held = λ l. cameOf t delta r says (measure t n 0) l .field in
-                    let k : Line → Held = λ l. cameOf t delta r says (measure t n (sum (subsamples t delta r says))) l .field in
-                    let fk : f ≡ k = λ j l. came-is l j .field in
-                    let s₁ : x₁ ≡ storeAll f (slice subsamplesLine (subsamplesLine + 1) lines) (setWords 0 n noFields) =
-                    hb .stored b-first eleven-second b-within
-                    ∙ ap (storeAll g (slice subsamplesLine (subsamplesLine + 1) lines)) ex
-                    ∙ sym (store-same f g early (λ l h. ap (λ (z : Came). z .field) (came-any 0 l h)) (slice subsamplesLine (subsamplesLine + 1) lines) early-eleven _) in
-                    let s₂ : x₂ ≡ storeAll f (slice 0 subsamplesLine lines) x₁ =
-                    he .stored e-first e-second ew
-                    ∙ sym (store-same f g early (λ l h. ap (λ (z : Came). z .field) (came-any 0 l h)) (slice 0 subsamplesLine lines) early-front x₁) in
-                    let s₃ : x₃ ≡ storeAll f (slice (subsamplesLine + 1) lineCount lines) x₂ =
-                    rest-taken .stored d-first d-second dw ∙ ap (λ (z : Line → Held). storeAll z (slice (subsamplesLine + 1) lineCount lines) x₂) (sym fk) in
-                    let fit : AllFit f = rw fk (fits-at (sum (subsamples t delta r says)) (omega (arith, sum-is, sum-small))) in
-                    s₃
-                    ∙ ap (storeAll f (slice (subsamplesLine + 1) lineCount lines)) (s₂ ∙ ap (storeAll f (slice 0 subsamplesLine lines)) s₁)
-                    ∙ stored-words f fit n
-                    ∙ ap (λ (m : ℕ). setWords 0 m f) (sym count-is)
+            rungs-stored : ladder rungs (λ k. k) 0 ≡ 0 → words₃ ≡ newWords t delta r says 0
+            unfolding lastRungs
+            rungs-stored z =
+                let h = all-hold rungs (λ z. omega arith, (λ z. omega arith, tt)) z in
+                all-stored (and-left (e .second) (b .second) (left _ _ (h .0))) (left _ _ (h .1 .0))
 
-                module _ (s : Bool) (es : s ≡ sameIvSize t x₃) where
-                  -- the last rule
-                  last-test : (every (λ l. came t delta r says l .cell .within) lines and sameIvSize t (newWords t delta r says 0))
-                      ≡ (e .within && (d .within && s))
-                  last-test =
-                      ap (λ (z : Bool). z and sameIvSize t (newWords t delta r says 0))
-                      (parts-are (λ z. z .cell .within) (e .within) true (d .within) (he .within) (sym b-within ∙ hb .within) (rest-taken .within))
-                      ∙ last-tests (e .within) (d .within) s (sameIvSize t (newWords t delta r says 0)) (λ p q. es ∙ ap (sameIvSize t) (all-stored p q))
-
-                  second-holds : (every (λ l. came t delta r says l .cell .second) lines and setRules t (countOf t delta r says) (marks t delta r says))
-                      ≡ true
-                  second-holds = held (sym second-test) q₃
-
-                  pub refuse-values : not (e .within && (d .within && s)) ≡ true → ReadAs (fieldRungs t delta r says) (newWords t delta r says 0) 15 x₃
-                  unfolding fieldRungs
-                  refuse-values q =
-                      refused _ _ 15 x₃ (λ z. omega arith)
-                      (passed _ 14 _ (λ k. k) 0 first-holds
-                      (passed _ 15 _ (λ k. k) 0 sum-holds
-                      (passed _ 14 _ (λ k. k) 0 second-holds (broken _ 15 _ (λ k. k) 0 (failed (sym last-test) q)))))
-                      rest-long
-
-                  pub all-read : not (e .within && (d .within && s)) ≡ false → ReadAs (fieldRungs t delta r says) (newWords t delta r says 0) 0 x₃
-                  unfolding fieldRungs
-                  all-read q =
-                      let a : (e .within && (d .within && s)) ≡ true = held refl q in
-                      record {
-                        answered =
-                            passed _ 14 _ (λ k. k) 0 first-holds
-                            (passed _ 15 _ (λ k. k) 0 sum-holds
-                            (passed _ 14 _ (λ k. k) 0 second-holds (passed _ 15 _ (λ k. k) 0 (held (sym last-test) q) (top (λ k. k) 0))));
-                        stored = λ _.
-                            all-stored (and-left (e .within) (d .within && s) a) (and-left (d .within) s (and-right (e .within) (d .within && s) a));
-                        long = rest-long;
-                      }
+            pub all-read : (k : ℕ) (x₃ : List ℕ) → LastReadAs t delta r says (measure t n (c .sum)) (e .second && b .second) (e .within) x₂ k x₃
+                → ReadAs (fieldRungs t delta r says) (newWords t delta r says 0) k x₃
+            unfolding fieldRungs
+            all-read k x₃ h =
+                let w : LastReadAs t delta r says (measure t n (sum (subsamples t delta r says))) (e .second && b .second) (e .within) x₂ k x₃ = rw sum-is at h in
+                record {
+                  answered = passed _ 14 _ (λ k. k) 0 first-holds (passed _ 15 _ (λ k. k) 0 sum-holds (w .answered ∙ rungs-same));
+                  stored = λ z. w .stored z ∙ rungs-stored (sym (w .answered) ∙ z);
+                  long = w .long;
+                }

@@ -1,11 +1,12 @@
 -- The set of moof fields that an object gives, and what is asked of it, step by step in the order of 01.
-use Prim.Native.Nat.{ℕ, _%_, _≤_}
+use Prim.Native.Nat.{ℕ, _+_, _%_, _≤_}
 use mathlib.Core.Path.{_≡_}
 use mathlib.Core.Bool.{Bool, true, false, cond, not, _&&_, _||_}
 use mathlib.Core.List.{List, [], _∷_, map}
 use mathlib.Core.Option.{Option, none, some}
 use lib.Dec.{eqb, leb}
 use lib.ListN.{length, getD}
+use lib.Seq.{slice}
 use Rattle.laws.specs.Tests.{_and_, sum}
 use Rattle.laws.specs.Ladder.{Rung, _else_, ladder}
 use Rattle.constants.specs.Ids.{idCount}
@@ -19,7 +20,7 @@ use Rattle.wire.specs.Zigzag.{reached, onReached}
 use Rattle.track.specs.declared.Track.{Track}
 use Rattle.field_table.specs.declared.lines.Line.{Line}
 use Rattle.field_table.specs.declared.lines.Measure.{Measure}
-use Rattle.field_table.specs.Lines.{lines, lineFor, every, setLen, Small}
+use Rattle.field_table.specs.Lines.{lines, lineFor, every, setLen, Small, lineCount, subsamplesLine}
 use Rattle.field_set.specs.Lawful.{saizOk, setRules, sameIvSize, lawful}
 use Rattle.locmaf_read_said.specs.declared.said.Word.{Word}
 use Rattle.locmaf_read_said.specs.declared.said.Word.the-variants.{Omitted, Deleted, Sent}
@@ -154,3 +155,22 @@ SetReadAs F t delta r o index number after =
 abbrev pub FieldsReadAs : List Row → Track → Bool → List ℕ → List ℕ → List ℕ → ℕ → List ℕ → Type 0
 FieldsReadAs F t delta r o index number after =
     ReadAs (fieldRungs t delta r (saysIn F o index)) (newWords t delta r (saysIn F o index) 0) number after
+
+-- ---- the fields behind id 11, by lengths that go by m, into the words `before`
+
+abbrev pub lastLines : List Line
+lastLines = slice (subsamplesLine + 1) lineCount lines
+
+module _ (t : Track) (delta : Bool) (r : List ℕ) (says : Says) (m : Measure) where
+  abbrev pub lastWords : List ℕ → List ℕ
+  lastWords before = storeAll (λ l. cameOf t delta r says m l .field) lastLines before
+
+  -- the last two rules: `second` and `within` say what the fields before these came to
+  unfoldable pub lastRungs : Bool → Bool → List ℕ → List Rung
+  lastRungs second within before =
+      ((second and every (λ l. cameOf t delta r says m l .cell .second) lastLines and setRules t (m .count) (marks t delta r says)) else 14)
+      ∷ ((within and every (λ l. cameOf t delta r says m l .cell .within) lastLines and sameIvSize t (lastWords before)) else 15)
+      ∷ []
+
+  abbrev pub LastReadAs : Bool → Bool → List ℕ → ℕ → List ℕ → Type 0
+  LastReadAs second within before number after = ReadAs (lastRungs second within before) (lastWords before) number after

@@ -13,7 +13,7 @@ ghost use Rattle.field_set.specs.Lawful.{lawful};
 ghost use Rattle.wire.specs.declared.zigzag.Reached.the-variants.{To};
 ghost use Rattle.locmaf_read_said.specs.Said.{saysIn, scalarIn, Telling};
 ghost use Rattle.field_rules.specs.Words.{noFields, setWords};
-ghost use Rattle.locmaf_read_set.specs.Read.{countFrom, countReached, brandsIn, staysIn, marksIn, cameOf, Lent, Readable, Measured, TakenAll, SetReadAs, FieldsReadAs};
+ghost use Rattle.locmaf_read_set.specs.Read.{countFrom, countReached, brandsIn, staysIn, marksIn, cameOf, Lent, Readable, Measured, TakenAll, SetReadAs, FieldsReadAs, LastReadAs};
 use constants::ids;
 use constants::maxima;
 use field_set::lawful;
@@ -198,7 +198,7 @@ fn take_fields(
         ivs,
         sum: c.sum,
     };
-    let d = take_lines(
+    finish_set(
         form,
         a,
         o,
@@ -207,15 +207,50 @@ fn take_fields(
         t,
         r,
         k,
+        e.second & b.second,
+        e.within,
+        x,
+    )
+}
+
+// The fields behind id 11, and the rules of the set: `second` and `within` say what the fields before came to.
+fn finish_set(
+    form: Form,
+    a: Against,
+    o: &[u8],
+    index: &[u64],
+    gone: &[u64],
+    t: Track,
+    r: &[u64],
+    m: Measure,
+    second: bool,
+    within: bool,
+    x: &mut [u64],
+) -> u64
+    requires { ⌜ Readable (rows form) (now o) (now index) (now gone) t a (now r) ⌝ }
+    requires { ⌜ (Measured m) × (length (now x) ≡ setLen) ⌝ }
+    ensures { λ k. ⌜ LastReadAs t (a .held) (now (r .entry))
+        (saysIn (rows form) (now (o .entry)) (now (index .entry))) m
+        second within (now (x .entry)) k (now (x .exit)) ⌝ }
+{
+    let d = take_lines(
+        form,
+        a,
+        o,
+        index,
+        gone,
+        t,
+        r,
+        m,
         PAST_PAIRS,
         lines::LINES,
         &mut *x,
     );
-    let rules = rules::rules_ok(t, n, &standing(index, gone, a.held, r));
-    if !(e.second & (b.second & (d.second & rules))) {
+    let rules = rules::rules_ok(t, m.count as u64, &standing(index, gone, a.held, r));
+    if !(second & (d.second & rules)) {
         return 14;
     }
-    if !(e.within & (d.within & lawful::same_iv_size(t, x))) {
+    if !(within & (d.within & lawful::same_iv_size(t, x))) {
         return 15;
     }
     0

@@ -2,7 +2,7 @@
 use native.Mathlib.Omega.{arith}
 use mathlib.Core.Path.{refl, _∙_}
 use Rattle.locmaf_read_set.proofs.ReadableLaws.{brands-marked}
-use Rattle.locmaf_read_set.proofs.RungLaws.{measured, start-long, rules-said, refuse-lengths, refuse-sum, sum-measured, refuse-rules, refuse-values, all-read}
+use Rattle.locmaf_read_set.proofs.RungLaws.{measured, start-long, refuse-lengths, refuse-sum, sum-measured, all-read}
 use borrow.Author.Needs.{needs}
 use Rattle.locmaf_read_set.proofs.read.take_fields.Statement.{statement}
 use Rattle.locmaf_read_set.proofs.read.take_fields.Tie as tie
@@ -77,9 +77,9 @@ returns-2 c =
     refuse-sum _ _ _ _ _ (p .1 .1) (p .0 .words) (p .0 .lawful) (p .0 .iv) (p .1 .0) _ (p .1 .2) _ _ (l₁ .take-lines .ensures) _
     (u .tally-of .ensures) _ _ (l₂ .take-lines2 .ensures) _ (w .brands-fit .ensures ∙ brands-marked _ _ _ _ (p .0 .marked)) (i₁ .if1 .left) (c .if2 .taken)
 
-take-lines-requires-3 : tie.Need-take-lines-requires-3
-take-lines-requires-3 c κs =
-    let i₂ = c .before in
+finish-set-requires : tie.Need-finish-set-requires
+finish-set-requires c κs =
+    let i₂ = c .before .before .before in
     let i₁ = i₂ .before .before .before .before in
     let w = i₁ .before .before .before in
     let l₂ = w .before .before .before in
@@ -88,90 +88,18 @@ take-lines-requires-3 c κs =
     let p = l₁ .before .before .before .before .before .before .before .before .pre in
     let few = sum-measured _ _ _ _ _ (p .1 .1) (p .0 .words) (p .0 .lawful) (p .0 .iv) (p .1 .0) _ (p .1 .2) _ _ (l₁ .take-lines .ensures) _
     (u .tally-of .ensures) _ _ (l₂ .take-lines2 .ensures) _ (w .brands-fit .ensures ∙ brands-marked _ _ _ _ (p .0 .marked)) (i₁ .if1 .left) (i₂ .if2 .left) in
-    (p .0, (few, omega arith, omega arith, l₂ .take-lines2 .ensures .long ∙ l₁ .take-lines .ensures .long ∙ start-long _ _ (p .1 .2)))
-
-standing-requires : tie.Need-standing-requires
-standing-requires c κs =
-    let l₂ = c .before .before .before .before .before .before .before .before .before .before .before .before .before .before in
-    let p = l₂ .before .before .before .before .before .before .before .before .before .before .before .before .before .before .pre in
-    (p .0 .marked .words, p .0 .marked .gone-words, p .0 .words)
-
-slice-aggregate-rules-ok : tie.Need-slice-aggregate-rules-ok
-slice-aggregate-rules-ok c = search needs
-
-rules-ok-requires : tie.Need-rules-ok-requires
-rules-ok-requires c κs = search needs
+    (p .0, (few, l₂ .take-lines2 .ensures .long ∙ l₁ .take-lines .ensures .long ∙ start-long _ _ (p .1 .2)))
 
 same-length-3 : tie.Need-same-length-3
 same-length-3 c =
-    let l₃ = c .before .before .before .before .before .before .before .before .before in
-    let l₂ = l₃ .before .before .before .before .before .before .before .before .before .before .before .before in
-    l₃ .take-lines3 .ensures .long ∙ l₂ .take-lines2 .ensures .long ∙ l₂ .before .before .before .before .before .before .take-lines .ensures .long
+    let f = c .before .before in
+    let l₂ = f .before .before .before .before .before .before .before .before .before .before .before .before .before .before in
+    let l₁ = l₂ .before .before .before .before .before .before in
+    omega (arith, f .finish-set .ensures .long, start-long _ _ (l₁ .before .before .before .before .before .before .before .before .pre .1 .2))
 
 returns-3 : tie.Need-returns-3
 returns-3 c =
-    let k = c .before .before .before .before in
-    let m = k .before .before in
-    let l₃ = m .before .before .before in
-    let i₂ = l₃ .before .before in
-    let i₁ = i₂ .before .before .before .before in
-    let w = i₁ .before .before .before in
-    let l₂ = w .before .before .before in
-    let u = l₂ .before .before in
-    let l₁ = u .before .before .before .before in
-    let p = l₁ .before .before .before .before .before .before .before .before .pre in
-    refuse-rules _ _ _ _ _ (p .1 .1) (p .0 .words) (p .0 .lawful) (p .0 .iv) (p .1 .0) _ (p .1 .2) _ _ (l₁ .take-lines .ensures) _
-    (u .tally-of .ensures) _ _ (l₂ .take-lines2 .ensures) _ (w .brands-fit .ensures ∙ brands-marked _ _ _ _ (p .0 .marked))
-    (i₁ .if1 .left) (i₂ .if2 .left) _ _ (l₃ .take-lines3 .ensures) _
-    (rules-said _ _ _ _ _ _ _ (p .0) _ _ (m .standing .ensures) _ (k .rules-ok .ensures)) (c .if3 .taken)
-
-same-iv-size-requires : tie.Need-same-iv-size-requires
-same-iv-size-requires c κs =
-    let l₃ = c .before .before .before .before .before .before .before .before .before .before in
-    let l₂ = l₃ .before .before .before .before .before .before .before .before .before .before .before .before in
-    let l₁ = l₂ .before .before .before .before .before .before in
-    l₃ .take-lines3 .ensures .long ∙ l₂ .take-lines2 .ensures .long ∙ l₁ .take-lines .ensures .long
-    ∙ start-long _ _ (l₁ .before .before .before .before .before .before .before .before .pre .1 .2)
-
-same-length-4 : tie.Need-same-length-4
-same-length-4 c =
-    let l₃ = c .before .before .before .before .before .before .before .before .before .before .before .before .before .before in
-    let l₂ = l₃ .before .before .before .before .before .before .before .before .before .before .before .before in
-    l₃ .take-lines3 .ensures .long ∙ l₂ .take-lines2 .ensures .long ∙ l₂ .before .before .before .before .before .before .take-lines .ensures .long
-
-returns-4 : tie.Need-returns-4
-returns-4 c =
-    let v = c .before .before .before in
-    let i₃ = v .before .before in
-    let k = i₃ .before .before .before .before in
-    let m = k .before .before in
-    let l₃ = m .before .before .before in
-    let i₂ = l₃ .before .before in
-    let i₁ = i₂ .before .before .before .before in
-    let w = i₁ .before .before .before in
-    let l₂ = w .before .before .before in
-    let u = l₂ .before .before in
-    let l₁ = u .before .before .before .before in
-    let p = l₁ .before .before .before .before .before .before .before .before .pre in
-    refuse-values _ _ _ _ _ (p .1 .1) (p .0 .words) (p .0 .lawful) (p .0 .iv) (p .1 .0) _ (p .1 .2) _ _ (l₁ .take-lines .ensures) _
-    (u .tally-of .ensures) _ _ (l₂ .take-lines2 .ensures) _ (w .brands-fit .ensures ∙ brands-marked _ _ _ _ (p .0 .marked))
-    (i₁ .if1 .left) (i₂ .if2 .left) _ _ (l₃ .take-lines3 .ensures) _
-    (rules-said _ _ _ _ _ _ _ (p .0) _ _ (m .standing .ensures) _ (k .rules-ok .ensures)) (i₃ .if3 .left) _ (v .same-iv-size .ensures) (c .if4 .taken)
-
-same-length-5 : tie.Need-same-length-5
-same-length-5 c =
-    let l₃ = c .before .before .before .before .before .before .before .before .before .before .before .before .before .before in
-    let l₂ = l₃ .before .before .before .before .before .before .before .before .before .before .before .before in
-    l₃ .take-lines3 .ensures .long ∙ l₂ .take-lines2 .ensures .long ∙ l₂ .before .before .before .before .before .before .take-lines .ensures .long
-
-returns-5 : tie.Need-returns-5
-returns-5 c =
-    let v = c .before .before .before in
-    let i₃ = v .before .before in
-    let k = i₃ .before .before .before .before in
-    let m = k .before .before in
-    let l₃ = m .before .before .before in
-    let i₂ = l₃ .before .before in
+    let i₂ = c .before .before .before .before .before .before in
     let i₁ = i₂ .before .before .before .before in
     let w = i₁ .before .before .before in
     let l₂ = w .before .before .before in
@@ -179,9 +107,8 @@ returns-5 c =
     let l₁ = u .before .before .before .before in
     let p = l₁ .before .before .before .before .before .before .before .before .pre in
     all-read _ _ _ _ _ (p .1 .1) (p .0 .words) (p .0 .lawful) (p .0 .iv) (p .1 .0) _ (p .1 .2) _ _ (l₁ .take-lines .ensures) _
-    (u .tally-of .ensures) _ _ (l₂ .take-lines2 .ensures) _ (w .brands-fit .ensures ∙ brands-marked _ _ _ _ (p .0 .marked))
-    (i₁ .if1 .left) (i₂ .if2 .left) _ _ (l₃ .take-lines3 .ensures) _
-    (rules-said _ _ _ _ _ _ _ (p .0) _ _ (m .standing .ensures) _ (k .rules-ok .ensures)) (i₃ .if3 .left) _ (v .same-iv-size .ensures) (c .if4 .left)
+    (u .tally-of .ensures) _ _ (l₂ .take-lines2 .ensures) _ (w .brands-fit .ensures ∙ brands-marked _ _ _ _ (p .0 .marked)) (i₁ .if1 .left) (i₂ .if2 .left)
+    _ _ (c .before .before .finish-set .ensures)
 
 pub take-fields-spec : {M : Type 1} → statement M
 take-fields-spec =
@@ -197,14 +124,6 @@ take-fields-spec =
     returns
     same-length-2
     returns-2
-    take-lines-requires-3
-    standing-requires
-    slice-aggregate-rules-ok
-    rules-ok-requires
+    finish-set-requires
     same-length-3
-    returns-3
-    same-iv-size-requires
-    same-length-4
-    returns-4
-    same-length-5
-    returns-5)
+    returns-3)
