@@ -13,7 +13,6 @@ use Rattle.wire.specs.declared.form.Row.{Row}
 use Rattle.wire.specs.declared.zigzag.Coding.{Coding}
 use Rattle.runs.specs.Run.{first}
 use Rattle.track.specs.declared.Track.{Track}
-use Rattle.field_table.specs.declared.lines.Want.{Want}
 use Rattle.field_table.specs.declared.lines.Want.the-variants.{One}
 use Rattle.field_table.specs.declared.lines.Line.{Line}
 use Rattle.field_table.specs.declared.lines.Measure.{Measure}

@@ -1,10 +1,10 @@
 -- The last two rules of the fields: what is found by taking the lines behind id 11 is what they ask. Assumes nothing.
-use Prim.Native.Nat.{ℕ, _+_}
+use Prim.Native.Nat.{ℕ}
 use native.Mathlib.Omega.{arith}
 use mathlib.Core.Path.{_≡_, refl, sym, _∙_, ap}
 use mathlib.Core.Bool.{Bool, true, false, not, _&&_}
 use mathlib.Core.List.{List}
-use lib.ListN.{length, getD}
+use lib.ListN.{length}
 use Rattle.laws.specs.Tests.{_and_}
 use Rattle.laws.specs.Ladder.{Rung, ladder}
 use Rattle.laws.proofs.GateLaws.{failed, held}
@@ -13,7 +13,7 @@ use Rattle.laws.proofs.TestLaws.{both, and-left, and-right}
 use Rattle.wire.specs.declared.form.Row.{Row}
 use Rattle.track.specs.declared.Track.{Track}
 use Rattle.field_table.specs.declared.lines.Measure.{Measure}
-use Rattle.field_table.specs.Lines.{every, lines, spare, setLen, lineCount, subsamplesLine, firstFlagsLine, clearLine, protectedLine, ivSizeLine}
+use Rattle.field_table.specs.Lines.{every, lines, setLen, firstFlagsLine, clearLine, protectedLine, ivSizeLine}
 use Rattle.field_set.specs.Lawful.{setRules, sameIvSize}
 use Rattle.locmaf_read_field.specs.declared.cells.Cell.{Cell}
 use Rattle.locmaf_read_said.specs.Said.{Says, saysIn}

@@ -1,6 +1,6 @@
 -- The rules of the fields in their order: what is found by taking id 11, the lines before it and then those behind it is what the rules ask.
 -- Assumes nothing.
-use Prim.Native.Nat.{ℕ, _+_, _-_, _/_, _≤_, _<_}
+use Prim.Native.Nat.{ℕ, _+_, _-_, _/_, _≤_}
 use native.Mathlib.Omega.{arith}
 use mathlib.Core.Path.{_≡_, refl, sym, _∙_, ap}
 use mathlib.Core.Bool.{Bool, true, false, false≢true, not, _&&_}
@@ -15,15 +15,14 @@ use Rattle.laws.specs.Tests.{_and_, sum}
 use Rattle.laws.specs.Ladder.{Rung, _else_, ladder}
 use Rattle.laws.proofs.GateLaws.{failed, held}
 use Rattle.laws.proofs.LadderLaws.{broken, passed, agree, all-hold}
-use Rattle.laws.proofs.TestLaws.{left, right, both, and-left, and-right, and-end, and-assoc}
+use Rattle.laws.proofs.TestLaws.{left, right, and-left, and-right, and-end, and-assoc}
 use Rattle.wire.specs.declared.zigzag.Reached.the-variants.{To}
 use Rattle.track.specs.declared.Track.{Track}
 use Rattle.field_set.specs.declared.lawful.Tally.{Tally}
 use Rattle.field_table.specs.declared.lines.Want.{Want}
 use Rattle.field_table.specs.declared.lines.Want.the-variants.{One, LessOne, Count, Ivs, Sum}
 use Rattle.field_table.specs.declared.lines.Line.{Line}
-use Rattle.field_table.specs.declared.lines.Measure.{Measure}
-use Rattle.field_table.specs.Lines.{every, lines, spare, lineFor, setLen, wanted, lineCount, subsamplesLine}
+use Rattle.field_table.specs.Lines.{every, lines, spare, lineFor, setLen, wanted, subsamplesLine}
 use Rattle.field_set.specs.Lawful.{saizOk, setRules, sameIvSize, valuesOf, lawful, TallyOf}
 use Rattle.field_set.proofs.TallyLaws.{saiz-is}
 use Rattle.locmaf_read_field.specs.declared.cells.Cell.{Cell}
