@@ -22,6 +22,7 @@ use Rattle.field_set.specs.declared.lawful.Tally.{Tally}
 use Rattle.field_table.specs.declared.lines.Want.{Want}
 use Rattle.field_table.specs.declared.lines.Want.the-variants.{One, LessOne, Count, Ivs, Sum}
 use Rattle.field_table.specs.declared.lines.Line.{Line}
+use Rattle.field_table.specs.declared.lines.Measure.{Measure}
 use Rattle.field_table.specs.Lines.{every, lines, spare, lineFor, setLen, wanted, subsamplesLine}
 use Rattle.field_set.specs.Lawful.{saizOk, setRules, sameIvSize, valuesOf, lawful, TallyOf}
 use Rattle.field_set.proofs.TallyLaws.{saiz-is}
@@ -287,23 +288,22 @@ module _ (t : Track) (delta : Bool) (r : List ℕ) (says : Says) (n : ℕ) (en :
                 and (saizOk (t .«iv_size») (subsamples t delta r says) and leb (sum (subsamples t delta r says)) subsamplesMost)) ≡ true
             sum-holds = held (sym (sum-test b-first)) q₂
 
-            -- ---- the lines behind it
-            abbrev fields : Line → Held
-            fields = λ l. cameOf t delta r says (measure t n (sum (subsamples t delta r says))) l .field
+            -- ---- the lines behind it: what is asked of them, and what is stored
+            abbrev lengths : Measure
+            lengths = measure t n (sum (subsamples t delta r says))
 
-            -- what is asked of them, and what is stored
             abbrev rungs : List Rung
-            rungs = lastRungs t delta r says (measure t n (sum (subsamples t delta r says))) (e .second && b .second) (e .within) x₂
+            rungs = lastRungs t delta r says lengths (e .second && b .second) (e .within) x₂
 
             abbrev words₃ : List ℕ
-            words₃ = lastWords t delta r says (measure t n (sum (subsamples t delta r says))) x₂
+            words₃ = lastWords t delta r says lengths x₂
 
             -- all fields are stored
             all-stored : e .second ≡ true → e .within ≡ true → words₃ ≡ newWords t delta r says 0
             all-stored es ew =
                 let f : Line → Held = fieldOf t delta r says in
                 let g : Line → Held = λ l. cameOf t delta r says (measure t n 0) l .field in
-                let k : Line → Held = λ l. cameOf t delta r says (measure t n (sum (subsamples t delta r says))) l .field in
+                let k : Line → Held = λ l. cameOf t delta r says lengths l .field in
                 let fk : f ≡ k = λ j l. came-is l j .field in
                 let s₁ : x₁ ≡ storeAll f (slice subsamplesLine (subsamplesLine + 1) lines) (setWords 0 n noFields) =
                 hb .stored b-first eleven-second b-within
@@ -321,7 +321,7 @@ module _ (t : Track) (delta : Bool) (r : List ℕ) (says : Says) (n : ℕ) (en :
             -- the third rule
             second-test : (every (λ l. came t delta r says l .cell .second) lines and setRules t (countOf t delta r says) (marks t delta r says))
                 ≡ ((e .second && b .second)
-                and (every (λ l. cameOf t delta r says (measure t n (sum (subsamples t delta r says))) l .cell .second) lastLines and setRules t n (marks t delta r says)))
+                and (every (λ l. cameOf t delta r says lengths l .cell .second) lastLines and setRules t n (marks t delta r says)))
             second-test =
                 ap (λ (z : Bool). z and setRules t (countOf t delta r says) (marks t delta r says))
                 (parts-are (λ z. z .cell .second) (e .second) (b .second) _ (he .second) (hb .second) refl)
@@ -329,7 +329,7 @@ module _ (t : Track) (delta : Bool) (r : List ℕ) (says : Says) (n : ℕ) (en :
 
             -- the last rule
             last-test : e .second ≡ true → (every (λ l. came t delta r says l .cell .within) lines and sameIvSize t (newWords t delta r says 0))
-                ≡ (e .within and (every (λ l. cameOf t delta r says (measure t n (sum (subsamples t delta r says))) l .cell .within) lastLines and sameIvSize t words₃))
+                ≡ (e .within and (every (λ l. cameOf t delta r says lengths l .cell .within) lastLines and sameIvSize t words₃))
             last-test es =
                 ap (λ (z : Bool). z and sameIvSize t (newWords t delta r says 0))
                 (parts-are (λ z. z .cell .within) (e .within) true _ (he .within) (sym b-within ∙ hb .within) refl)
@@ -356,7 +356,7 @@ module _ (t : Track) (delta : Bool) (r : List ℕ) (says : Says) (n : ℕ) (en :
                 → ReadAs (fieldRungs t delta r says) (newWords t delta r says 0) k x₃
             unfolding fieldRungs
             all-read k x₃ h =
-                let w : LastReadAs t delta r says (measure t n (sum (subsamples t delta r says))) (e .second && b .second) (e .within) x₂ k x₃ = rw sum-is at h in
+                let w : LastReadAs t delta r says lengths (e .second && b .second) (e .within) x₂ k x₃ = rw sum-is at h in
                 record {
                   answered = passed _ 14 _ (λ k. k) 0 first-holds (passed _ 15 _ (λ k. k) 0 sum-holds (w .answered ∙ rungs-same));
                   stored = λ z. w .stored z ∙ rungs-stored (sym (w .answered) ∙ z);
