@@ -149,3 +149,8 @@ AllJudged F o s j ws x = JudgedAs (judgeRungs F o s) F o s j ws x
 
 abbrev pub ValuesJudged : List Row → List ℕ → List ℕ → Judged → List ℕ → List ℕ → Type 0
 ValuesJudged F o s j ws x = JudgedAs (valueRungs F o s) F o s j ws x
+
+-- an object whose head was read, and of which every rule but that of room was asked
+pub record Decided (F : List Row) (o s : List ℕ) (t : Track) (p : Place) (j : Judged) (ws x : List ℕ) : Type 0 where
+  pub head : Judgeable F o s t p
+  pub judged : AllJudged F o s j ws x

@@ -11,7 +11,7 @@ ghost use Rattle.slots.specs.Table.{out, onTable};
 ghost use Rattle.answers.specs.Took.{took, refused};
 ghost use Rattle.answers.specs.Answered.{AnsweredAs};
 ghost use Rattle.receiver.specs.Receive.{refusing, done, written, taken, receiving};
-ghost use Rattle.receiver.specs.Judge.{Judgeable, AllJudged, Acceptable, Roomy};
+ghost use Rattle.receiver.specs.Judge.{Judgeable, Decided, Acceptable, Roomy};
 ghost use Rattle.receiver.specs.Opened.{OpenedAs};
 use crate::judge;
 use crate::judge::Judged;
@@ -129,9 +129,9 @@ fn take_judged(
     x: &[u64],
     output: &mut [u8],
 ) -> Answer
-    requires { ⌜ ((F : List Row) × Judgeable F (now o) (now s) t p × AllJudged F (now o) (now s) j (now list) (now x)) ⌝ }
-    ensures { λ a. ⌜ ((F : List Row) → Judgeable F (now (o .entry)) (now (s .entry)) t p
-        → AllJudged F (now (o .entry)) (now (s .entry)) j (now (list .entry)) (now (x .entry))
+    requires { ⌜ ((F : List Row) × Decided F (now o) (now s) t p j (now list) (now x)) ⌝ }
+    ensures { λ a. ⌜ ((F : List Row)
+        → Decided F (now (o .entry)) (now (s .entry)) t p j (now (list .entry)) (now (x .entry))
         → AnsweredAs (taken F (now (o .entry)) (now (output .entry)) (now (s .entry)))
         (now (o .entry)) a (now (output .exit)) (now (s .exit))) ⌝ }
 {

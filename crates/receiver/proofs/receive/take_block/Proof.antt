@@ -24,7 +24,7 @@ take-judged-requires : tie.Need-take-judged-requires
 take-judged-requires c κs =
     let j = c .before .before .before .before .before .before in
     let b = j .before .before .before .before .before .before .before in
-    (rows (b .args .form), b .pre, j .judge .ensures)
+    (rows (b .args .form), record { head = b .pre; judged = j .judge .ensures })
 
 same-length : tie.Need-same-length
 same-length c = search needs
@@ -37,7 +37,7 @@ returns c =
     let a = c .before .before .before .before in
     let j = a .before .before .before .before .before .before .before in
     let b = j .before .before .before .before .before .before .before in
-    a .take-judged .ensures (rows (b .args .form)) (b .pre) (j .judge .ensures)
+    a .take-judged .ensures (rows (b .args .form)) (record { head = b .pre; judged = j .judge .ensures })
 
 pub take-block-spec : {M : Type 1} → statement M
 take-block-spec =

@@ -16,12 +16,12 @@ returns : tie.Need-returns
 returns c =
     let i = c .before .before .before .before in
     let output = now (i .before .before .before .before .before .before .args .output) in
-    λ F h j. answered-on (c .before .before .refuse .ensures _ output) (judged-stops _ _ _ output _ _ _ j (i .if1 .taken))
+    λ F d. answered-on (c .before .before .refuse .ensures _ output) (judged-stops _ _ _ output _ _ _ (d .judged) (i .if1 .taken))
 
 accept-requires : tie.Need-accept-requires
 accept-requires c κs =
     let h = c .before .before .before .before .before .before .before .before .pre in
-    (h .0, record { head = h .1; ready = h .2 .ready (c .before .before .if1 .left) })
+    (h .0, record { head = h .1 .head; ready = h .1 .judged .ready (c .before .before .if1 .left) })
 
 same-length-2 : tie.Need-same-length-2
 same-length-2 c = search needs
@@ -33,9 +33,9 @@ returns-2 : tie.Need-returns-2
 returns-2 c =
     let i = c .before .before .before .before .before .before .before in
     let output = now (i .before .before .before .before .before .before .args .output) in
-    λ F h j.
-    answered-on (c .before .before .before .before .accept .ensures F (record { head = h; ready = j .ready (i .if1 .left) }))
-    (judged-climbs _ _ _ output _ _ _ j (i .if1 .left))
+    λ F d.
+    answered-on (c .before .before .before .before .accept .ensures F (record { head = d .head; ready = d .judged .ready (i .if1 .left) }))
+    (judged-climbs _ _ _ output _ _ _ (d .judged) (i .if1 .left))
 
 pub take-judged-spec : {M : Type 1} → statement M
 take-judged-spec =
