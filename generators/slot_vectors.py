@@ -10,9 +10,9 @@ docs/DECISIONS.md, and not from the code:
 NONE, CENC, CBCS = 0, 1, 2
 U5, U8, U16, U24, U32, U62, U64 = (2 ** bits - 1 for bits in (5, 8, 16, 24, 32, 62, 64))
 
-# The words of a share
-SHARE = 996
+# The words of a share, the last 981 of them a set's
 ACCEPTED, HELD, PRFT, PRFT_END, SET = 8, 9, 10, 15, 15
+SHARE = SET + 981
 
 # The words of a set: BMDT, the sample count, and a region for each other id: mark at, room, values in use, largest value
 BMDT, COUNT = 0, 1
