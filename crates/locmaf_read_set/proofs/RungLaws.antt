@@ -12,9 +12,8 @@ use lib.ListN.{length, getD}
 use lib.Seq.{slice, sets}
 use Rattle.constants.specs.Maxima.{samplesMost, subsamplesMost}
 use Rattle.laws.specs.Tests.{_and_, sum}
-use Rattle.laws.specs.Ladder.{Rung, _else_, ladder}
-use Rattle.laws.proofs.GateLaws.{failed, held}
-use Rattle.laws.proofs.LadderLaws.{broken, passed, agree, all-hold}
+use Rattle.laws.specs.Ladder.{Rung, _else_, Hold}
+use Rattle.laws.proofs.LadderLaws.{numberOf, agree, all-hold, stopped-on, climbed-on}
 use Rattle.laws.proofs.TestLaws.{left, right, and-left, and-right, and-end, and-assoc}
 use Rattle.wire.specs.declared.zigzag.Reached.the-variants.{To}
 use Rattle.track.specs.declared.Track.{Track}
@@ -32,7 +31,7 @@ use Rattle.field_rules.specs.Fields.{numbers, Held, wordsOf}
 use Rattle.locmaf_read_field.specs.Cells.{Came}
 use Rattle.field_rules.proofs.RoomLaws.{wanted-room}
 use Rattle.field_rules.specs.Words.{measure, storeAll, setWords, noFields}
-use Rattle.locmaf_read_set.specs.Read.{brandsFit, marks, newWords, countReached, countOf, cameOf, subsamples, came, fieldOf, fieldRungs, lastLines, lastWords, lastRungs, Measured, TakenAll, ReadAs, LastReadAs}
+use Rattle.locmaf_read_set.specs.Read.{brandsFit, brandsIn, marks, newWords, countReached, countOf, cameOf, subsamples, came, fieldOf, fieldRungs, frontRungs, lastLines, lastWords, lastRungs, Measured, TakenAll, ReadAs, LastReadAs}
 use Rattle.field_rules.proofs.SetLaws.{eleven-for, Fits, AllFit, words-length, stored-words, eleven-values, parted}
 use Rattle.locmaf_read_set.proofs.CameLaws.{came-early, second-eleven, came-length}
 use Rattle.locmaf_read_set.proofs.LastLaws.{refused, late-all}
@@ -235,130 +234,143 @@ module _ (t : Track) (delta : Bool) (r : List ℕ) (says : Says) (n : ℕ) (en :
             go false q = refl
 
       module _ (e : Cell) (x₂ : List ℕ) (he : TakenAll (cameOf t delta r says (measure t n 0)) (slice 0 subsamplesLine lines) x₁ e x₂)
-          (w : Bool) (ew : w ≡ brandsFit (says 23)) where
+          (index : List ℕ) (ew : brandsIn index ≡ brandsFit (says 23)) where
         front-long : length x₂ ≡ setLen
         front-long = he .long ∙ eleven-long
 
+        -- the first two rules, and those that follow
+        abbrev front : List Rung
+        front =
+            ((every (λ l. came t delta r says l .cell .first) lines and brandsFit (says 23)) else 14)
+            ∷ ((came t delta r says (lineFor 11 lines) .cell .within
+            and (saizOk (t .«iv_size») (subsamples t delta r says) and leb (sum (subsamples t delta r says)) subsamplesMost)) else 15)
+            ∷ []
+
+        abbrev back : List Rung
+        back =
+            ((every (λ l. came t delta r says l .cell .second) lines and setRules t (countOf t delta r says) (marks t delta r says)) else 14)
+            ∷ ((every (λ l. came t delta r says l .cell .within) lines and sameIvSize t (newWords t delta r says 0)) else 15)
+            ∷ []
+
         -- the first rule
-        first-test : (every (λ l. came t delta r says l .cell .first) lines and brandsFit (says 23)) ≡ (e .first && (b .first && w))
+        first-test : (every (λ l. came t delta r says l .cell .first) lines and brandsFit (says 23)) ≡ (e .first && (b .first && brandsIn index))
         first-test =
             ap (λ (z : Bool). z and brandsFit (says 23))
             (parts-are (λ z. z .cell .first) (e .first) (b .first) true (he .first) (hb .first) (sym (late-all t delta r says _)))
             ∙ ap (λ (z : Bool). (e .first and (b .first and true)) and z) (sym ew)
-            ∙ first-tests (e .first) (b .first) w
+            ∙ first-tests (e .first) (b .first) (brandsIn index)
 
-        pub refuse-lengths : not (e .first && (b .first && w)) ≡ true → ReadAs (fieldRungs t delta r says) (newWords t delta r says 0) 14 x₂
+        -- so both are what code asks
+        front-same : numberOf (frontRungs index e b c) ≡ numberOf front
+        unfolding frontRungs
+        front-same =
+            rw first-test
+            (agree (λ k. k) ((_ else 14) ∷ []) ((_ else 15) ∷ []) ((_ else 15) ∷ []) 0 0
+            (λ h. ap (λ (z : Bool). numberOf ((z else 15) ∷ [])) (sym (sum-test (and-left _ _ (and-right (e .first) _ (h .0)))))))
+
+        pub refuse-front : (k : ℕ) → k ≡ numberOf (frontRungs index e b c) → (k ≡ 0 → ⊥) → ReadAs (fieldRungs t delta r says) (newWords t delta r says 0) k x₂
         unfolding fieldRungs
-        refuse-lengths q = refused _ _ 14 x₂ (λ z. omega arith) (broken _ 14 _ (λ k. k) 0 (failed (sym first-test) q)) front-long
+        refuse-front k q n =
+            refused _ _ k x₂ n (q ∙ front-same ∙ stopped-on front back (λ k. k) 0 (λ z. n (q ∙ front-same ∙ z))) front-long
 
-        module _ (q₁ : not (e .first && (b .first && w)) ≡ false) where
-          first-holds : (every (λ l. came t delta r says l .cell .first) lines and brandsFit (says 23)) ≡ true
-          first-holds = held (sym first-test) q₁
+        module _ (k : ℕ) (ek : k ≡ numberOf (frontRungs index e b c)) (z : k ≡ 0) where
+          front-holds : Hold front
+          front-holds = all-hold front (λ z. omega arith, (λ z. omega arith, tt)) (sym front-same ∙ sym ek ∙ z)
+
+          tests : ((e .first && (b .first && brandsIn index)) ≡ true) × (((b .within && (c .ok && leb (c .sum) subsamplesMost)) ≡ true) × Unit {0})
+          unfolding frontRungs
+          tests = all-hold (frontRungs index e b c) (λ z. omega arith, (λ z. omega arith, tt)) (sym ek ∙ z)
 
           e-first : e .first ≡ true
-          e-first = and-left (e .first) (b .first && w) (held refl q₁)
+          e-first = and-left (e .first) _ (tests .0)
 
           b-first : b .first ≡ true
-          b-first = and-left (b .first) w (and-right (e .first) (b .first && w) (held refl q₁))
+          b-first = and-left (b .first) _ (and-right (e .first) _ (tests .0))
 
-          pub refuse-sum : not (b .within && (c .ok && leb (c .sum) subsamplesMost)) ≡ true → ReadAs (fieldRungs t delta r says) (newWords t delta r says 0) 15 x₂
+          b-within : b .within ≡ true
+          b-within = and-left (b .within) _ (tests .1 .0)
+
+          c-rest : (c .ok && leb (c .sum) subsamplesMost) ≡ true
+          c-rest = and-right (b .within) _ (tests .1 .0)
+
+          sum-is : c .sum ≡ sum (subsamples t delta r says)
+          sum-is = sum-found b-first b-within (and-left (c .ok) (leb (c .sum) subsamplesMost) c-rest)
+
+          sum-small : c .sum ≤ subsamplesMost
+          sum-small = leb-true (c .sum) subsamplesMost (and-right (c .ok) (leb (c .sum) subsamplesMost) c-rest)
+
+          -- the lengths of ids 13 and 15 keep the maxima
+          pub sum-measured : Measured (measure t n (c .sum))
+          sum-measured = measured t n (c .sum) iv few sum-small
+
+          -- ---- the lines behind it: what is asked of them, and what is stored
+          abbrev lengths : Measure
+          lengths = measure t n (sum (subsamples t delta r says))
+
+          abbrev rungs : List Rung
+          rungs = lastRungs t delta r says lengths (e .second && b .second) (e .within) x₂
+
+          abbrev words₃ : List ℕ
+          words₃ = lastWords t delta r says lengths x₂
+
+          -- all fields are stored
+          all-stored : e .second ≡ true → e .within ≡ true → words₃ ≡ newWords t delta r says 0
+          all-stored es ew =
+              let f : Line → Held = fieldOf t delta r says in
+              let g : Line → Held = λ l. cameOf t delta r says (measure t n 0) l .field in
+              let k : Line → Held = λ l. cameOf t delta r says lengths l .field in
+              let fk : f ≡ k = λ j l. came-is l j .field in
+              let s₁ : x₁ ≡ storeAll f (slice subsamplesLine (subsamplesLine + 1) lines) (setWords 0 n noFields) =
+              hb .stored b-first eleven-second b-within
+              ∙ ap (storeAll g (slice subsamplesLine (subsamplesLine + 1) lines)) ex
+              ∙ sym (store-same f g early (λ l h. ap (λ (z : Came). z .field) (came-any 0 l h)) (slice subsamplesLine (subsamplesLine + 1) lines) early-eleven _) in
+              let s₂ : x₂ ≡ storeAll f (slice 0 subsamplesLine lines) x₁ =
+              he .stored e-first es ew
+              ∙ sym (store-same f g early (λ l h. ap (λ (z : Came). z .field) (came-any 0 l h)) (slice 0 subsamplesLine lines) early-front x₁) in
+              let fit : AllFit f = rw fk (fits-at (sum (subsamples t delta r says)) (omega (arith, sum-is, sum-small))) in
+              ap (λ (z : Line → Held). storeAll z lastLines x₂) (sym fk)
+              ∙ ap (storeAll f lastLines) (s₂ ∙ ap (storeAll f (slice 0 subsamplesLine lines)) s₁)
+              ∙ stored-words f fit n
+              ∙ ap (λ (m : ℕ). setWords 0 m f) (sym count-is)
+
+          -- the third rule
+          second-test : (every (λ l. came t delta r says l .cell .second) lines and setRules t (countOf t delta r says) (marks t delta r says))
+              ≡ ((e .second && b .second)
+              and (every (λ l. cameOf t delta r says lengths l .cell .second) lastLines and setRules t n (marks t delta r says)))
+          second-test =
+              ap (λ (z : Bool). z and setRules t (countOf t delta r says) (marks t delta r says))
+              (parts-are (λ z. z .cell .second) (e .second) (b .second) _ (he .second) (hb .second) refl)
+              ∙ rw count-is (second-tests (e .second) (b .second) _ _)
+
+          -- the last rule
+          last-test : e .second ≡ true → (every (λ l. came t delta r says l .cell .within) lines and sameIvSize t (newWords t delta r says 0))
+              ≡ (e .within and (every (λ l. cameOf t delta r says lengths l .cell .within) lastLines and sameIvSize t words₃))
+          last-test es =
+              ap (λ (z : Bool). z and sameIvSize t (newWords t delta r says 0))
+              (parts-are (λ z. z .cell .within) (e .within) true _ (he .within) (sym b-within ∙ hb .within) refl)
+              ∙ last-tests (e .within) _ _ _ (λ ew. ap (sameIvSize t) (all-stored es ew))
+
+          -- so both are what code asks
+          back-same : numberOf rungs ≡ numberOf back
+          unfolding lastRungs
+          back-same =
+              rw second-test
+              (agree (λ k. k) ((_ else 14) ∷ []) ((_ else 15) ∷ []) ((_ else 15) ∷ []) 0 0
+              (λ h. ap (λ (z : Bool). numberOf ((z else 15) ∷ [])) (sym (last-test (and-left (e .second) (b .second) (left _ _ (h .0)))))))
+
+          rungs-stored : numberOf rungs ≡ 0 → words₃ ≡ newWords t delta r says 0
+          unfolding lastRungs
+          rungs-stored z =
+              let h = all-hold rungs (λ z. omega arith, (λ z. omega arith, tt)) z in
+              all-stored (and-left (e .second) (b .second) (left _ _ (h .0))) (left _ _ (h .1 .0))
+
+          pub all-read : (j : ℕ) (x₃ : List ℕ) → LastReadAs t delta r says (measure t n (c .sum)) (e .second && b .second) (e .within) x₂ j x₃
+              → ReadAs (fieldRungs t delta r says) (newWords t delta r says 0) j x₃
           unfolding fieldRungs
-          refuse-sum q =
-              refused _ _ 15 x₂ (λ z. omega arith)
-              (passed _ 14 _ (λ k. k) 0 first-holds (broken _ 15 _ (λ k. k) 0 (failed (sym (sum-test b-first)) q))) front-long
-
-          module _ (q₂ : not (b .within && (c .ok && leb (c .sum) subsamplesMost)) ≡ false) where
-            b-within : b .within ≡ true
-            b-within = and-left (b .within) (c .ok && leb (c .sum) subsamplesMost) (held refl q₂)
-
-            c-rest : (c .ok && leb (c .sum) subsamplesMost) ≡ true
-            c-rest = and-right (b .within) (c .ok && leb (c .sum) subsamplesMost) (held refl q₂)
-
-            sum-is : c .sum ≡ sum (subsamples t delta r says)
-            sum-is = sum-found b-first b-within (and-left (c .ok) (leb (c .sum) subsamplesMost) c-rest)
-
-            sum-small : c .sum ≤ subsamplesMost
-            sum-small = leb-true (c .sum) subsamplesMost (and-right (c .ok) (leb (c .sum) subsamplesMost) c-rest)
-
-            -- the lengths of ids 13 and 15 keep the maxima
-            pub sum-measured : Measured (measure t n (c .sum))
-            sum-measured = measured t n (c .sum) iv few sum-small
-
-            sum-holds : (came t delta r says (lineFor 11 lines) .cell .within
-                and (saizOk (t .«iv_size») (subsamples t delta r says) and leb (sum (subsamples t delta r says)) subsamplesMost)) ≡ true
-            sum-holds = held (sym (sum-test b-first)) q₂
-
-            -- ---- the lines behind it: what is asked of them, and what is stored
-            abbrev lengths : Measure
-            lengths = measure t n (sum (subsamples t delta r says))
-
-            abbrev rungs : List Rung
-            rungs = lastRungs t delta r says lengths (e .second && b .second) (e .within) x₂
-
-            abbrev words₃ : List ℕ
-            words₃ = lastWords t delta r says lengths x₂
-
-            -- all fields are stored
-            all-stored : e .second ≡ true → e .within ≡ true → words₃ ≡ newWords t delta r says 0
-            all-stored es ew =
-                let f : Line → Held = fieldOf t delta r says in
-                let g : Line → Held = λ l. cameOf t delta r says (measure t n 0) l .field in
-                let k : Line → Held = λ l. cameOf t delta r says lengths l .field in
-                let fk : f ≡ k = λ j l. came-is l j .field in
-                let s₁ : x₁ ≡ storeAll f (slice subsamplesLine (subsamplesLine + 1) lines) (setWords 0 n noFields) =
-                hb .stored b-first eleven-second b-within
-                ∙ ap (storeAll g (slice subsamplesLine (subsamplesLine + 1) lines)) ex
-                ∙ sym (store-same f g early (λ l h. ap (λ (z : Came). z .field) (came-any 0 l h)) (slice subsamplesLine (subsamplesLine + 1) lines) early-eleven _) in
-                let s₂ : x₂ ≡ storeAll f (slice 0 subsamplesLine lines) x₁ =
-                he .stored e-first es ew
-                ∙ sym (store-same f g early (λ l h. ap (λ (z : Came). z .field) (came-any 0 l h)) (slice 0 subsamplesLine lines) early-front x₁) in
-                let fit : AllFit f = rw fk (fits-at (sum (subsamples t delta r says)) (omega (arith, sum-is, sum-small))) in
-                ap (λ (z : Line → Held). storeAll z lastLines x₂) (sym fk)
-                ∙ ap (storeAll f lastLines) (s₂ ∙ ap (storeAll f (slice 0 subsamplesLine lines)) s₁)
-                ∙ stored-words f fit n
-                ∙ ap (λ (m : ℕ). setWords 0 m f) (sym count-is)
-
-            -- the third rule
-            second-test : (every (λ l. came t delta r says l .cell .second) lines and setRules t (countOf t delta r says) (marks t delta r says))
-                ≡ ((e .second && b .second)
-                and (every (λ l. cameOf t delta r says lengths l .cell .second) lastLines and setRules t n (marks t delta r says)))
-            second-test =
-                ap (λ (z : Bool). z and setRules t (countOf t delta r says) (marks t delta r says))
-                (parts-are (λ z. z .cell .second) (e .second) (b .second) _ (he .second) (hb .second) refl)
-                ∙ rw count-is (second-tests (e .second) (b .second) _ _)
-
-            -- the last rule
-            last-test : e .second ≡ true → (every (λ l. came t delta r says l .cell .within) lines and sameIvSize t (newWords t delta r says 0))
-                ≡ (e .within and (every (λ l. cameOf t delta r says lengths l .cell .within) lastLines and sameIvSize t words₃))
-            last-test es =
-                ap (λ (z : Bool). z and sameIvSize t (newWords t delta r says 0))
-                (parts-are (λ z. z .cell .within) (e .within) true _ (he .within) (sym b-within ∙ hb .within) refl)
-                ∙ last-tests (e .within) _ _ _ (λ ew. ap (sameIvSize t) (all-stored es ew))
-
-            -- so both say the same
-            rungs-same : ladder rungs (λ k. k) 0
-                ≡ ladder
-                (((every (λ l. came t delta r says l .cell .second) lines and setRules t (countOf t delta r says) (marks t delta r says)) else 14)
-                ∷ ((every (λ l. came t delta r says l .cell .within) lines and sameIvSize t (newWords t delta r says 0)) else 15) ∷ []) (λ k. k) 0
-            unfolding lastRungs
-            rungs-same =
-                rw second-test
-                (agree (λ k. k) ((_ else 14) ∷ []) ((_ else 15) ∷ []) ((_ else 15) ∷ []) 0 0
-                (λ h. ap (λ (z : Bool). ladder ((z else 15) ∷ []) (λ k. k) 0) (sym (last-test (and-left (e .second) (b .second) (left _ _ (h .0)))))))
-
-            rungs-stored : ladder rungs (λ k. k) 0 ≡ 0 → words₃ ≡ newWords t delta r says 0
-            unfolding lastRungs
-            rungs-stored z =
-                let h = all-hold rungs (λ z. omega arith, (λ z. omega arith, tt)) z in
-                all-stored (and-left (e .second) (b .second) (left _ _ (h .0))) (left _ _ (h .1 .0))
-
-            pub all-read : (k : ℕ) (x₃ : List ℕ) → LastReadAs t delta r says (measure t n (c .sum)) (e .second && b .second) (e .within) x₂ k x₃
-                → ReadAs (fieldRungs t delta r says) (newWords t delta r says 0) k x₃
-            unfolding fieldRungs
-            all-read k x₃ h =
-                let w : LastReadAs t delta r says lengths (e .second && b .second) (e .within) x₂ k x₃ = rw sum-is at h in
-                record {
-                  answered = passed _ 14 _ (λ k. k) 0 first-holds (passed _ 15 _ (λ k. k) 0 sum-holds (w .answered ∙ rungs-same));
-                  stored = λ z. w .stored z ∙ rungs-stored (sym (w .answered) ∙ z);
-                  long = w .long;
-                }
+          all-read j x₃ h =
+              let w : LastReadAs t delta r says lengths (e .second && b .second) (e .within) x₂ j x₃ = rw sum-is at h in
+              record {
+                answered = w .answered ∙ back-same ∙ climbed-on front back (λ k. k) 0 front-holds;
+                stored = λ z. w .stored z ∙ rungs-stored (sym (w .answered) ∙ z);
+                long = w .long;
+              }

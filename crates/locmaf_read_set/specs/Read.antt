@@ -21,6 +21,7 @@ use Rattle.track.specs.declared.Track.{Track}
 use Rattle.field_table.specs.declared.lines.Line.{Line}
 use Rattle.field_table.specs.declared.lines.Measure.{Measure}
 use Rattle.field_table.specs.Lines.{lines, lineFor, every, setLen, Small, lineCount, subsamplesLine}
+use Rattle.field_set.specs.declared.lawful.Tally.{Tally}
 use Rattle.field_set.specs.Lawful.{saizOk, setRules, sameIvSize, lawful}
 use Rattle.locmaf_read_said.specs.declared.said.Word.{Word}
 use Rattle.locmaf_read_said.specs.declared.said.Word.the-variants.{Omitted, Deleted, Sent}
@@ -155,6 +156,11 @@ SetReadAs F t delta r o index number after =
 abbrev pub FieldsReadAs : List Row → Track → Bool → List ℕ → List ℕ → List ℕ → ℕ → List ℕ → Type 0
 FieldsReadAs F t delta r o index number after =
     ReadAs (fieldRungs t delta r (saysIn F o index)) (newWords t delta r (saysIn F o index) 0) number after
+
+-- the first two rules: the fields before id 11 came to e, id 11 to b, and its counts to c
+unfoldable pub frontRungs : List ℕ → Cell → Cell → Tally → List Rung
+frontRungs index e b c =
+    ((e .first && (b .first && brandsIn index)) else 14) ∷ ((b .within && (c .ok && leb (c .sum) subsamplesMost)) else 15) ∷ []
 
 -- ---- the fields behind id 11, by lengths that go by m, into the words `before`
 

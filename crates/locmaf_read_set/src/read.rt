@@ -6,6 +6,7 @@ ghost use Prim.Native.Nat.{_≤_, _<_};
 ghost use lib.ListN.{length, getD, replicate};
 ghost use lib.Seq.{slice};
 ghost use Rattle.constants.specs.Maxima.{samplesMost};
+ghost use Rattle.laws.specs.Ladder.{ladder};
 ghost use Rattle.wire.specs.Form.{rows};
 ghost use Rattle.locmaf_read_index.specs.Places.{indexLen};
 ghost use Rattle.field_table.specs.Lines.{lines, spare, lineCount, setLen};
@@ -13,10 +14,11 @@ ghost use Rattle.field_set.specs.Lawful.{lawful};
 ghost use Rattle.wire.specs.declared.zigzag.Reached.the-variants.{To};
 ghost use Rattle.locmaf_read_said.specs.Said.{saysIn, scalarIn, Telling};
 ghost use Rattle.field_rules.specs.Words.{noFields, setWords};
-ghost use Rattle.locmaf_read_set.specs.Read.{countFrom, countReached, brandsIn, staysIn, marksIn, cameOf, Lent, Readable, Measured, TakenAll, SetReadAs, FieldsReadAs, LastReadAs};
+ghost use Rattle.locmaf_read_set.specs.Read.{countFrom, countReached, brandsIn, staysIn, marksIn, cameOf, Lent, Readable, Measured, TakenAll, SetReadAs, FieldsReadAs, frontRungs, LastReadAs};
 use constants::ids;
 use constants::maxima;
 use field_set::lawful;
+use field_set::lawful::Tally;
 use field_set::rules;
 use field_table::lines;
 use field_table::lines::Measure;
@@ -187,11 +189,9 @@ fn take_fields(
     let b = take_lines(form, a, o, index, gone, t, r, m, PAIRS, PAST_PAIRS, &mut *x);
     let c = lawful::tally_of(t, x, x[lines::SUBSAMPLES], count);
     let e = take_lines(form, a, o, index, gone, t, r, m, 0, PAIRS, &mut *x);
-    if !(e.first & (b.first & brands_fit(index))) {
-        return 14;
-    }
-    if !(b.within & (c.ok & (c.sum <= maxima::SUBSAMPLES))) {
-        return 15;
+    let number = front_number(index, e, b, c);
+    if number != 0 {
+        return number;
     }
     let k = Measure {
         count,
@@ -211,6 +211,20 @@ fn take_fields(
         e.within,
         x,
     )
+}
+
+// The number that the first two rules give, or 0: the fields before id 11 came to e, id 11 to b, and its counts to c.
+fn front_number(index: &[u64], e: Cell, b: Cell, c: Tally) -> u64
+    requires { ⌜ length (now index) ≡ indexLen ⌝ }
+    ensures { λ k. ⌜ k ≡ ladder (frontRungs (now (index .entry)) e b c) (λ j. j) 0 ⌝ }
+{
+    if !(e.first & (b.first & brands_fit(index))) {
+        return 14;
+    }
+    if !(b.within & (c.ok & (c.sum <= maxima::SUBSAMPLES))) {
+        return 15;
+    }
+    0
 }
 
 // The fields behind id 11, and the rules of the set: `second` and `within` say what the fields before came to.

@@ -2,7 +2,7 @@
 use native.Mathlib.Omega.{arith}
 use mathlib.Core.Path.{refl, _∙_}
 use Rattle.locmaf_read_set.proofs.ReadableLaws.{brands-marked}
-use Rattle.locmaf_read_set.proofs.RungLaws.{measured, start-long, refuse-lengths, refuse-sum, sum-measured, all-read}
+use Rattle.locmaf_read_set.proofs.RungLaws.{measured, start-long, refuse-front, sum-measured, all-read}
 use borrow.Author.Needs.{needs}
 use Rattle.locmaf_read_set.proofs.read.take_fields.Statement.{statement}
 use Rattle.locmaf_read_set.proofs.read.take_fields.Tie as tie
@@ -41,73 +41,54 @@ take-lines-requires-2 c κs =
       ),
     )
 
-brands-fit-requires : tie.Need-brands-fit-requires
-brands-fit-requires c κs =
-    let b = c .before .before .before .before .before .before .before .before in
-    b .before .before .before .before .before .before .before .before .pre .0 .marked .words
+front-number-requires : tie.Need-front-number-requires
+front-number-requires c κs =
+    let l₂ = c .before .before in
+    l₂ .before .before .before .before .before .before .before .before .before .before .before .before .before .before .pre .0 .marked .words
 
 same-length : tie.Need-same-length
 same-length c =
-    let l₂ = c .before .before .before .before .before .before in
+    let l₂ = c .before .before .before .before in
     l₂ .take-lines2 .ensures .long ∙ l₂ .before .before .before .before .before .before .take-lines .ensures .long
 
 returns : tie.Need-returns
 returns c =
-    let w = c .before .before .before in
-    let l₂ = w .before .before .before in
+    let f = c .before in
+    let l₂ = f .before .before .before in
     let u = l₂ .before .before in
     let l₁ = u .before .before .before .before in
     let p = l₁ .before .before .before .before .before .before .before .before .pre in
-    refuse-lengths _ _ _ _ _ (p .1 .1) (p .0 .words) (p .0 .lawful) (p .0 .iv) (p .1 .0) _ (p .1 .2) _ _ (l₁ .take-lines .ensures) _
-    (u .tally-of .ensures) _ _ (l₂ .take-lines2 .ensures) _ (w .brands-fit .ensures ∙ brands-marked _ _ _ _ (p .0 .marked)) (c .if1 .taken)
-
-same-length-2 : tie.Need-same-length-2
-same-length-2 c =
-    let l₂ = c .before .before .before .before .before .before .before .before .before .before in
-    l₂ .take-lines2 .ensures .long ∙ l₂ .before .before .before .before .before .before .take-lines .ensures .long
-
-returns-2 : tie.Need-returns-2
-returns-2 c =
-    let i₁ = c .before .before .before .before in
-    let w = i₁ .before .before .before in
-    let l₂ = w .before .before .before in
-    let u = l₂ .before .before in
-    let l₁ = u .before .before .before .before in
-    let p = l₁ .before .before .before .before .before .before .before .before .pre in
-    refuse-sum _ _ _ _ _ (p .1 .1) (p .0 .words) (p .0 .lawful) (p .0 .iv) (p .1 .0) _ (p .1 .2) _ _ (l₁ .take-lines .ensures) _
-    (u .tally-of .ensures) _ _ (l₂ .take-lines2 .ensures) _ (w .brands-fit .ensures ∙ brands-marked _ _ _ _ (p .0 .marked)) (i₁ .if1 .left) (c .if2 .taken)
+    refuse-front _ _ _ _ _ (p .1 .1) (p .0 .words) (p .0 .lawful) (p .0 .iv) (p .1 .0) _ (p .1 .2) _ _ (l₁ .take-lines .ensures) _
+    (u .tally-of .ensures) _ _ (l₂ .take-lines2 .ensures) _ (brands-marked _ _ _ _ (p .0 .marked)) _ (f .front-number .ensures) (c .if1 .taken)
 
 finish-set-requires : tie.Need-finish-set-requires
 finish-set-requires c κs =
-    let i₂ = c .before .before .before in
-    let i₁ = i₂ .before .before .before .before in
-    let w = i₁ .before .before .before in
-    let l₂ = w .before .before .before in
+    let i = c .before .before .before in
+    let f = i .before in
+    let l₂ = f .before .before .before in
     let u = l₂ .before .before in
     let l₁ = u .before .before .before .before in
     let p = l₁ .before .before .before .before .before .before .before .before .pre in
     let few = sum-measured _ _ _ _ _ (p .1 .1) (p .0 .words) (p .0 .lawful) (p .0 .iv) (p .1 .0) _ (p .1 .2) _ _ (l₁ .take-lines .ensures) _
-    (u .tally-of .ensures) _ _ (l₂ .take-lines2 .ensures) _ (w .brands-fit .ensures ∙ brands-marked _ _ _ _ (p .0 .marked)) (i₁ .if1 .left) (i₂ .if2 .left) in
+    (u .tally-of .ensures) _ _ (l₂ .take-lines2 .ensures) _ (brands-marked _ _ _ _ (p .0 .marked)) _ (f .front-number .ensures) (i .if1 .left) in
     (p .0, (few, l₂ .take-lines2 .ensures .long ∙ l₁ .take-lines .ensures .long ∙ start-long _ _ (p .1 .2)))
 
-same-length-3 : tie.Need-same-length-3
-same-length-3 c =
+same-length-2 : tie.Need-same-length-2
+same-length-2 c =
     let f = c .before .before in
-    let l₂ = f .before .before .before .before .before .before .before .before .before .before .before .before .before .before in
-    let l₁ = l₂ .before .before .before .before .before .before in
+    let l₁ = f .before .before .before .before .before .before .before .before .before .before .before .before .before .before in
     omega (arith, f .finish-set .ensures .long, start-long _ _ (l₁ .before .before .before .before .before .before .before .before .pre .1 .2))
 
-returns-3 : tie.Need-returns-3
-returns-3 c =
-    let i₂ = c .before .before .before .before .before .before in
-    let i₁ = i₂ .before .before .before .before in
-    let w = i₁ .before .before .before in
-    let l₂ = w .before .before .before in
+returns-2 : tie.Need-returns-2
+returns-2 c =
+    let i = c .before .before .before .before .before .before in
+    let f = i .before in
+    let l₂ = f .before .before .before in
     let u = l₂ .before .before in
     let l₁ = u .before .before .before .before in
     let p = l₁ .before .before .before .before .before .before .before .before .pre in
     all-read _ _ _ _ _ (p .1 .1) (p .0 .words) (p .0 .lawful) (p .0 .iv) (p .1 .0) _ (p .1 .2) _ _ (l₁ .take-lines .ensures) _
-    (u .tally-of .ensures) _ _ (l₂ .take-lines2 .ensures) _ (w .brands-fit .ensures ∙ brands-marked _ _ _ _ (p .0 .marked)) (i₁ .if1 .left) (i₂ .if2 .left)
+    (u .tally-of .ensures) _ _ (l₂ .take-lines2 .ensures) _ (brands-marked _ _ _ _ (p .0 .marked)) _ (f .front-number .ensures) (i .if1 .left)
     _ _ (c .before .before .finish-set .ensures)
 
 pub take-fields-spec : {M : Type 1} → statement M
@@ -119,11 +100,9 @@ take-fields-spec =
     slice-reshared-read-tally-of
     tally-of-requires
     take-lines-requires-2
-    brands-fit-requires
+    front-number-requires
     same-length
     returns
-    same-length-2
-    returns-2
     finish-set-requires
-    same-length-3
-    returns-3)
+    same-length-2
+    returns-2)
