@@ -1,7 +1,6 @@
 -- `locmaf_read_set::read::front_number` meets its contract: each return by its law of `proofs/FrontLaws.antt`. Assumes nothing.
 use denote.Ref.{now}
 use Rattle.locmaf_read_set.proofs.FrontLaws.{lengths-broken, sum-broken, front-kept}
-use borrow.Author.Needs.{needs}
 use Rattle.locmaf_read_set.proofs.read.front_number.Statement.{statement}
 use Rattle.locmaf_read_set.proofs.read.front_number.Tie as tie
 
