@@ -14,21 +14,19 @@ fn show(output: &[u8], front: usize, summed: bool) {
     hex(output, 0, front)
 }
 
-// A chunk with a wish on a table, into so much room.
-fn tell(table: &mut [u64], slot: u64, wish: u64, chunk: &[u8], out: &mut [u8], summed: bool) {
+// A chunk with a wish on a table: the number and the lengths are told, and the front's is handed back.
+fn ask(table: &mut [u64], slot: u64, wish: u64, chunk: &[u8], out: &mut [u8]) -> usize {
     let mut number = 99;
     let mut front = 99;
-    let payload = encoder::encode::encode(
-        table,
-        slot,
-        wish,
-        chunk,
-        &mut *out,
-        &mut number,
-        &mut front,
-    );
+    let payload = encoder::encode::encode(table, slot, wish, chunk, out, &mut number, &mut front);
     results::told(number, front, payload.len() as u64);
-    show(out, front as usize, summed);
+    front as usize
+}
+
+// The same with the front, into so much room.
+fn tell(table: &mut [u64], slot: u64, wish: u64, chunk: &[u8], out: &mut [u8], summed: bool) {
+    let front = ask(table, slot, wish, chunk, &mut *out);
+    show(out, front, summed);
     letter(b'\n')
 }
 

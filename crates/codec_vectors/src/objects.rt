@@ -4,20 +4,19 @@ use printing::hex;
 use printing::letter;
 use printing::line;
 
-// An object on a table, into so much room.
-fn tell(table: &mut [u64], slot: u64, object: &[u8], out: &mut [u8]) {
+// An object on a table: the number and the lengths are told, and the front's is handed back.
+fn ask(table: &mut [u64], slot: u64, object: &[u8], out: &mut [u8]) -> usize {
     let mut number = 99;
     let mut front = 99;
-    let payload = receiver::receive::receive(
-        table,
-        slot,
-        object,
-        &mut *out,
-        &mut number,
-        &mut front,
-    );
+    let payload = receiver::receive::receive(table, slot, object, out, &mut number, &mut front);
     results::told(number, front, payload.len() as u64);
-    hex(out, 0, front as usize);
+    front as usize
+}
+
+// The same with the front, into so much room.
+fn tell(table: &mut [u64], slot: u64, object: &[u8], out: &mut [u8]) {
+    let front = ask(table, slot, object, &mut *out);
+    hex(out, 0, front);
     letter(b'\n')
 }
 

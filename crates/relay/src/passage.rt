@@ -81,6 +81,28 @@ fn stopped(number: u64) -> Passage
     }
 }
 
+// The way back: an object that was made of a chunk of so many bytes, through a receiver, and the rebuilt chunk through an encoder.
+fn pass_back(
+    encoder: &mut [u64],
+    receiver: &mut [u64],
+    wish: u64,
+    chunk: usize,
+    e: Whole,
+    object: &[u8],
+    rebuilt: &mut [u8],
+) -> Passage
+    ensures { λ r. ⌜ (r .object ≡ e .end) × Counts (r .rebuilt .end) (now (rebuilt .exit)) ⌝ }
+{
+    let r = calls::received(receiver, calls::FIRST, object, &mut *rebuilt);
+    let m = r.end;
+    let same = comes_back(encoder, wish, object, r.number, &rebuilt[..m]);
+    Passage {
+        passed: counted(chunk, object, e.front, same),
+        object: e.end,
+        rebuilt: r,
+    }
+}
+
 // A chunk on the tables of an encoder and a receiver. The last two buffers are room for its object and for the rebuilt chunk.
 pub fn pass(
     encoder: &mut [u64],
@@ -97,13 +119,13 @@ pub fn pass(
         return stopped(e.number);
     }
     let n = e.end;
-    let o = &object[..n];
-    let r = calls::received(receiver, calls::FIRST, o, &mut *rebuilt);
-    let m = r.end;
-    let same = comes_back(encoder, wish, o, r.number, &rebuilt[..m]);
-    Passage {
-        passed: counted(chunk.len(), o, e.front, same),
-        object: n,
-        rebuilt: r,
-    }
+    pass_back(
+        encoder,
+        receiver,
+        wish,
+        chunk.len(),
+        e,
+        &object[..n],
+        rebuilt,
+    )
 }

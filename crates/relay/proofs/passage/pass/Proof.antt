@@ -19,26 +19,14 @@ same-length-2 c = search needs
 returns : tie.Need-returns
 returns c = let e = c .stopped .ensures in (rw (e .0) (search needs, refl), rw (e .1) (search needs, refl))
 
-slice-reshare-prefix-o : tie.Need-slice-reshare-prefix-o
-slice-reshare-prefix-o c = search needs
+slice-reshare-prefix-pass-back : tie.Need-slice-reshare-prefix-pass-back
+slice-reshare-prefix-pass-back c = search needs
 
-slice-aggregate-o : tie.Need-slice-aggregate-o
-slice-aggregate-o c = search needs
+slice-aggregate-pass-back : tie.Need-slice-aggregate-pass-back
+slice-aggregate-pass-back c = search needs
 
-received-requires : tie.Need-received-requires
-received-requires c κs = search needs
-
-slice-reshare-prefix-comes-back : tie.Need-slice-reshare-prefix-comes-back
-slice-reshare-prefix-comes-back c = search needs
-
-slice-aggregate-comes-back : tie.Need-slice-aggregate-comes-back
-slice-aggregate-comes-back c = search needs
-
-comes-back-requires : tie.Need-comes-back-requires
-comes-back-requires c κs = search needs
-
-counted-requires : tie.Need-counted-requires
-counted-requires c κs = search needs
+pass-back-requires : tie.Need-pass-back-requires
+pass-back-requires c κs = search needs
 
 same-length-3 : tie.Need-same-length-3
 same-length-3 c = search needs
@@ -53,7 +41,9 @@ same-length-6 : tie.Need-same-length-6
 same-length-6 c = search needs
 
 returns-2 : tie.Need-returns-2
-returns-2 c = search needs
+returns-2 c =
+    let r = c .before .before .before .before .before .before in
+    (rw (r .pass-back .ensures .0) (r .before .before .before .before .before .before .before .before .before .before .before .encoded .ensures), r .pass-back .ensures .1)
 
 pub pass-spec : {M : Type 1} → statement M
 pass-spec =
@@ -64,13 +54,9 @@ pass-spec =
     same-length
     same-length-2
     returns
-    slice-reshare-prefix-o
-    slice-aggregate-o
-    received-requires
-    slice-reshare-prefix-comes-back
-    slice-aggregate-comes-back
-    comes-back-requires
-    counted-requires
+    slice-reshare-prefix-pass-back
+    slice-aggregate-pass-back
+    pass-back-requires
     same-length-3
     same-length-4
     same-length-5
