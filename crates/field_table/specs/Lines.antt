@@ -124,6 +124,29 @@ unfoldable pub lineNumber : ℕ → List Line → ℕ
 lineNumber id [] = 0
 lineNumber id (l ∷ ls) = cond (eqb (l .id) id) 0 (suc (lineNumber id ls))
 
+-- the numbers of the lines that definitions and laws name, as `order` of the code has them
+abbrev pub offsetsLine : ℕ
+offsetsLine = 4
+
+abbrev pub ivsLine : ℕ
+ivsLine = 8
+
+-- id 11's, by whose values ids 13 and 15 go
+abbrev pub subsamplesLine : ℕ
+subsamplesLine = 9
+
+abbrev pub firstFlagsLine : ℕ
+firstFlagsLine = 10
+
+abbrev pub clearLine : ℕ
+clearLine = 11
+
+abbrev pub protectedLine : ℕ
+protectedLine = 12
+
+abbrev pub ivSizeLine : ℕ
+ivSizeLine = 13
+
 -- the marks of the fields in the words of a set, in the order of the table
 unfoldable pub marksOf : List ℕ → List ℕ
 marksOf w = map (λ l. getD w (l .place) 0) lines
@@ -162,28 +185,3 @@ pub record Small (m : Measure) : Type 0 where
   pub count : m .count ≤ samplesMost
   pub ivs : m .ivs ≤ 2
   pub sum : m .sum ≤ 65536
-
--- ==== What only proofs need
-
--- the numbers of the lines that laws name, as `order` of the code has them
-abbrev pub offsetsLine : ℕ
-offsetsLine = 4
-
-abbrev pub ivsLine : ℕ
-ivsLine = 8
-
--- id 11's, by whose values ids 13 and 15 go
-abbrev pub subsamplesLine : ℕ
-subsamplesLine = 9
-
-abbrev pub firstFlagsLine : ℕ
-firstFlagsLine = 10
-
-abbrev pub clearLine : ℕ
-clearLine = 11
-
-abbrev pub protectedLine : ℕ
-protectedLine = 12
-
-abbrev pub ivSizeLine : ℕ
-ivSizeLine = 13

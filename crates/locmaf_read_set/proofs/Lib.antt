@@ -3,7 +3,7 @@ pub mod LeafLaws
 pub mod ReadableLaws
 pub mod TakingLaws
 pub mod StandingLaws
-pub mod FrontLaws
+pub mod FirstLaws
 pub mod LastLaws
 pub mod RungLaws
 pub mod OrderLaws

@@ -31,7 +31,7 @@ use Rattle.field_rules.specs.Fields.{numbers, Held, wordsOf}
 use Rattle.locmaf_read_field.specs.Cells.{Came}
 use Rattle.field_rules.proofs.RoomLaws.{wanted-room}
 use Rattle.field_rules.specs.Words.{measure, storeAll, setWords, noFields}
-use Rattle.locmaf_read_set.specs.Read.{brandsFit, brandsIn, marks, newWords, countReached, countOf, cameOf, subsamples, came, fieldOf, fieldRungs, frontRungs, lastLines, lastWords, lastRungs, Measured, TakenAll, ReadAs, LastReadAs}
+use Rattle.locmaf_read_set.specs.Read.{brandsFit, brandsIn, marks, newWords, countReached, countOf, cameOf, subsamples, came, fieldOf, fieldRungs, firstRungs, lastLines, lastWords, lastRungs, Measured, TakenAll, ReadAs, LastReadAs}
 use Rattle.field_rules.proofs.SetLaws.{eleven-for, Fits, AllFit, words-length, stored-words, eleven-values, parted}
 use Rattle.locmaf_read_set.proofs.CameLaws.{came-early, second-eleven, came-length}
 use Rattle.locmaf_read_set.proofs.LastLaws.{refused, late-all}
@@ -261,25 +261,25 @@ module _ (t : Track) (delta : Bool) (r : List ℕ) (says : Says) (n : ℕ) (en :
             ∙ first-tests (e .first) (b .first) (brandsIn index)
 
         -- so both are what code asks
-        front-same : numberOf (frontRungs index e b c) ≡ numberOf front
-        unfolding frontRungs
+        front-same : numberOf (firstRungs index e b c) ≡ numberOf front
+        unfolding firstRungs
         front-same =
             rw first-test
             (agree (λ k. k) ((_ else 14) ∷ []) ((_ else 15) ∷ []) ((_ else 15) ∷ []) 0 0
             (λ h. ap (λ (z : Bool). numberOf ((z else 15) ∷ [])) (sym (sum-test (and-left _ _ (and-right (e .first) _ (h .0)))))))
 
-        pub refuse-front : (k : ℕ) → k ≡ numberOf (frontRungs index e b c) → (k ≡ 0 → ⊥) → ReadAs (fieldRungs t delta r says) (newWords t delta r says 0) k x₂
+        pub refuse-front : (k : ℕ) → k ≡ numberOf (firstRungs index e b c) → (k ≡ 0 → ⊥) → ReadAs (fieldRungs t delta r says) (newWords t delta r says 0) k x₂
         unfolding fieldRungs
         refuse-front k q n =
             refused _ _ k x₂ n (q ∙ front-same ∙ stopped-on front back (λ k. k) 0 (λ z. n (q ∙ front-same ∙ z))) front-long
 
-        module _ (k : ℕ) (ek : k ≡ numberOf (frontRungs index e b c)) (z : k ≡ 0) where
+        module _ (k : ℕ) (ek : k ≡ numberOf (firstRungs index e b c)) (z : k ≡ 0) where
           front-holds : Hold front
           front-holds = all-hold front (λ z. omega arith, (λ z. omega arith, tt)) (sym front-same ∙ sym ek ∙ z)
 
           tests : ((e .first && (b .first && brandsIn index)) ≡ true) × (((b .within && (c .ok && leb (c .sum) subsamplesMost)) ≡ true) × Unit {0})
-          unfolding frontRungs
-          tests = all-hold (frontRungs index e b c) (λ z. omega arith, (λ z. omega arith, tt)) (sym ek ∙ z)
+          unfolding firstRungs
+          tests = all-hold (firstRungs index e b c) (λ z. omega arith, (λ z. omega arith, tt)) (sym ek ∙ z)
 
           e-first : e .first ≡ true
           e-first = and-left (e .first) _ (tests .0)

@@ -158,8 +158,8 @@ FieldsReadAs F t delta r o index number after =
     ReadAs (fieldRungs t delta r (saysIn F o index)) (newWords t delta r (saysIn F o index) 0) number after
 
 -- the first two rules: the fields before id 11 came to e, id 11 to b, and its counts to c
-unfoldable pub frontRungs : List ℕ → Cell → Cell → Tally → List Rung
-frontRungs index e b c =
+unfoldable pub firstRungs : List ℕ → Cell → Cell → Tally → List Rung
+firstRungs index e b c =
     ((e .first && (b .first && brandsIn index)) else 14) ∷ ((b .within && (c .ok && leb (c .sum) subsamplesMost)) else 15) ∷ []
 
 -- ---- the fields behind id 11, by lengths that go by m, into the words `before`

@@ -14,7 +14,7 @@ ghost use Rattle.field_set.specs.Lawful.{lawful};
 ghost use Rattle.wire.specs.declared.zigzag.Reached.the-variants.{To};
 ghost use Rattle.locmaf_read_said.specs.Said.{saysIn, scalarIn, Telling};
 ghost use Rattle.field_rules.specs.Words.{noFields, setWords};
-ghost use Rattle.locmaf_read_set.specs.Read.{countFrom, countReached, brandsIn, staysIn, marksIn, cameOf, Lent, Readable, Measured, TakenAll, SetReadAs, FieldsReadAs, frontRungs, LastReadAs};
+ghost use Rattle.locmaf_read_set.specs.Read.{countFrom, countReached, brandsIn, staysIn, marksIn, cameOf, Lent, Readable, Measured, TakenAll, SetReadAs, FieldsReadAs, firstRungs, LastReadAs};
 use constants::ids;
 use constants::maxima;
 use field_set::lawful;
@@ -189,7 +189,7 @@ fn take_fields(
     let b = take_lines(form, a, o, index, gone, t, r, m, PAIRS, PAST_PAIRS, &mut *x);
     let c = lawful::tally_of(t, x, x[lines::SUBSAMPLES], count);
     let e = take_lines(form, a, o, index, gone, t, r, m, 0, PAIRS, &mut *x);
-    let number = front_number(index, e, b, c);
+    let number = first_number(index, e, b, c);
     if number != 0 {
         return number;
     }
@@ -214,9 +214,9 @@ fn take_fields(
 }
 
 // The number that the first two rules give, or 0: the fields before id 11 came to e, id 11 to b, and its counts to c.
-fn front_number(index: &[u64], e: Cell, b: Cell, c: Tally) -> u64
+fn first_number(index: &[u64], e: Cell, b: Cell, c: Tally) -> u64
     requires { ⌜ length (now index) ≡ indexLen ⌝ }
-    ensures { λ k. ⌜ k ≡ ladder (frontRungs (now (index .entry)) e b c) (λ j. j) 0 ⌝ }
+    ensures { λ k. ⌜ k ≡ ladder (firstRungs (now (index .entry)) e b c) (λ j. j) 0 ⌝ }
 {
     if !(e.first & (b.first & brands_fit(index))) {
         return 14;

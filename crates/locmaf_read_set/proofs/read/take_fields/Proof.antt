@@ -41,8 +41,8 @@ take-lines-requires-2 c κs =
       ),
     )
 
-front-number-requires : tie.Need-front-number-requires
-front-number-requires c κs =
+first-number-requires : tie.Need-first-number-requires
+first-number-requires c κs =
     let l₂ = c .before .before in
     l₂ .before .before .before .before .before .before .before .before .before .before .before .before .before .before .pre .0 .marked .words
 
@@ -59,7 +59,7 @@ returns c =
     let l₁ = u .before .before .before .before in
     let p = l₁ .before .before .before .before .before .before .before .before .pre in
     refuse-front _ _ _ _ _ (p .1 .1) (p .0 .words) (p .0 .lawful) (p .0 .iv) (p .1 .0) _ (p .1 .2) _ _ (l₁ .take-lines .ensures) _
-    (u .tally-of .ensures) _ _ (l₂ .take-lines2 .ensures) _ (brands-marked _ _ _ _ (p .0 .marked)) _ (f .front-number .ensures) (c .if1 .taken)
+    (u .tally-of .ensures) _ _ (l₂ .take-lines2 .ensures) _ (brands-marked _ _ _ _ (p .0 .marked)) _ (f .first-number .ensures) (c .if1 .taken)
 
 finish-set-requires : tie.Need-finish-set-requires
 finish-set-requires c κs =
@@ -70,7 +70,7 @@ finish-set-requires c κs =
     let l₁ = u .before .before .before .before in
     let p = l₁ .before .before .before .before .before .before .before .before .pre in
     let few = sum-measured _ _ _ _ _ (p .1 .1) (p .0 .words) (p .0 .lawful) (p .0 .iv) (p .1 .0) _ (p .1 .2) _ _ (l₁ .take-lines .ensures) _
-    (u .tally-of .ensures) _ _ (l₂ .take-lines2 .ensures) _ (brands-marked _ _ _ _ (p .0 .marked)) _ (f .front-number .ensures) (i .if1 .left) in
+    (u .tally-of .ensures) _ _ (l₂ .take-lines2 .ensures) _ (brands-marked _ _ _ _ (p .0 .marked)) _ (f .first-number .ensures) (i .if1 .left) in
     (p .0, (few, l₂ .take-lines2 .ensures .long ∙ l₁ .take-lines .ensures .long ∙ start-long _ _ (p .1 .2)))
 
 same-length-2 : tie.Need-same-length-2
@@ -88,7 +88,7 @@ returns-2 c =
     let l₁ = u .before .before .before .before in
     let p = l₁ .before .before .before .before .before .before .before .before .pre in
     all-read _ _ _ _ _ (p .1 .1) (p .0 .words) (p .0 .lawful) (p .0 .iv) (p .1 .0) _ (p .1 .2) _ _ (l₁ .take-lines .ensures) _
-    (u .tally-of .ensures) _ _ (l₂ .take-lines2 .ensures) _ (brands-marked _ _ _ _ (p .0 .marked)) _ (f .front-number .ensures) (i .if1 .left)
+    (u .tally-of .ensures) _ _ (l₂ .take-lines2 .ensures) _ (brands-marked _ _ _ _ (p .0 .marked)) _ (f .first-number .ensures) (i .if1 .left)
     _ _ (c .before .before .finish-set .ensures)
 
 pub take-fields-spec : {M : Type 1} → statement M
@@ -100,7 +100,7 @@ take-fields-spec =
     slice-reshared-read-tally-of
     tally-of-requires
     take-lines-requires-2
-    front-number-requires
+    first-number-requires
     same-length
     returns
     finish-set-requires

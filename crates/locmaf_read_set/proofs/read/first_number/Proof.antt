@@ -1,8 +1,8 @@
--- `locmaf_read_set::read::front_number` meets its contract: each return by its law of `proofs/FrontLaws.antt`. Assumes nothing.
+-- `locmaf_read_set::read::first_number` meets its contract: each return by its law of `proofs/FirstLaws.antt`. Assumes nothing.
 use denote.Ref.{now}
-use Rattle.locmaf_read_set.proofs.FrontLaws.{lengths-broken, sum-broken, front-kept}
-use Rattle.locmaf_read_set.proofs.read.front_number.Statement.{statement}
-use Rattle.locmaf_read_set.proofs.read.front_number.Tie as tie
+use Rattle.locmaf_read_set.proofs.FirstLaws.{lengths-broken, sum-broken, both-kept}
+use Rattle.locmaf_read_set.proofs.read.first_number.Statement.{statement}
+use Rattle.locmaf_read_set.proofs.read.first_number.Tie as tie
 
 brands-fit-requires : tie.Need-brands-fit-requires
 brands-fit-requires c κs = c .before .pre
@@ -25,7 +25,7 @@ returns-3 c =
     let i = c .before .before .before .before in
     let w = i .before .before .before in
     let a = w .before .before .args in
-    front-kept (now (a .index)) (a .e) (a .b) (a .c) _ (w .brands-fit .ensures) (i .if1 .left) (c .if2 .left)
+    both-kept (now (a .index)) (a .e) (a .b) (a .c) _ (w .brands-fit .ensures) (i .if1 .left) (c .if2 .left)
 
-pub front-number-spec : {M : Type 1} → statement M
-front-number-spec = tie.close (tie.spec brands-fit-requires returns returns-2 returns-3)
+pub first-number-spec : {M : Type 1} → statement M
+first-number-spec = tie.close (tie.spec brands-fit-requires returns returns-2 returns-3)
