@@ -1,4 +1,5 @@
 pub mod FormLaws
+pub mod ShortLaws
 pub mod VarintLaws
 pub mod Reading
 pub mod Writing

@@ -5,7 +5,7 @@
 use Prim.Native.Nat.{ℕ, _+_, _*_, _^_, max, suc}
 use mathlib.Core.Bool.{cond}
 use mathlib.Core.List.{List, [], _∷_}
-use lib.Dec.{ltb}
+use lib.Dec.{eqb, ltb}
 use Rattle.wire.specs.declared.form.Row.{Row}
 use Rattle.wire.specs.declared.form.Form.{Form}
 use Rattle.wire.specs.declared.form.Form.the-variants.{Rfc9000}
@@ -50,3 +50,19 @@ longest (r ∷ rs) = max (suc (r .tail)) (longest rs)
 abbrev pub onFound : {A : Type 0} → Found → (Row → A) → A → A
 onFound (In r) f z = f r
 onFound Past f z = z
+
+-- ==== What only mirrors the code
+
+-- how many first bytes a table's first row has, where n bytes follow each
+abbrev firstWidth : ℕ → List Row → ℕ
+firstWidth n [] = 0
+firstWidth n (r ∷ rs) = cond (eqb (r .tail) n) (r .width) 0
+
+-- how many first bytes, from 0 on, are varints of one byte
+unfoldable pub ones : List Row → ℕ
+ones F = firstWidth 0 F
+
+-- how many after those begin a varint of two bytes
+unfoldable pub twos : List Row → ℕ
+twos [] = 0
+twos (r ∷ rs) = cond (eqb (r .tail) 0) (firstWidth 1 rs) 0

@@ -1,8 +1,9 @@
 -- The bytes of a varint, and what reading one finds, over any form's table.
-use Prim.Native.Nat.{ℕ, suc, _+_, _-_, _*_, _/_, _^_}
+use Prim.Native.Nat.{ℕ, suc, _+_, _-_, _*_, _/_, _^_, _≤_, _<_}
 use mathlib.Core.Bool.{cond}
+use mathlib.Core.Path.{_≡_}
 use mathlib.Core.List.{List, [], _∷_}
-use lib.ListN.{length, take}
+use lib.ListN.{length, getD, take}
 use lib.Seq.{slice}
 use lib.Dec.{leb}
 use Rattle.laws.specs.Bytes.{be, de}
@@ -49,3 +50,9 @@ shift at Cut = Cut
 -- the varint from the place at, that ends before the place end
 unfoldable pub readAt : List Row → List ℕ → ℕ → ℕ → Got
 readAt F s at end = cond (leb end (length s)) (shift at (readF F (slice at end s))) Cut
+
+-- b is the byte at the place at, which is before the place end
+pub record Begins (s : List ℕ) (at end b : ℕ) : Type 0 where
+  pub before : at < end
+  pub inside : end ≤ length s
+  pub first : b ≡ getD s at 0

@@ -2,7 +2,7 @@
 // Letters: `b` a number, `v` a number.
 ghost use mathlib.Core.Path.{_≡_};
 ghost use Prim.Native.Nat.{suc};
-ghost use Rattle.wire.specs.Form.{rows, byFirst, byValue, limit, row, longest};
+ghost use Rattle.wire.specs.Form.{rows, byFirst, byValue, limit, row, longest, ones, twos};
 
 // The form of a track's varints. Each function of this crate takes one, so that a second form is a second table.
 pub enum Form {
@@ -97,5 +97,23 @@ pub fn most(form: Form) -> usize
 {
     match form {
         Form::Rfc9000 => 8,
+    }
+}
+
+// How many first bytes, from 0 on, are varints of one byte: each is its own value.
+pub fn ones(form: Form) -> u64
+    ensures { λ r. ⌜ r ≡ ones (rows form) ⌝ }
+{
+    match form {
+        Form::Rfc9000 => 64,
+    }
+}
+
+// How many first bytes after those begin a varint of two bytes.
+pub fn twos(form: Form) -> u64
+    ensures { λ r. ⌜ r ≡ twos (rows form) ⌝ }
+{
+    match form {
+        Form::Rfc9000 => 64,
     }
 }

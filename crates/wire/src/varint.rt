@@ -6,8 +6,8 @@ ghost use lib.ListN.{length};
 ghost use lib.Seq.{slice, sets};
 ghost use Rattle.laws.specs.Bytes.{be, de};
 ghost use Rattle.laws.specs.Writes.{Wrote};
-ghost use Rattle.wire.specs.Form.{rows};
-ghost use Rattle.wire.specs.Varint.{encode, sizeOf, readAt};
+ghost use Rattle.wire.specs.Form.{rows, ones, twos};
+ghost use Rattle.wire.specs.Varint.{encode, sizeOf, readAt, Begins};
 use crate::form::Form;
 use crate::form::Found;
 
@@ -38,17 +38,25 @@ fn join(s: &[u8], from: usize, to: usize, acc: u64) -> u64
     v
 }
 
-// The varint from the place at, that ends before the place end: any bytes and any places are taken.
-pub fn read(form: Form, s: &[u8], at: usize, end: usize) -> Got
+// The varint of two bytes, of which b is the first.
+fn two_at(form: Form, s: &[u8], at: usize, end: usize, b: u64) -> Got
+    requires { ⌜ Begins (now s) at end b ⌝ }
+    requires { ⌜ (ones (rows form) ≤ b) × (b < ones (rows form) + twos (rows form)) ⌝ }
     ensures { λ r. ⌜ r ≡ readAt (rows form) (now (s .entry)) at end ⌝ }
 {
-    if s.len() < end {
+    if end <= at + 1 {
         return Got::Cut;
     }
-    if end <= at {
-        return Got::Cut;
-    }
-    let b = wide(s[at]);
+    let above = b - crate::form::ones(form);
+    let low = wide(s[at + 1]);
+    Got::Value(above * 256 + low, at + 2)
+}
+
+// The varint of which b is the first byte, by the row that this is in.
+fn more_at(form: Form, s: &[u8], at: usize, end: usize, b: u64) -> Got
+    requires { ⌜ Begins (now s) at end b ⌝ }
+    ensures { λ r. ⌜ r ≡ readAt (rows form) (now (s .entry)) at end ⌝ }
+{
     let f = crate::form::by_first(form, b);
     let Found::In(r) = f else {
         return Got::Cut;
@@ -61,6 +69,28 @@ pub fn read(form: Form, s: &[u8], at: usize, end: usize) -> Got
     }
     let v = join(s, from, from + n, b - mark);
     Got::Value(v, from + n)
+}
+
+// The varint from the place at, that ends before the place end: any bytes and any places are taken. Most have one byte and nearly all others two,
+// so these are asked for before the table.
+pub fn read(form: Form, s: &[u8], at: usize, end: usize) -> Got
+    ensures { λ r. ⌜ r ≡ readAt (rows form) (now (s .entry)) at end ⌝ }
+{
+    if s.len() < end {
+        return Got::Cut;
+    }
+    if end <= at {
+        return Got::Cut;
+    }
+    let b = wide(s[at]);
+    let ones = crate::form::ones(form);
+    if b < ones {
+        return Got::Value(b, at + 1);
+    }
+    if b < ones + crate::form::twos(form) {
+        return two_at(form, s, at, end, b);
+    }
+    more_at(form, s, at, end, b)
 }
 
 // The bytes that the shortest varint of v takes; a number too wide counts as the longest.
@@ -90,8 +120,19 @@ fn put_low(out: &mut [u8], at: usize, n: usize, v: u64) -> u64
     x
 }
 
-// Stores the shortest varint of v at the place at, and gives the place after it. Nothing is stored of a number too wide.
-pub fn put(form: Form, out: &mut [u8], at: usize, v: u64) -> usize
+// Stores the varint of v, which has two bytes.
+fn put_two(form: Form, out: &mut [u8], at: usize, v: u64) -> usize
+    requires { ⌜ (ones (rows form) ≤ v) × (v < twos (rows form) * 256) ⌝ }
+    requires { ⌜ at + length (encode (rows form) v) ≤ length (now out) ⌝ }
+    ensures { λ r. ⌜ Wrote (now (out .entry)) at (encode (rows form) v) (now (out .exit)) r ⌝ }
+{
+    out[at + 1] = (v % 256) as u8;
+    out[at] = (crate::form::ones(form) + v / 256) as u8;
+    at + 2
+}
+
+// Stores the shortest varint of v by its row. Nothing is stored of a number too wide.
+fn put_more(form: Form, out: &mut [u8], at: usize, v: u64) -> usize
     requires { ⌜ at + length (encode (rows form) v) ≤ length (now out) ⌝ }
     ensures { λ r. ⌜ Wrote (now (out .entry)) at (encode (rows form) v) (now (out .exit)) r ⌝ }
 {
@@ -104,4 +145,19 @@ pub fn put(form: Form, out: &mut [u8], at: usize, v: u64) -> usize
     let x = put_low(&mut *out, at + 1, n, v);
     out[at] = (mark + x) as u8;
     at + 1 + n
+}
+
+// Stores the shortest varint of v at the place at, and gives the place after it. Nothing is stored of a number too wide.
+pub fn put(form: Form, out: &mut [u8], at: usize, v: u64) -> usize
+    requires { ⌜ at + length (encode (rows form) v) ≤ length (now out) ⌝ }
+    ensures { λ r. ⌜ Wrote (now (out .entry)) at (encode (rows form) v) (now (out .exit)) r ⌝ }
+{
+    if v < crate::form::ones(form) {
+        out[at] = v as u8;
+        return at + 1;
+    }
+    if v < crate::form::twos(form) * 256 {
+        return put_two(form, out, at, v);
+    }
+    put_more(form, out, at, v)
 }

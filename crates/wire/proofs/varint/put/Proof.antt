@@ -1,99 +1,102 @@
--- `wire::varint::put` meets its contract, by the row that `by_value` found and the laws of `proofs/Writing.antt`. Assumes nothing.
+-- `wire::varint::put` meets its contract: one byte by the laws of `proofs/ShortLaws.antt`, the others by their functions. Assumes nothing.
 use borrow.Author.Needs.{needs}
-use Prim.Native.Nat.{_+_, _≤_}
 use native.Mathlib.Omega.{arith}
-use mathlib.Core.Path.{_≡_, sym, _∙_}
-use lib.ListN.{length}
 use denote.Ref.{now}
-use Rattle.wire.specs.declared.form.Found.the-variants.{In}
-use Rattle.wire.specs.Form.{rows, byValue}
-use Rattle.wire.proofs.FormLaws.{Held, by-value, lawful}
-use Rattle.wire.proofs.Writing.{wrote-past, room-in, wrote-in}
+use Rattle.wire.specs.Form.{rows}
+use Rattle.wire.proofs.FormLaws.{lawful}
+use Rattle.wire.proofs.ShortLaws.{short-bytes, room-one, wrote-one}
 use Rattle.wire.proofs.varint.put.Statement.{statement}
 use Rattle.wire.proofs.varint.put.Tie as tie
+use Rattle.wire.proofs.varint.put.Reads as reads
+use Rattle.wire.proofs.varint.put.Lts as lts
+use Rattle.wire.proofs.form.ones.Reads as ones-reads
+use Rattle.wire.proofs.form.twos.Reads as twos-reads
+use Rattle.wire.proofs.varint.put_more.Reads as put-more-reads
+use Rattle.wire.proofs.varint.put_two.Reads as put-two-reads
 
-by-value-requires : tie.Need-by-value-requires
-by-value-requires c κs = search needs
+-- src/varint.rt:154:12
+ones-requires : tie.Need-ones-requires
+ones-requires c κs = search needs
 
-enum-known-f : tie.Need-enum-known-f
-enum-known-f c = search needs
-
-enum-told : tie.Need-enum-told
-enum-told c = search needs
-
-returns : tie.Need-returns
-returns c =
-    let b = c .before .before .before .before in
-    let a = b .args in
-    wrote-past (rows (a .form)) (a .v) (now (a .out)) (a .at) (b .pre) (sym (c .before .before .by-value .ensures) ∙ c .enum-told .given .1)
-
-add-put-low : tie.Need-add-put-low
-add-put-low c = search needs
-
--- the row that was found, and that there is room for what is written in it
-row-of : (c : tie.After-known-told)
-    → let a = c .before .before .before .before .before .args in byValue (rows (a .form)) (a .v) ≡ In (c .before .f .given .0 .0)
-row-of c = sym (c .before .before .before .by-value .ensures) ∙ c .before .f .given .1
-
-room-of : (c : tie.After-known-told)
-    → let a = c .before .before .before .before .before .args in a .at + 1 + c .before .f .given .0 .0 .tail ≤ length (now (a .out))
-room-of c =
-    let b = c .before .before .before .before .before in
-    let a = b .args in
-    room-in (rows (a .form)) (a .v) (now (a .out)) (a .at) (b .pre) _ (row-of c)
-
-held-of : (c : tie.After-known-told)
-    → let a = c .before .before .before .before .before .args in Held (rows (a .form)) 0 (a .v) (c .before .f .given .0 .0)
-held-of c =
-    let a = c .before .before .before .before .before .args in by-value (rows (a .form)) 0 (a .v) _ (lawful (a .form)) (row-of c)
-
-put-low-requires : tie.Need-put-low-requires
-put-low-requires c κs = room-of (c .before)
-
-add-out : tie.Need-add-out
-add-out c =
-    let h = held-of (c .before .before .before .before) in
-    omega (arith, h .byte, h .top, c .before .before .put-low .ensures .1)
-
+-- src/varint.rt:155:19
 cast-out : tie.Need-cast-out
 cast-out c =
-    let h = held-of (c .before .before .before .before) in
-    omega (arith, h .byte, h .top, c .before .before .put-low .ensures .1)
+    let b = c .before .before .before in
+    omega (arith, c .if1 .taken, c .before .ones .ensures, short-bytes (rows (b .args .form)) (lawful (b .args .form)))
 
+-- src/varint.rt:155:9
 slice-write-out : tie.Need-slice-write-out
-slice-write-out c = omega (arith, room-of (c .before .before .before .before))
+slice-write-out c =
+    let b = c .before .before .before in
+    let a = b .args in
+    room-one (rows (a .form)) (lawful (a .form)) (a .v) (now (a .out)) (a .at) (b .pre) (omega (arith, c .if1 .taken, c .before .ones .ensures))
 
+-- src/varint.rt:156:16
 add-result : tie.Need-add-result
 add-result c = search needs
 
-add-result-2 : tie.Need-add-result-2
-add-result-2 c = omega (arith, room-of (c .before .before .before .before))
-
+-- src/varint.rt:156:9
 same-length : tie.Need-same-length
 same-length c = search needs
 
-returns-2 : tie.Need-returns-2
-returns-2 c =
-    let m = c .before .before .before .before in
-    let b = m .before .before .before .before .before in
+-- src/varint.rt:156:9
+returns : tie.Need-returns
+returns c =
+    let b = c .before .before .before in
     let a = b .args in
-    let p = c .before .before .put-low in
-    wrote-in (rows (a .form)) (a .v) (now (a .out)) (a .at) (b .pre) _ (row-of m) _ _ (p .ensures .0) (p .ensures .1)
+    wrote-one (rows (a .form)) (lawful (a .form)) (a .v) (now (a .out)) (a .at) (b .pre) (omega (arith, c .if1 .taken, c .before .ones .ensures))
+
+-- src/varint.rt:158:12
+twos-requires : tie.Need-twos-requires
+twos-requires c κs = search needs
+
+-- src/varint.rt:158:12
+mul-if2 : tie.Need-mul-if2
+mul-if2 c =
+    let a = c .before .before .before .before .args in
+    omega (arith, c .twos .ensures, short-bytes (rows (a .form)) (lawful (a .form)))
+
+-- src/varint.rt:159:9
+put-two-requires : tie.Need-put-two-requires
+put-two-requires c κs =
+    let i = c .before .before .before in
+    ((omega (arith, i .if1 .left, i .before .ones .ensures), omega (arith, c .before .if2 .taken, c .before .before .twos .ensures)), i .before .before .before .pre)
+
+-- src/varint.rt:159:9
+same-length-2 : tie.Need-same-length-2
+same-length-2 c = search needs
+
+-- src/varint.rt:159:9
+returns-2 : tie.Need-returns-2
+returns-2 c = search needs
+
+-- src/varint.rt:161:5
+put-more-requires : tie.Need-put-more-requires
+put-more-requires c κs = search needs
+
+-- src/varint.rt:150:1
+same-length-3 : tie.Need-same-length-3
+same-length-3 c = search needs
+
+-- src/varint.rt:150:1
+returns-3 : tie.Need-returns-3
+returns-3 c = search needs
 
 pub put-spec : {M : Type 1} → statement M
 put-spec =
     tie.close
     (tie.spec
-    by-value-requires
-    enum-known-f
-    enum-told
-    returns
-    add-put-low
-    put-low-requires
-    add-out
+    ones-requires
     cast-out
     slice-write-out
     add-result
-    add-result-2
     same-length
-    returns-2)
+    returns
+    twos-requires
+    mul-if2
+    put-two-requires
+    same-length-2
+    returns-2
+    put-more-requires
+    same-length-3
+    returns-3)

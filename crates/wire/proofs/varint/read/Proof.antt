@@ -1,94 +1,90 @@
--- `wire::varint::read` meets its contract, by the laws of `proofs/Reading.antt` and those of the form. Assumes nothing.
+-- `wire::varint::read` meets its contract: what is no varint and one byte by the laws, the others by their functions. Assumes nothing.
 use borrow.Author.Needs.{needs}
-use Prim.Native.Nat.{zero-le}
 use native.Mathlib.Omega.{arith}
-use native.Mathlib.Nat.{add-sub-cancel-left}
-use mathlib.Core.Path.{_≡_, sym, _∙_}
 use denote.Ref.{now}
-use Rattle.wire.specs.declared.form.Found.the-variants.{In}
-use Rattle.wire.specs.Form.{rows, byFirst}
-use Rattle.wire.proofs.FormLaws.{Begun, by-first, lawful}
-use Rattle.wire.proofs.Reading.{outside, empty, missing, short, found}
+use Rattle.wire.specs.Form.{rows}
+use Rattle.wire.proofs.FormLaws.{lawful}
+use Rattle.wire.proofs.Reading.{outside, empty}
+use Rattle.wire.proofs.ShortLaws.{short-bytes, read-one}
 use Rattle.wire.proofs.varint.read.Statement.{statement}
 use Rattle.wire.proofs.varint.read.Tie as tie
+use Rattle.wire.proofs.varint.read.Reads as reads
+use Rattle.wire.proofs.varint.read.Lts as lts
+use Rattle.wire.proofs.form.ones.Reads as ones-reads
+use Rattle.wire.proofs.form.twos.Reads as twos-reads
+use Rattle.wire.proofs.varint.more_at.Reads as more-at-reads
+use Rattle.wire.proofs.varint.two_at.Reads as two-at-reads
+use Rattle.wire.proofs.varint.wide.Reads as wide-reads
 
+-- src/varint.rt:79:9
 returns : tie.Need-returns
 returns c = let a = c .before .before .args in outside (rows (a .form)) (now (a .s)) (a .at) _ (c .if1 .taken)
 
+-- src/varint.rt:82:9
 returns-2 : tie.Need-returns-2
 returns-2 c =
     let a = c .before .before .before .args in empty (rows (a .form)) (now (a .s)) _ _ (c .before .if1 .left) (c .if2 .taken)
 
+-- src/varint.rt:84:18
 shared-slice-read-wide : tie.Need-shared-slice-read-wide
 shared-slice-read-wide c = search needs
 
+-- src/varint.rt:84:9
 wide-requires : tie.Need-wide-requires
 wide-requires c κs = search needs
 
-by-first-requires : tie.Need-by-first-requires
-by-first-requires c κs = search needs
+-- src/varint.rt:85:9
+ones-requires : tie.Need-ones-requires
+ones-requires c κs = search needs
 
-enum-known-f : tie.Need-enum-known-f
-enum-known-f c = search needs
+-- src/varint.rt:87:30
+add-t11 : tie.Need-add-t11
+add-t11 c = search needs
 
-enum-told : tie.Need-enum-told
-enum-told c = search needs
-
+-- src/varint.rt:87:9
 returns-3 : tie.Need-returns-3
 returns-3 c =
-    let w = c .before .before .before in
-    let b = w .before .before in
-    let a = b .before .before .before .args in
-    missing (rows (a .form)) (now (a .s)) _ _ _ (w .wide .ensures) (b .before .if1 .left) (b .if2 .left)
-    (sym (c .before .before .by-first .ensures) ∙ c .enum-told .given .1)
+    let w = c .before .before in
+    let i = w .before .before in
+    let a = i .before .before .before .args in
+    read-one (rows (a .form)) (lawful (a .form)) (now (a .s)) (a .at) (a .end) _
+    (record { before = i .if2 .left; inside = i .before .if1 .left; first = w .wide .ensures })
+    (omega (arith, c .if3 .taken, c .before .ones .ensures))
 
-add-from : tie.Need-add-from
-add-from c = search needs
+-- src/varint.rt:89:19
+twos-requires : tie.Need-twos-requires
+twos-requires c κs = search needs
 
-sub-if3 : tie.Need-sub-if3
-sub-if3 c = search needs
+-- src/varint.rt:89:12
+add-if4 : tie.Need-add-if4
+add-if4 c =
+    let a = c .before .before .before .before .before .before .before .before .args in
+    omega (arith, short-bytes (rows (a .form)) (lawful (a .form)), c .twos .ensures, c .before .before .ones .ensures)
 
--- the row that was found
-row-of : (c : tie.After-known-told)
-    → let w = c .before .before .before .before in let a = w .before .before .before .before .before .args in
-    byFirst (rows (a .form)) (w .wide .result) ≡ In (c .before .f .given .0 .0)
-row-of c = sym (c .before .before .before .by-first .ensures) ∙ c .before .f .given .1
+-- src/varint.rt:90:9
+two-at-requires : tie.Need-two-at-requires
+two-at-requires c κs =
+    let w = c .before .before .before .before in
+    let i = w .before .before in
+    let o = c .before .before .before in (
+      record { before = i .if2 .left; inside = i .before .if1 .left; first = w .wide .ensures },
+      (omega (arith, c .before .before .if3 .left, o .ones .ensures), omega (arith, c .if4 .taken, c .before .twos .ensures, o .ones .ensures)),
+    )
 
-begun-of : (c : tie.After-known-told)
-    → let w = c .before .before .before .before in let a = w .before .before .before .before .before .args in
-    Begun (rows (a .form)) (w .wide .result) (c .before .f .given .0 .0)
-begun-of c =
-    let a = c .before .before .before .before .before .before .before .before .before .args in
-    by-first (rows (a .form)) 0 _ _ (lawful (a .form)) zero-le (row-of c)
-
+-- src/varint.rt:90:9
 returns-4 : tie.Need-returns-4
-returns-4 c =
-    let w = c .before .before .before .before .before in
-    let b = w .before .before in
-    let a = b .before .before .before .args in
-    short (rows (a .form)) (now (a .s)) _ _ _ (w .wide .ensures) (b .before .if1 .left) (b .if2 .left) _ (row-of (c .before)) (c .if3 .taken)
+returns-4 c = search needs
 
-add-join : tie.Need-add-join
-add-join c = search needs
+-- src/varint.rt:92:5
+more-at-requires : tie.Need-more-at-requires
+more-at-requires c κs =
+    let w = c .before .before .before .before in
+    let i = w .before .before in
+    record { before = i .if2 .left; inside = i .before .if1 .left; first = w .wide .ensures }
 
-sub-join : tie.Need-sub-join
-sub-join c = begun-of (c .before) .above
-
-join-requires : tie.Need-join-requires
-join-requires c κs = (omega arith, rw add-sub-cancel-left (begun-of (c .before) .fits))
-
-add-t12 : tie.Need-add-t12
-add-t12 c = search needs
-
+-- src/varint.rt:75:1
 returns-5 : tie.Need-returns-5
-returns-5 c =
-    let w = c .before .before .before .before .before .before in
-    let b = w .before .before in
-    let a = b .before .before .before .args in
-    rw (c .join .ensures, add-sub-cancel-left)
-    (found (rows (a .form)) (now (a .s)) _ _ _ (w .wide .ensures) (b .before .if1 .left) (b .if2 .left) _
-    (row-of (c .before .before))
-    (c .before .if3 .left))
+returns-5 c = search needs
 
 pub read-spec : {M : Type 1} → statement M
 read-spec =
@@ -98,15 +94,12 @@ read-spec =
     returns-2
     shared-slice-read-wide
     wide-requires
-    by-first-requires
-    enum-known-f
-    enum-told
+    ones-requires
+    add-t11
     returns-3
-    add-from
-    sub-if3
+    twos-requires
+    add-if4
+    two-at-requires
     returns-4
-    add-join
-    sub-join
-    join-requires
-    add-t12
+    more-at-requires
     returns-5)
