@@ -5,6 +5,7 @@ use mathlib.Core.Bool.{Bool, true, false, not}
 use mathlib.Core.List.{List}
 use lib.Dec.{eqb}
 use lib.ListN.{getD}
+use Rattle.laws.proofs.GateLaws.{failed, held}
 use Rattle.wire.specs.declared.form.Row.{Row}
 use Rattle.wire.specs.declared.zigzag.Coding.{Coding}
 use Rattle.wire.specs.declared.zigzag.Coding.the-variants.{Plain}
@@ -19,7 +20,7 @@ use Rattle.effective.specs.Durations.{Timed}
 use Rattle.effective.specs.Follows.{nextTime}
 use Rattle.effective.proofs.DurationLaws.{lawful-timed}
 use Rattle.locmaf_write_block.specs.declared.cells.Basis.{Basis}
-use Rattle.locmaf_write_tuples.specs.Items.{itemsIf, numberItem}
+use Rattle.locmaf_write_tuples.specs.Items.{nothing, itemsIf, numberItem}
 use Rattle.locmaf_write_block.specs.Changes.{basisOf, Writable}
 use Rattle.locmaf_write_block.specs.Fields.{bmdtStands, countStands, bmdtItems, countItems}
 
@@ -46,15 +47,20 @@ module _ (t : Track) (delta : Bool) (r x : List ℕ) where
   pub timed : Writable t delta r x → delta ≡ true → Timed r
   timed w d = lawful-timed t r (w .old-words) (w .old d)
 
-  -- their tuples
+  -- BMDT's tuple
   module _ (F : List Row) where
     pub bmdt-is : {b : Bool} {c : Coded} → b ≡ bmdtStands t delta r x → c ≡ codeOf F Plain 0 (getD x bmdtAt 0)
         → itemsIf b (numberItem 10 c) ≡ bmdtItems F t delta r x
     unfolding bmdtItems
     bmdt-is e f = rw (e, f)
 
-module _ (delta : Bool) (r x : List ℕ) (F : List Row) where
-  pub count-is : {b : Bool} {coding : Coding} {c : Coded} → b ≡ countStands delta r x → coding ≡ codingFor delta
-      → c ≡ codeOf F coding (getD r countAt 0) (getD x countAt 0) → itemsIf b (numberItem 14 c) ≡ countItems F delta r x
+-- the sample count's, where code found whether it stands
+module _ (delta : Bool) (r x : List ℕ) (F : List Row) {b : Bool} (e : b ≡ countStands delta r x) where
+  pub no-count : not b ≡ true → countItems F delta r x ≡ nothing
+  unfolding countItems itemsIf
+  no-count h = rw (failed e h)
+
+  pub count-is : not b ≡ false → {coding : Coding} {c : Coded} → coding ≡ codingFor delta
+      → c ≡ codeOf F coding (getD r countAt 0) (getD x countAt 0) → itemsIf true (numberItem 14 c) ≡ countItems F delta r x
   unfolding countItems
-  count-is e g f = rw (e, f, g)
+  count-is h g f = rw (held e h, f, g)

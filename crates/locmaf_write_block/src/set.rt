@@ -105,14 +105,17 @@ fn put_bmdt(
     tuples::put_number(form, bmdt_stands(t, delta, r, x), ids::BMDT, c, out, at)
 }
 
-// The sample count's tuple.
+// The sample count's tuple. A number that isn't sent isn't coded either.
 fn count_size(form: Form, delta: bool, r: &[u64], x: &[u64]) -> Weight
     requires { ⌜ (length (now r) ≡ setLen) × (length (now x) ≡ setLen) ⌝ }
     ensures { λ w. ⌜ WeighedAs (rows form) (countItems (rows form) delta (now (r .entry)) (now (x .entry)))
         pairMost w ⌝ }
 {
+    if !count_stands(delta, r, x) {
+        return tuples::whole(0);
+    }
     let c = wire::zigzag::code(form, coding_for(delta), r[lines::COUNT], x[lines::COUNT]);
-    tuples::number_size(form, count_stands(delta, r, x), ids::COUNT, c)
+    tuples::number_size(form, true, ids::COUNT, c)
 }
 
 fn put_count(form: Form, delta: bool, r: &[u64], x: &[u64], out: &mut [u8], at: usize) -> usize
@@ -122,8 +125,11 @@ fn put_count(form: Form, delta: bool, r: &[u64], x: &[u64], out: &mut [u8], at: 
     ensures { λ p. ⌜ WroteItems (rows form) (countItems (rows form) delta (now (r .entry)) (now (x .entry)))
         (now (out .entry)) at (now (out .exit)) p ⌝ }
 {
+    if !count_stands(delta, r, x) {
+        return at;
+    }
     let c = wire::zigzag::code(form, coding_for(delta), r[lines::COUNT], x[lines::COUNT]);
-    tuples::put_number(form, count_stands(delta, r, x), ids::COUNT, c, out, at)
+    tuples::put_number(form, true, ids::COUNT, c, out, at)
 }
 
 // ---- the lines

@@ -1,5 +1,5 @@
 // The producer reference time in an object: ids 18, 20, 22 and 24. In a delta they go by the share's prft, which is that of the current full
-// object; in a full object version and flags go by what their absence means.
+// object; in a full object version and flags go by what their absence means. Without a `prft` no number is sent, so none is coded either.
 // Letters: `p` the `prft`, `s` the words of a share.
 ghost use mathlib.Core.Path.{_≡_};
 ghost use mathlib.Core.Bool.{true};
@@ -73,10 +73,13 @@ pub fn times_size(form: Form, delta: bool, p: Prft, s: &[u64]) -> Weight
     requires { ⌜ length (now s) ≡ shareLen ⌝ }
     ensures { λ w. ⌜ WeighedAs (rows form) (timesItems (rows form) delta (now (s .entry)) p) (pairMost + pairMost) w ⌝ }
 {
+    if !p.stands {
+        return tuples::whole(0);
+    }
     let n = ntp_number(form, delta, p, s);
     let m = media_number(form, delta, p, s);
-    let a = tuples::number_size(form, p.stands, ids::NTP, n);
-    let b = tuples::number_size(form, p.stands, ids::MEDIA_TIME, m);
+    let a = tuples::number_size(form, true, ids::NTP, n);
+    let b = tuples::number_size(form, true, ids::MEDIA_TIME, m);
     tuples::both(a, b)
 }
 
@@ -87,10 +90,13 @@ pub fn put_times(form: Form, delta: bool, p: Prft, s: &[u64], out: &mut [u8], at
     ensures { λ r. ⌜ WroteItems (rows form) (timesItems (rows form) delta (now (s .entry)) p)
         (now (out .entry)) at (now (out .exit)) r ⌝ }
 {
+    if !p.stands {
+        return at;
+    }
     let n = ntp_number(form, delta, p, s);
     let m = media_number(form, delta, p, s);
-    let a = tuples::put_number(form, p.stands, ids::NTP, n, out, at);
-    tuples::put_number(form, p.stands, ids::MEDIA_TIME, m, out, a)
+    let a = tuples::put_number(form, true, ids::NTP, n, out, at);
+    tuples::put_number(form, true, ids::MEDIA_TIME, m, out, a)
 }
 
 // ---- ids 22 and 24 stand unless they are what their absence means
@@ -99,9 +105,12 @@ pub fn version_size(form: Form, delta: bool, p: Prft, s: &[u64]) -> Weight
     requires { ⌜ length (now s) ≡ shareLen ⌝ }
     ensures { λ w. ⌜ WeighedAs (rows form) (versionItems (rows form) delta (now (s .entry)) p) pairMost w ⌝ }
 {
+    if !p.stands {
+        return tuples::whole(0);
+    }
     let old = usual_version(delta, s);
     let c = wire::zigzag::code(form, coding_for(delta), old, p.version);
-    tuples::number_size(form, p.stands & (p.version != old), ids::VERSION, c)
+    tuples::number_size(form, p.version != old, ids::VERSION, c)
 }
 
 pub fn put_version(form: Form, delta: bool, p: Prft, s: &[u64], out: &mut [u8], at: usize) -> usize
@@ -111,25 +120,24 @@ pub fn put_version(form: Form, delta: bool, p: Prft, s: &[u64], out: &mut [u8], 
     ensures { λ r. ⌜ WroteItems (rows form) (versionItems (rows form) delta (now (s .entry)) p)
         (now (out .entry)) at (now (out .exit)) r ⌝ }
 {
+    if !p.stands {
+        return at;
+    }
     let old = usual_version(delta, s);
     let c = wire::zigzag::code(form, coding_for(delta), old, p.version);
-    tuples::put_number(
-        form,
-        p.stands & (p.version != old),
-        ids::VERSION,
-        c,
-        out,
-        at,
-    )
+    tuples::put_number(form, p.version != old, ids::VERSION, c, out, at)
 }
 
 pub fn flags_size(form: Form, delta: bool, p: Prft, s: &[u64]) -> Weight
     requires { ⌜ length (now s) ≡ shareLen ⌝ }
     ensures { λ w. ⌜ WeighedAs (rows form) (flagsItems (rows form) delta (now (s .entry)) p) pairMost w ⌝ }
 {
+    if !p.stands {
+        return tuples::whole(0);
+    }
     let old = usual_flags(delta, s);
     let c = wire::zigzag::code(form, coding_for(delta), old, p.flags);
-    tuples::number_size(form, p.stands & (p.flags != old), ids::PRFT_FLAGS, c)
+    tuples::number_size(form, p.flags != old, ids::PRFT_FLAGS, c)
 }
 
 pub fn put_flags(form: Form, delta: bool, p: Prft, s: &[u64], out: &mut [u8], at: usize) -> usize
@@ -139,14 +147,10 @@ pub fn put_flags(form: Form, delta: bool, p: Prft, s: &[u64], out: &mut [u8], at
     ensures { λ r. ⌜ WroteItems (rows form) (flagsItems (rows form) delta (now (s .entry)) p)
         (now (out .entry)) at (now (out .exit)) r ⌝ }
 {
+    if !p.stands {
+        return at;
+    }
     let old = usual_flags(delta, s);
     let c = wire::zigzag::code(form, coding_for(delta), old, p.flags);
-    tuples::put_number(
-        form,
-        p.stands & (p.flags != old),
-        ids::PRFT_FLAGS,
-        c,
-        out,
-        at,
-    )
+    tuples::put_number(form, p.flags != old, ids::PRFT_FLAGS, c, out, at)
 }

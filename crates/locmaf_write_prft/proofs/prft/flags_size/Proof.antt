@@ -1,10 +1,17 @@
--- `locmaf_write_block::prft::flags_size` meets its contract: an id that stands unless it is what its absence means. Assumes nothing.
+-- `locmaf_write_prft::prft::flags_size` meets its contract: an id that stands in a `prft` unless it is what its absence means. Assumes nothing.
 use borrow.Author.Needs.{needs}
 use native.Mathlib.Omega.{arith}
-use Rattle.locmaf_write_tuples.proofs.ItemLaws.{made-is, weighed-as}
-use Rattle.locmaf_write_prft.proofs.TimeLaws.{flags-is}
+use mathlib.Core.Path.{sym}
+use Rattle.locmaf_write_tuples.proofs.ItemLaws.{made-is, weighed-nothing, weighed-as}
+use Rattle.locmaf_write_prft.proofs.TimeLaws.{no-flags, flags-is}
 use Rattle.locmaf_write_prft.proofs.prft.flags_size.Statement.{statement}
 use Rattle.locmaf_write_prft.proofs.prft.flags_size.Tie as tie
+
+whole-requires : tie.Need-whole-requires
+whole-requires c κs = tt
+
+returns : tie.Need-returns
+returns c = weighed-as (sym (no-flags _ _ _ _ (c .before .if1 .taken))) (weighed-nothing (c .whole .ensures))
 
 usual-flags-requires : tie.Need-usual-flags-requires
 usual-flags-requires c κs = search needs
@@ -16,16 +23,24 @@ code-requires : tie.Need-code-requires
 code-requires c κs = search needs
 
 number-size-requires : tie.Need-number-size-requires
-number-size-requires c κs = (omega arith, made-is _ _ _ _ _ (c .before .before .code .ensures))
+number-size-requires c κs = (omega arith, made-is _ _ _ _ _ (c .before .code .ensures))
 
-returns : tie.Need-returns
-returns c =
-    let b₁ = c .before .before .before in
+returns-2 : tie.Need-returns-2
+returns-2 c =
+    let b₁ = c .before .before in
     let b₂ = b₁ .before in
     let b₃ = b₂ .before in
-    weighed-as (flags-is _ _ _ _ (b₃ .usual-flags .ensures) (b₂ .coding-for .ensures) (b₁ .code .ensures)) (c .number-size .ensures)
+    let yes = b₃ .before .if1 .left in
+    weighed-as (flags-is _ _ _ _ yes (b₃ .usual-flags .ensures) (b₂ .coding-for .ensures) (b₁ .code .ensures)) (c .number-size .ensures)
 
 pub flags-size-spec : {M : Type 1} → statement M
 flags-size-spec =
     tie.close
-    (tie.spec usual-flags-requires coding-for-requires code-requires number-size-requires returns)
+    (tie.spec
+    whole-requires
+    returns
+    usual-flags-requires
+    coding-for-requires
+    code-requires
+    number-size-requires
+    returns-2)
