@@ -3,6 +3,7 @@ pub mod FrontLaws
 pub mod TupleLaws
 pub mod TupleRuns
 pub mod NumberLaws
+pub mod OnesLaws
 pub mod CountLoop
 pub mod RecordLaws
 pub mod RecordSpans

@@ -1,13 +1,14 @@
 -- The varints that fill a list of bytes.
 use Prim.Native.Nat.{ℕ, _+_}
-use mathlib.Core.Bool.{cond}
+use mathlib.Core.Bool.{Bool, true, cond, _&&_}
 use mathlib.Core.List.{List, [], _∷_}
 use mathlib.Core.Option.{Option}
-use lib.Dec.{leb}
+use lib.Dec.{leb, ltb}
 use lib.ListN.{length}
 use lib.Seq.{slice}
 use Rattle.wire.specs.declared.form.Row.{Row}
 use Rattle.wire.specs.declared.zigzag.Coding.{Coding}
+use Rattle.wire.specs.Form.{ones}
 use Rattle.wire.specs.Varint.{readF, onGot}
 use Rattle.wire.specs.Zigzag.{reached, onReached}
 use Rattle.runs.specs.declared.Outcome.the-variants.{Done, Outside}
@@ -45,6 +46,11 @@ counted r = cond (r .whole) (Whole (length (r .items))) Cut
 -- how many varints fill the bytes from the place at to the place end
 unfoldable pub countAt : List Row → List ℕ → ℕ → ℕ → Counted
 countAt F s at end = cond (leb end (length s)) (counted (numbersRun F (slice at end s))) Cut
+
+-- each of the bytes is a varint by itself
+unfoldable pub allOnes : List Row → List ℕ → Bool
+allOnes F [] = true
+allOnes F (b ∷ s) = ltb b (ones F) && allOnes F s
 
 -- with n more
 abbrev pub plus : ℕ → Counted → Counted

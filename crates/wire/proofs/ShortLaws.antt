@@ -6,7 +6,7 @@ use native.Mathlib.Omega.{arith}
 use mathlib.Core.Path.{_≡_, refl, _∙_}
 use mathlib.Core.Bool.{Bool, true, false, cond}
 use mathlib.Core.List.{List, [], _∷_}
-use borrow.Author.Tests.{eqb-true, lt-ltb, le-ltb}
+use borrow.Author.Tests.{eqb-true, lt-ltb, le-ltb, le-leb}
 use lib.Dec.{eqb}
 use lib.ListN.{length, getD, set}
 use lib.Seq.{slice, sets, slice-cons}
@@ -18,7 +18,7 @@ use Rattle.wire.specs.declared.form.Found.{Found}
 use Rattle.wire.specs.declared.form.Found.the-variants.{In}
 use Rattle.wire.specs.declared.varint.Got.the-variants.{Value, Cut}
 use Rattle.wire.specs.Form.{cap, byFirst, byValue, ones, twos}
-use Rattle.wire.specs.Varint.{encode, readAt, Begins}
+use Rattle.wire.specs.Varint.{encode, readF, readAt, Begins}
 use Rattle.wire.proofs.FormLaws.{Lawful}
 use Rattle.wire.proofs.Reading.{short, found}
 use Rattle.wire.proofs.Writing.{room-in, wrote-in}
@@ -115,6 +115,14 @@ short-bytes (r ∷ q ∷ rs) w = go (eqb (r .tail) 0) (eqb (q .tail) 1)
     go false u = zero-le
 
 -- ---- reading
+
+-- a byte below `ones` at the front of a list
+pub front-one : (F : List Row) → Lawful 0 F → (b : ℕ) (s : List ℕ) → b < ones F → readF F (b ∷ s) ≡ Value b 1
+unfolding readF de
+front-one F w b s lt =
+    let f = one-first F b w lt in
+    let e : (b - 0) * 256 ^ 0 + de [] ≡ b = omega arith in
+    rw (f .found, f .tails, f .marked, le-leb 0 (length s) zero-le, e)
 
 module _ (F : List Row) (w : Lawful 0 F) (s : List ℕ) (at end b : ℕ) (h : Begins s at end b) where
   -- a byte below `ones` is a varint, and its value

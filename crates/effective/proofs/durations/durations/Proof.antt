@@ -1,4 +1,4 @@
--- `locmaf_read_times::bmdt::durations` meets its contract, case by case. Assumes nothing.
+-- `effective::durations::durations` meets its contract, case by case. Assumes nothing.
 use Prim.Native.Nat.{_+_}
 use borrow.Author.Needs.{needs}
 use native.Mathlib.Omega.{arith}

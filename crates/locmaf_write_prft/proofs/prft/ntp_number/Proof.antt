@@ -1,4 +1,4 @@
--- `locmaf_write_block::prft::ntp_number` meets its contract: a distance in a delta, or the time itself. Assumes nothing.
+-- `locmaf_write_prft::prft::ntp_number` meets its contract: a distance in a delta, or the time itself. Assumes nothing.
 use borrow.Author.Needs.{needs}
 use Rattle.locmaf_write_prft.proofs.TimeLaws.{time-as}
 use Rattle.locmaf_write_prft.proofs.prft.ntp_number.Statement.{statement}

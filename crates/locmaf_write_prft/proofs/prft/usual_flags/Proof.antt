@@ -1,4 +1,4 @@
--- `locmaf_write_block::prft::usual_flags` meets its contract: the share's in a delta, or the usual one. Assumes nothing.
+-- `locmaf_write_prft::prft::usual_flags` meets its contract: the share's in a delta, or the usual one. Assumes nothing.
 use borrow.Author.Needs.{needs}
 use Rattle.locmaf_write_prft.proofs.TimeLaws.{kept-delta}
 use Rattle.locmaf_write_prft.proofs.prft.usual_flags.Statement.{statement}

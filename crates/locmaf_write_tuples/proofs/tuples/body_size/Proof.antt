@@ -1,4 +1,4 @@
--- `locmaf_write_block::tuples::body_size` meets its contract: a varint takes at most eight bytes. Assumes nothing.
+-- `locmaf_write_tuples::tuples::body_size` meets its contract: a varint takes at most eight bytes. Assumes nothing.
 use native.Mathlib.Omega.{arith}
 use Rattle.wire.proofs.SizeLaws.{size-eight}
 use Rattle.locmaf_write_tuples.proofs.tuples.body_size.Statement.{statement}

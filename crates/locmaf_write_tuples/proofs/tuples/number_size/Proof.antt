@@ -1,4 +1,4 @@
--- `locmaf_write_block::tuples::number_size` meets its contract. Assumes nothing.
+-- `locmaf_write_tuples::tuples::number_size` meets its contract. Assumes nothing.
 use borrow.Author.Needs.{needs}
 use native.Mathlib.Omega.{arith}
 use Rattle.wire.proofs.SizeLaws.{size-eight}

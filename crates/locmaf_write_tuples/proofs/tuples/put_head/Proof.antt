@@ -1,4 +1,4 @@
--- `locmaf_write_block::tuples::put_head` meets its contract: two varints one after another. Assumes nothing.
+-- `locmaf_write_tuples::tuples::put_head` meets its contract: two varints one after another. Assumes nothing.
 use borrow.Author.Needs.{needs}
 use mathlib.Core.Path.{refl}
 use mathlib.Core.List.{[], _∷_}

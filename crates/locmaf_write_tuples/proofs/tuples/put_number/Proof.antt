@@ -1,4 +1,4 @@
--- `locmaf_write_block::tuples::put_number` meets its contract. Assumes nothing.
+-- `locmaf_write_tuples::tuples::put_number` meets its contract. Assumes nothing.
 use borrow.Author.Needs.{needs}
 use mathlib.Core.List.{[], _∷_}
 use Rattle.laws.proofs.PartLaws.{parts-all, parts-room, parts-then, parts-none}

@@ -1,4 +1,4 @@
--- `locmaf_write_block::tuples::put_run` meets its contract: the head, and the numbers after it. Assumes nothing.
+-- `locmaf_write_tuples::tuples::put_run` meets its contract: the head, and the numbers after it. Assumes nothing.
 use borrow.Author.Needs.{needs}
 use mathlib.Core.Path.{sym, _∙_}
 use mathlib.Core.List.{[], _∷_, _++_}

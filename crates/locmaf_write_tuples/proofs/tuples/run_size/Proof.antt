@@ -1,4 +1,4 @@
--- `locmaf_write_block::tuples::run_size` meets its contract. Assumes nothing.
+-- `locmaf_write_tuples::tuples::run_size` meets its contract. Assumes nothing.
 use borrow.Author.Needs.{needs}
 use native.Mathlib.Omega.{arith}
 use mathlib.Core.Path.{sym, _∙_}
