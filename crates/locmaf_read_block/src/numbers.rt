@@ -17,18 +17,12 @@ pub enum Counted {
     Cut,
 }
 
-fn wide(b: u8) -> u64
-    ensures { λ r. ⌜ r ≡ b ⌝ }
-{
-    b as u64
-}
-
 // Whether the byte at a place is a varint by itself.
 fn one_at(form: Form, s: &[u8], p: usize) -> bool
     requires { ⌜ p < length (now s) ⌝ }
     ensures { λ r. ⌜ r ≡ ltb (getD (now (s .entry)) p 0) (ones (rows form)) ⌝ }
 {
-    wide(s[p]) < wire::form::ones(form)
+    wire::varint::wide(s[p]) < wire::form::ones(form)
 }
 
 // Whether each of four bytes is.

@@ -1,6 +1,6 @@
 -- The values of a list field as a run of varints, each against the old list's value at its place, or against what an absent one counts
 -- as. 01: "A scalar's delta is against the previous value", "List elements count as 0 where the reference has none."
-use Prim.Native.Nat.{ℕ, zero, suc, _+_}
+use Prim.Native.Nat.{ℕ, zero, suc, _+_, _-_, _≤_}
 use mathlib.Core.Bool.{cond}
 use mathlib.Core.Path.{_≡_}
 use mathlib.Core.List.{List, [], _∷_, _++_}
@@ -98,3 +98,16 @@ outcomeOf Beyond = Outside
 pub record FilledAs (f : Filled) (before : List ℕ) (to : ℕ) (r : Outcome) (after : List ℕ) : Type 0 where
   pub answered : r ≡ f .answer
   pub stored : after ≡ sets before to (f .values)
+
+-- i values are read and stored, and the next stands at the place p
+pub record Filling (F : List Row) (coding : Coding) (base bound : ℕ) (s : List ℕ) (at end : ℕ) (old before : List ℕ) (to n : ℕ) (after : List ℕ) (p i : ℕ)
+    : Type 0 where
+  pub count : i ≤ n
+  pub bytes : end ≤ length s
+  pub room : to + n ≤ length before
+  pub same : length after ≡ length before
+  pub answer :
+      filled F coding base bound (n - i) (drop i old) (slice p end s) .answer ≡ filledAt F coding base bound n old s at end .answer
+  pub values :
+      sets after (to + i) (filled F coding base bound (n - i) (drop i old) (slice p end s) .values)
+      ≡ sets before to (filledAt F coding base bound n old s at end .values)

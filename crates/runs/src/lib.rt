@@ -2,11 +2,12 @@
 // take as parameters how the values stand on the wire, the old list, what an absent old element counts as, and the largest value.
 // Letters: `s` bytes that are read, `n` how many.
 ghost use mathlib.Core.Path.{_≡_};
-ghost use Prim.Native.Nat.{_+_, _≤_};
+ghost use Prim.Native.Nat.{ℕ, _+_, _-_, _≤_};
+ghost use mathlib.Core.List.{List};
 ghost use lib.ListN.{length, getD};
 ghost use Rattle.laws.specs.Writes.{Wrote};
 ghost use Rattle.wire.specs.Form.{rows};
-ghost use Rattle.runs.specs.Run.{FilledAs, filledAt, nextAt, outcomeOf, runOf, measured};
+ghost use Rattle.runs.specs.Run.{FilledAs, Filling, filledAt, nextAt, outcomeOf, runOf, measured};
 use wire::form::Form;
 use wire::varint::Got;
 use wire::zigzag::Coded;
@@ -76,6 +77,88 @@ fn outcome_of(g: Next) -> Outcome
     }
 }
 
+// Reads the values in front whose varints have one byte, where each of the n has an old value to go by, up to one that is out of range. Gives how many
+// it stored. Such a value stands at the place of its number, so nothing but that is kept from one to the next.
+fn fill_ones(
+    form: Form,
+    coding: Coding,
+    s: &[u8],
+    at: usize,
+    end: usize,
+    old: &[u64],
+    bound: u64,
+    out: &mut [u64],
+    to: usize,
+    n: usize,
+) -> usize
+    requires { ⌜ (end ≤ length (now s)) × (to + n ≤ length (now out)) ⌝ }
+    ensures { λ k. ⌜ ((base : ℕ) → Filling (rows form) coding base bound (now (s .entry)) at end (now (old .entry))
+        (now (out .entry)) to n (now (out .exit)) (at + k) k)
+        × (k ≤ end - at) ⌝ }
+{
+    if old.len() < n {
+        return 0;
+    }
+    if end <= at {
+        return 0;
+    }
+    if end - at < n {
+        return 0;
+    }
+    let mut i = 0;
+    while i < n {
+        let z = wire::varint::wide(s[at + i]);
+        if wire::form::ones(form) <= z {
+            return i;
+        }
+        let t = wire::zigzag::reach(coding, old[i], bound, z);
+        let Reached::To(v) = t else {
+            return i;
+        };
+        out[to + i] = v;
+        i += 1;
+    }
+    i
+}
+
+// Reads the values from the one with the number i on, whose varint stands at the place p: those before it are stored.
+fn fill_rest(
+    form: Form,
+    coding: Coding,
+    s: &[u8],
+    p: usize,
+    end: usize,
+    old: &[u64],
+    base: u64,
+    bound: u64,
+    out: &mut [u64],
+    to: usize,
+    n: usize,
+    i: usize,
+) -> Outcome
+    requires { ⌜ to + n ≤ length (now out) ⌝ }
+    ensures { λ r. ⌜ ((at : ℕ) (before : List ℕ)
+        → Filling (rows form) coding base bound (now (s .entry)) at end (now (old .entry)) before to n (now (out .entry)) p i
+        → FilledAs (filledAt (rows form) coding base bound n (now (old .entry)) (now (s .entry)) at end)
+        before to r (now (out .exit))) ⌝ }
+{
+    let mut at = p;
+    let mut k = i;
+    while k < n {
+        let g = value_at(form, coding, s, at, end, old, k, base, bound);
+        let Next::Value(v, next) = g else {
+            return outcome_of(g);
+        };
+        out[to + k] = v;
+        at = next;
+        k += 1;
+    }
+    if at < end {
+        return Outcome::Misfit;
+    }
+    Outcome::Done
+}
+
 // Reads n values, a varint each, that have to fill the bytes from at to end, and stores them from the word `to` on.
 pub fn fill(
     form: Form,
@@ -98,21 +181,21 @@ pub fn fill(
     if s.len() < end {
         return Outcome::Misfit;
     }
-    let mut p = at;
-    let mut i = 0;
-    while i < n {
-        let g = value_at(form, coding, s, p, end, old, i, base, bound);
-        let Next::Value(v, next) = g else {
-            return outcome_of(g);
-        };
-        out[to + i] = v;
-        p = next;
-        i += 1;
-    }
-    if p < end {
-        return Outcome::Misfit;
-    }
-    Outcome::Done
+    let i = fill_ones(form, coding, s, at, end, old, bound, &mut *out, to, n);
+    fill_rest(
+        form,
+        coding,
+        s,
+        at + i,
+        end,
+        old,
+        base,
+        bound,
+        out,
+        to,
+        n,
+        i,
+    )
 }
 
 // The bytes of the run for the new list.

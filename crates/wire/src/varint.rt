@@ -17,7 +17,8 @@ pub enum Got {
     Cut,
 }
 
-fn wide(b: u8) -> u64
+// A byte as a number.
+pub fn wide(b: u8) -> u64
     ensures { λ r. ⌜ r ≡ b ⌝ }
 {
     b as u64
