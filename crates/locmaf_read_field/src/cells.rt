@@ -38,7 +38,7 @@ pub struct Cell {
     pub within: bool,
 }
 
-fn well() -> Cell
+pub fn well() -> Cell
     ensures { λ r. ⌜ r ≡ right ⌝ }
 {
     Cell {
@@ -87,12 +87,6 @@ fn lacking() -> Cell
     }
 }
 
-fn wide(b: u8) -> u64
-    ensures { λ r. ⌜ r ≡ b ⌝ }
-{
-    b as u64
-}
-
 // The word of eight bytes, the highest first.
 fn word_at(o: &[u8], at: usize) -> u64
     requires { ⌜ at + 8 ≤ length (now o) ⌝ }
@@ -101,7 +95,7 @@ fn word_at(o: &[u8], at: usize) -> u64
     let mut v = 0;
     let mut i = 0;
     while i < 8 {
-        v = v * 256 + wide(o[at + i]);
+        v = v * 256 + wire::varint::wide(o[at + i]);
         i += 1;
     }
     v

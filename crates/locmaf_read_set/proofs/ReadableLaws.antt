@@ -2,7 +2,7 @@
 use Prim.Native.Nat.{ℕ, _≤_, _<_}
 use native.Mathlib.Nat.{le-refl}
 use native.Mathlib.Omega.{arith}
-use mathlib.Core.Path.{_≡_, refl, sym, _∙_, ap}
+use mathlib.Core.Path.{_≡_, refl, sym, ap}
 use mathlib.Core.Bool.{Bool, true, false, false≢true}
 use mathlib.Core.List.{List, []}
 use mathlib.Core.Option.{Option, none, some}
@@ -21,6 +21,7 @@ use Rattle.locmaf_read_said.specs.declared.said.Word.the-variants.{Omitted, Del
 use Rattle.locmaf_read_said.specs.Said.{Saying, omitted, deleted, sent, saying, sayingOf, wordIn, saysIn, Marked, AllMarked}
 use Rattle.laws.specs.Tests.{among}
 use Rattle.field_rules.specs.Fields.{numbers, codingFor, stood}
+use Rattle.locmaf_read_field.specs.declared.cells.Cell.{Cell}
 use Rattle.locmaf_read_field.specs.Cells.{right, cellOf, said, TakenAs, Spans, Takeable}
 use Rattle.locmaf_read_field.proofs.RoomLaws.{takeable}
 use Rattle.locmaf_read_field.proofs.TakeLaws.{take-none, take-deleted}
@@ -104,7 +105,7 @@ module _ (F : List Row) (o index gone : List ℕ) (t : Track) (a : Against) (r :
             (sayingOf (saysIn F o index) (getD lines i spare .id)) mark-of)
 
         -- and the field that it takes
-        pub taken-is : (m : Measure)
+        taken-is : (m : Measure)
             → cellOf t (a .coding) (a .held) r (a .was) l m (said F o l word) ≡ cameOf t (a .held) r (saysIn F o index) m (getD lines i spare)
         unfolding cameOf
         taken-is m =
@@ -116,10 +117,16 @@ module _ (F : List Row) (o index gone : List ℕ) (t : Track) (a : Against) (r :
               said-is F o (length o) index gone [] [] (getD lines i spare) (kinded i lt) (sayingOf (saysIn F o index) (getD lines i spare .id)) mark-of,
             )
 
+        -- so it takes that of the line
+        pub line-taken : (m : Measure) (x : List ℕ) (c : Cell) (y : List ℕ)
+            → TakenAs (cellOf t (a .coding) (a .held) r (a .was) l m (said F o l word)) (l .place) x c y
+            → TakenAs (cameOf t (a .held) r (saysIn F o index) m (getD lines i spare)) (getD lines i spare .place) x c y
+        line-taken m x c y k = rw (taken-is m, ap (λ (z : Line). z .place) el) at k
+
     -- a line whose field doesn't stand has nothing to take
-    pub skipped : (b : Bool) → b ≡ staysIn index gone (a .held) r (getD lines i spare) → b ≡ false → (m : Measure) (x : List ℕ)
+    pub skipped : staysIn index gone (a .held) r (getD lines i spare) ≡ false → (m : Measure) (x : List ℕ)
         → TakenAs (cameOf t (a .held) r (saysIn F o index) m (getD lines i spare)) (getD lines i spare .place) x right x
     unfolding staysIn
-    skipped b eb e m x =
+    skipped e m x =
         rw (← taken-is (getD lines i spare) refl (wordIn index gone (getD lines i spare .id)) refl m)
-        (unstored F o t (a .coding) (a .held) r (a .was) (getD lines i spare) m x (wordIn index gone (getD lines i spare .id)) (sym eb ∙ e))
+        (unstored F o t (a .coding) (a .held) r (a .was) (getD lines i spare) m x (wordIn index gone (getD lines i spare .id)) e)

@@ -3,21 +3,24 @@ use Prim.Native.Nat.{ℕ, zero, suc, _+_, _-_, _≤_, _<_}
 use native.Mathlib.Nat.{not-suc-le-zero, le-of-suc-le-suc, sub-zero}
 use native.Mathlib.Numerals.{add-one}
 use native.Mathlib.Omega.{arith}
-use mathlib.Core.Path.{_≡_, _∙_, ap}
+use mathlib.Core.Path.{_≡_, refl, sym, _∙_, ap}
 use mathlib.Core.Bool.{Bool, true, false, cond}
 use mathlib.Core.List.{List, [], _∷_, _++_, map, append-nil}
-use lib.ListN.{length, getD, set, take, replicate}
+use lib.ListN.{length, getD, set, take, replicate, length-map, List·getD-map}
 use lib.Seq.{take-all}
+use Rattle.laws.proofs.ListLaws.{getD-in}
 use Rattle.wire.specs.declared.form.Row.{Row}
 use Rattle.track.specs.declared.Track.{Track}
 use Rattle.field_table.specs.declared.lines.Line.{Line}
+use Rattle.field_table.specs.declared.lines.Measure.{Measure}
 use Rattle.field_table.specs.Lines.{lines, spare, lineCount}
 use Rattle.field_table.proofs.LineLaws.{line-count}
 use Rattle.locmaf_read_said.specs.Said.{saysIn}
 use Rattle.field_rules.proofs.SetLaws.{map-same}
 use Rattle.locmaf_read_said.specs.declared.against.Against.{Against}
-use Rattle.locmaf_read_set.specs.Read.{staysIn, marksIn, marks, stands, Readable}
-use Rattle.locmaf_read_set.proofs.ReadableLaws.{stands-is}
+use Rattle.locmaf_read_field.specs.Cells.{right, TakenAs}
+use Rattle.locmaf_read_set.specs.Read.{staysIn, marksIn, marks, stands, cameOf, Readable}
+use Rattle.locmaf_read_set.proofs.ReadableLaws.{stands-is, skipped}
 
 -- the marks of the first i of n lines, and zeros
 unfoldable pub marksTo : (Line → ℕ) → List Line → ℕ → List ℕ
@@ -92,3 +95,26 @@ pub marks-said : (F : List Row) (o index gone : List ℕ) (t : Track) (a : Again
 marks-said F o index gone t a r h =
     map-same (λ l. cond (staysIn index gone (a .held) r l) 1 0) (λ l. cond (stands t (a .held) r (saysIn F o index) l) 1 0) lines
     (λ i lt. rw (stands-is F o index gone t a r h i (omega (arith, line-count))))
+
+module _ (index gone : List ℕ) (held : Bool) (r m : List ℕ) (em : m ≡ marksIn index gone held r) where
+  -- there are as many as lines
+  pub marks-count : length m ≡ lineCount
+  marks-count = ap length em ∙ length-map lines (λ l. cond (staysIn index gone held r l) 1 0) ∙ line-count
+
+  -- each by its line
+  mark-is : (i : ℕ) → i < lineCount → getD m i 0 ≡ cond (staysIn index gone held r (getD lines i spare)) 1 0
+  mark-is i lt =
+      getD-in m i 0 (cond (staysIn index gone held r spare) 1 0) (omega (arith, marks-count))
+      ∙ ap (λ (s : List ℕ). getD s i (cond (staysIn index gone held r spare) 1 0)) em
+      ∙ List·getD-map (λ l. cond (staysIn index gone held r l) 1 0) lines i spare
+
+mark-none : (b : Bool) → _≡_ {A = ℕ} (cond b 1 0) 0 → b ≡ false
+mark-none true e = absurd (omega arith)
+mark-none false e = refl
+
+-- a line whose mark is 0 has nothing to take
+pub unmarked : (F : List Row) (o index gone : List ℕ) (t : Track) (a : Against) (r : List ℕ) → Readable F o index gone t a r
+    → (m : List ℕ) → m ≡ marksIn index gone (a .held) r → (i : ℕ) → i < lineCount → getD m i 0 ≡ 0 → (k : Measure) (x : List ℕ)
+    → TakenAs (cameOf t (a .held) r (saysIn F o index) k (getD lines i spare)) (getD lines i spare .place) x right x
+unmarked F o index gone t a r h m em i lt z =
+    skipped F o index gone t a r h i lt (mark-none _ (sym (mark-is index gone (a .held) r m em i lt) ∙ z))

@@ -86,12 +86,12 @@ module _ (f : Line → Came) (from to : ℕ) (x₀ : List ℕ) where
       enough = h .long ∙ h .words
 
       -- one more
-      pub taking-next : (l : Line) → l ≡ getD lines i spare → (g : Came) → g ≡ f (getD lines i spare) → (c : Cell) (y : List ℕ)
-          → TakenAs g (l .place) x c y → Taking f from to x₀ y (first && c .first) (second && c .second) (within && c .within) (i + 1)
+      pub taking-next : (c : Cell) (y : List ℕ) → TakenAs (f (getD lines i spare)) (getD lines i spare .place) x c y
+          → Taking f from to x₀ y (first && c .first) (second && c .second) (within && c .within) (i + 1)
       unfolding storeAll
-      taking-next l el g eg c y k =
+      taking-next c y k =
           let n : to ≤ length lines = omega (arith, line-count, h .last) in
-          let ec : c ≡ f (getD lines i spare) .cell = k .answered ∙ ap (λ (z : Came). z .cell) eg in
+          let ec : c ≡ f (getD lines i spare) .cell = k .answered in
           let one : storeAll (λ l. f l .field) (slice i to lines) x
           ≡ storeAll (λ l. f l .field) (slice (i + 1) to lines) (sets x (getD lines i spare .place) (wordsOf (f (getD lines i spare) .field))) =
           rw (slice-cons i to lines spare lt n, add-one) in
@@ -105,7 +105,7 @@ module _ (f : Line → Came) (from to : ℕ) (x₀ : List ℕ) where
             withins = rest-next (λ l. f l .cell .within) from to i within (c .within) lt (h .last) (ap (λ (z : Cell). z .within) ec) (h .withins);
             stored = λ p q s.
                 let ey : y ≡ sets x (getD lines i spare .place) (wordsOf (f (getD lines i spare) .field)) =
-                rw (el, eg) at (k .stored (and-right first (c .first) p) (and-right second (c .second) q) (and-right within (c .within) s)) in
+                k .stored (and-right first (c .first) p) (and-right second (c .second) q) (and-right within (c .within) s) in
                 ap (storeAll (λ l. f l .field) (slice (i + 1) to lines)) ey
                 ∙ sym one
                 ∙ h .stored (and-left first (c .first) p) (and-left second (c .second) q) (and-left within (c .within) s);
@@ -113,5 +113,13 @@ module _ (f : Line → Came) (from to : ℕ) (x₀ : List ℕ) where
 
       -- one that has nothing to take
       pub taking-skip : TakenAs (f (getD lines i spare)) (getD lines i spare .place) x right x → Taking f from to x₀ x first second within (i + 1)
-      taking-skip k =
-          rw (and-true first, and-true second, and-true within) at (taking-next (getD lines i spare) refl (f (getD lines i spare)) refl right x k)
+      taking-skip k = rw (and-true first, and-true second, and-true within) at (taking-next right x k)
+
+-- a run of one line, under other names
+pub taken-one : (f : Line → Came) (i : ℕ) → i < lineCount → (x : List ℕ) → length x ≡ setLen → {c d : Cell} {y z : List ℕ}
+    → TakenAs (f (getD lines i spare)) (getD lines i spare .place) x d z → y ≡ z → c ≡ d → TakenAll f (slice i (i + 1) lines) x c y
+taken-one f i lt x e {d = d} {z = z} k ey ec =
+    rw (ey, ec)
+    (taking-end f i (i + 1) x z (d .first) (d .second) (d .within) (i + 1)
+    (taking-next f i (i + 1) x x true true true i (taking-start f i (i + 1) x (omega arith) (omega arith) e) (omega arith) d z k)
+    (omega arith))

@@ -14,6 +14,7 @@ ghost use Rattle.field_set.specs.Lawful.{lawful};
 ghost use Rattle.wire.specs.declared.zigzag.Reached.the-variants.{To};
 ghost use Rattle.locmaf_read_said.specs.Said.{saysIn, scalarIn, Telling};
 ghost use Rattle.field_rules.specs.Words.{noFields, setWords};
+ghost use Rattle.locmaf_read_field.specs.Cells.{TakenAs};
 ghost use Rattle.locmaf_read_set.specs.Read.{countFrom, countReached, brandsIn, staysIn, marksIn, cameOf, Lent, Readable, Measured, TakenAll, SetReadAs, FieldsReadAs, firstRungs, LastReadAs};
 use constants::ids;
 use constants::maxima;
@@ -91,6 +92,32 @@ fn standing(index: &[u64], gone: &[u64], held: bool, r: &[u64]) -> [u64; lines::
     m
 }
 
+// The field of the line with the number i, which stands: it is sent or carried on. Its length goes by m.
+fn take_line(
+    form: Form,
+    a: Against,
+    o: &[u8],
+    index: &[u64],
+    gone: &[u64],
+    t: Track,
+    r: &[u64],
+    m: Measure,
+    i: usize,
+    x: &mut [u64],
+) -> Cell
+    requires { ⌜ Readable (rows form) (now o) (now index) (now gone) t a (now r) ⌝ }
+    requires { ⌜ (Measured m) × (i < lineCount) × (length (now x) ≡ setLen) ⌝ }
+    ensures { λ c. ⌜ TakenAs
+        (cameOf t (a .held) (now (r .entry)) (saysIn (rows form) (now (o .entry)) (now (index .entry))) m
+        (getD lines i spare))
+        (getD lines i spare .place) (now (x .entry)) c (now (x .exit)) ⌝ }
+{
+    let l = lines::line_at(i);
+    let word = said::word_of(index, gone, l.id);
+    let coding = a.coding;
+    cells::take(form, coding, o, word, t, a.held, r, a.was, l, m, x)
+}
+
 // The fields of the lines from a number up to another, with lengths that go by m. One that is neither sent nor carried on
 // is right as it is, and has no words.
 fn take_lines(
@@ -99,6 +126,7 @@ fn take_lines(
     o: &[u8],
     index: &[u64],
     gone: &[u64],
+    marks: &[u64],
     t: Track,
     r: &[u64],
     m: Measure,
@@ -108,20 +136,18 @@ fn take_lines(
 ) -> Cell
     requires { ⌜ Readable (rows form) (now o) (now index) (now gone) t a (now r) ⌝ }
     requires { ⌜ (Measured m) × (from ≤ to) × (to ≤ lineCount) × (length (now x) ≡ setLen) ⌝ }
+    requires { ⌜ now marks ≡ marksIn (now index) (now gone) (a .held) (now r) ⌝ }
     ensures { λ c. ⌜ TakenAll
         (cameOf t (a .held) (now (r .entry)) (saysIn (rows form) (now (o .entry)) (now (index .entry))) m)
         (slice from to lines) (now (x .entry)) c (now (x .exit)) ⌝ }
 {
-    let coding = a.coding;
     let mut first = true;
     let mut second = true;
     let mut within = true;
     let mut i = from;
     while i < to {
-        if stays(index, gone, a.held, r, i) {
-            let l = lines::line_at(i);
-            let word = said::word_of(index, gone, l.id);
-            let c = cells::take(form, coding, o, word, t, a.held, r, a.was, l, m, &mut *x);
+        if marks[i] != 0 {
+            let c = take_line(form, a, o, index, gone, t, r, m, i, &mut *x);
             first = first & c.first;
             second = second & c.second;
             within = within & c.within;
@@ -186,9 +212,14 @@ fn take_fields(
     let count = n as usize;
     let ivs = (t.iv_size / 8) as usize;
     let m = Measure { count, ivs, sum: 0 };
-    let b = take_lines(form, a, o, index, gone, t, r, m, PAIRS, PAST_PAIRS, &mut *x);
+    let marks: &[u64] = &standing(index, gone, a.held, r);
+    let b = if marks[PAIRS] == 0 {
+        cells::well()
+    } else {
+        take_line(form, a, o, index, gone, t, r, m, PAIRS, &mut *x)
+    };
     let c = lawful::tally_of(t, x, x[lines::SUBSAMPLES], count);
-    let e = take_lines(form, a, o, index, gone, t, r, m, 0, PAIRS, &mut *x);
+    let e = take_lines(form, a, o, index, gone, marks, t, r, m, 0, PAIRS, &mut *x);
     let number = first_number(index, e, b, c);
     if number != 0 {
         return number;
@@ -204,6 +235,7 @@ fn take_fields(
         o,
         index,
         gone,
+        marks,
         t,
         r,
         k,
@@ -234,6 +266,7 @@ fn finish_set(
     o: &[u8],
     index: &[u64],
     gone: &[u64],
+    marks: &[u64],
     t: Track,
     r: &[u64],
     m: Measure,
@@ -243,6 +276,7 @@ fn finish_set(
 ) -> u64
     requires { ⌜ Readable (rows form) (now o) (now index) (now gone) t a (now r) ⌝ }
     requires { ⌜ (Measured m) × (length (now x) ≡ setLen) ⌝ }
+    requires { ⌜ now marks ≡ marksIn (now index) (now gone) (a .held) (now r) ⌝ }
     ensures { λ k. ⌜ LastReadAs t (a .held) (now (r .entry))
         (saysIn (rows form) (now (o .entry)) (now (index .entry))) m
         second within (now (x .entry)) k (now (x .exit)) ⌝ }
@@ -253,6 +287,7 @@ fn finish_set(
         o,
         index,
         gone,
+        marks,
         t,
         r,
         m,
@@ -260,7 +295,7 @@ fn finish_set(
         lines::LINES,
         &mut *x,
     );
-    let rules = rules::rules_ok(t, m.count as u64, &standing(index, gone, a.held, r));
+    let rules = rules::rules_ok(t, m.count as u64, marks);
     if !(second & (d.second & rules)) {
         return 14;
     }

@@ -8,23 +8,16 @@ use Rattle.wire.specs.Form.{rows}
 use Rattle.locmaf_read_block.proofs.OnesLaws.{ones-join}
 use Rattle.locmaf_read_block.proofs.numbers.eight_at.Statement.{statement}
 use Rattle.locmaf_read_block.proofs.numbers.eight_at.Tie as tie
-use Rattle.locmaf_read_block.proofs.numbers.eight_at.Reads as reads
-use Rattle.locmaf_read_block.proofs.numbers.eight_at.Lts as lts
-use Rattle.locmaf_read_block.proofs.numbers.four_at.Reads as four-at-reads
 
--- src/numbers.rt:48:5
 four-at-requires : tie.Need-four-at-requires
 four-at-requires c κs = search needs
 
--- src/numbers.rt:48:44
 add-four-at : tie.Need-add-four-at
 add-four-at c = search needs
 
--- src/numbers.rt:48:27
 four-at-requires-2 : tie.Need-four-at-requires-2
 four-at-requires-2 c κs = search needs
 
--- src/numbers.rt:44:1
 returns : tie.Need-returns
 returns c =
     let b = c .before .before .before in

@@ -6,39 +6,28 @@ use Rattle.wire.specs.Form.{rows}
 use Rattle.locmaf_read_block.proofs.OnesLaws.{ones-four}
 use Rattle.locmaf_read_block.proofs.numbers.four_at.Statement.{statement}
 use Rattle.locmaf_read_block.proofs.numbers.four_at.Tie as tie
-use Rattle.locmaf_read_block.proofs.numbers.four_at.Reads as reads
-use Rattle.locmaf_read_block.proofs.numbers.four_at.Lts as lts
-use Rattle.locmaf_read_block.proofs.numbers.one_at.Reads as one-at-reads
 
--- src/numbers.rt:39:5
 one-at-requires : tie.Need-one-at-requires
 one-at-requires c κs = search needs
 
--- src/numbers.rt:40:28
 add-one-at : tie.Need-add-one-at
 add-one-at c = search needs
 
--- src/numbers.rt:40:12
 one-at-requires-2 : tie.Need-one-at-requires-2
 one-at-requires-2 c κs = search needs
 
--- src/numbers.rt:40:54
 add-one-at-2 : tie.Need-add-one-at-2
 add-one-at-2 c = search needs
 
--- src/numbers.rt:40:38
 one-at-requires-3 : tie.Need-one-at-requires-3
 one-at-requires-3 c κs = search needs
 
--- src/numbers.rt:40:79
 add-one-at-3 : tie.Need-add-one-at-3
 add-one-at-3 c = search needs
 
--- src/numbers.rt:40:63
 one-at-requires-4 : tie.Need-one-at-requires-4
 one-at-requires-4 c κs = search needs
 
--- src/numbers.rt:35:1
 returns : tie.Need-returns
 returns c =
     let b = c .before .before .before .before .before in

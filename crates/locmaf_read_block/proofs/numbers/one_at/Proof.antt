@@ -2,24 +2,16 @@
 use borrow.Author.Needs.{needs}
 use Rattle.locmaf_read_block.proofs.numbers.one_at.Statement.{statement}
 use Rattle.locmaf_read_block.proofs.numbers.one_at.Tie as tie
-use Rattle.locmaf_read_block.proofs.numbers.one_at.Reads as reads
-use Rattle.locmaf_read_block.proofs.numbers.one_at.Lts as lts
-use Rattle.locmaf_read_block.proofs.numbers.wide.Reads as wide-reads
-use Rattle.wire.proofs.form.ones.Reads as ones-reads
 
--- src/numbers.rt:31:10
 shared-slice-read-wide : tie.Need-shared-slice-read-wide
 shared-slice-read-wide c = search needs
 
--- src/numbers.rt:31:5
 wide-requires : tie.Need-wide-requires
 wide-requires c κs = search needs
 
--- src/numbers.rt:31:18
 ones-requires : tie.Need-ones-requires
 ones-requires c κs = search needs
 
--- src/numbers.rt:27:1
 returns : tie.Need-returns
 returns c = rw (c .before .wide .ensures, c .ones .ensures)
 

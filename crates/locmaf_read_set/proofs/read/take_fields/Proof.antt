@@ -1,7 +1,19 @@
 -- `locmaf_read_set::read::take_fields` meets its contract: each return by its law of `proofs/RungLaws.antt`. Assumes nothing.
+use Prim.Native.Nat.{_+_}
+use denote.Ref.{now}
 use native.Mathlib.Omega.{arith}
-use mathlib.Core.Path.{refl, _∙_}
+use mathlib.Core.Logic.{⊎-elim}
+use mathlib.Core.Path.{_≡_, refl, _∙_}
+use lib.ListN.{length}
+use lib.Seq.{slice}
+use Rattle.wire.specs.Form.{rows}
+use Rattle.field_table.specs.Lines.{lines, setLen, subsamplesLine}
+use Rattle.field_rules.specs.Words.{measure}
+use Rattle.locmaf_read_said.specs.Said.{saysIn}
+use Rattle.locmaf_read_set.specs.Read.{cameOf, TakenAll}
 use Rattle.locmaf_read_set.proofs.ReadableLaws.{brands-marked}
+use Rattle.locmaf_read_set.proofs.StandingLaws.{unmarked}
+use Rattle.locmaf_read_set.proofs.TakingLaws.{taken-one}
 use Rattle.locmaf_read_set.proofs.RungLaws.{measured, start-long, refuse-front, sum-measured, all-read}
 use borrow.Author.Needs.{needs}
 use Rattle.locmaf_read_set.proofs.read.take_fields.Statement.{statement}
@@ -10,85 +22,108 @@ use Rattle.locmaf_read_set.proofs.read.take_fields.Tie as tie
 cast-ivs : tie.Need-cast-ivs
 cast-ivs c = search needs
 
-take-lines-requires : tie.Need-take-lines-requires
-take-lines-requires c κs =
-    let b = c .before .before .before .before .before .before .before in
+standing-requires : tie.Need-standing-requires
+standing-requires c κs =
+    let p = c .before .before .before .before .before .before .pre in
+    (p .0 .marked .words, p .0 .marked .gone-words, p .0 .words)
+
+slice-aggregate-marks : tie.Need-slice-aggregate-marks
+slice-aggregate-marks c = search needs
+
+shared-slice-read-if1 : tie.Need-shared-slice-read-if1
+shared-slice-read-if1 c = search needs
+
+well-requires : tie.Need-well-requires
+well-requires c κs = search needs
+
+take-line-requires : tie.Need-take-line-requires
+take-line-requires c κs =
+    let b = c .before .before .before .before .before .before .before .before .before .before .before in
     let p = b .pre in
-    (p .0, (measured (b .args .t) _ 0 (p .0 .iv) (p .1 .0) (omega arith), omega arith, omega arith, start-long _ _ (p .1 .2)))
+    (p .0, (measured (b .args .t) _ 0 (p .0 .iv) (p .1 .0) (omega arith), omega arith, start-long _ _ (p .1 .2)))
+
+-- id 11, where it stands and where it doesn't
+eleven : (c : tie.Joined1)
+    → (let a = c .before .before .before .before .before .before .before .before .before .before .args in
+    TakenAll
+    (cameOf (a .t) (a .a .held) (now (a .r)) (saysIn (rows (a .form)) (now (a .o)) (now (a .index))) (measure (a .t) (a .n) 0))
+    (slice subsamplesLine (subsamplesLine + 1) lines) (now (a .x)) (c .if1 .b) (c .if1 .x))
+eleven c =
+    let s = c .before .before .before in
+    let p = s .before .before .before .before .before .before .before .pre in
+    let long = start-long _ _ (p .1 .2) in
+    ⊎-elim
+    (λ w.
+    taken-one _ _ (omega arith) _ long
+    (unmarked _ _ _ _ _ _ _ (p .0) _ (s .standing .ensures) subsamplesLine (omega arith) (w .0 .taken) _ _) (w .2) (w .3 ∙ w .1 .ensures))
+    (λ w. taken-one _ _ (omega arith) _ long (w .2 .ensures) (w .5) (w .6))
+    (c .if1 .came)
+
+-- the words are as many behind it
+behind : (c : tie.Joined1) → length (c .if1 .x) ≡ setLen
+behind c = eleven c .long ∙ start-long _ _ (c .before .before .before .before .before .before .before .before .before .before .pre .1 .2)
 
 slice-reshared-read-tally-of : tie.Need-slice-reshared-read-tally-of
-slice-reshared-read-tally-of c =
-    let l₁ = c .before .before .before in
-    omega (arith, l₁ .take-lines .ensures .long, start-long _ _ (l₁ .before .before .before .before .before .before .before .before .pre .1 .2))
+slice-reshared-read-tally-of c = omega (arith, behind (c .before))
 
 tally-of-requires : tie.Need-tally-of-requires
 tally-of-requires c κs =
-    let l₁ = c .before .before .before in
-    let p = l₁ .before .before .before .before .before .before .before .before .pre in
-    (l₁ .take-lines .ensures .long ∙ start-long _ _ (p .1 .2), ((p .1 .0, p .0 .iv), refl))
+    let j = c .before in
+    let p = j .before .before .before .before .before .before .before .before .before .before .pre in
+    (behind j, ((p .1 .0, p .0 .iv), refl))
 
-take-lines-requires-2 : tie.Need-take-lines-requires-2
-take-lines-requires-2 c κs =
-    let l₁ = c .before .before .before .before .before in
-    let b = l₁ .before .before .before .before .before .before .before .before in
-    let p = b .pre in (
-      p .0,
-      (
-        measured (b .args .t) _ 0 (p .0 .iv) (p .1 .0) (omega arith),
-        omega arith,
-        omega arith,
-        l₁ .take-lines .ensures .long ∙ start-long _ _ (p .1 .2),
-      ),
-    )
+take-lines-requires : tie.Need-take-lines-requires
+take-lines-requires c κs =
+    let j = c .before .before .before in
+    let b = j .before .before .before .before .before .before .before .before .before .before in
+    let p = b .pre in
+    (p .0, ((measured (b .args .t) _ 0 (p .0 .iv) (p .1 .0) (omega arith), omega arith, omega arith, behind j), j .before .before .before .standing .ensures))
 
 first-number-requires : tie.Need-first-number-requires
-first-number-requires c κs =
-    let l₂ = c .before .before in
-    l₂ .before .before .before .before .before .before .before .before .before .before .before .before .before .before .pre .0 .marked .words
+first-number-requires c κs = c .before .before .before .before .before .before .before .before .before .before .before .before .before .before .before .before .pre .0 .marked .words
 
 same-length : tie.Need-same-length
 same-length c =
-    let l₂ = c .before .before .before .before in
-    l₂ .take-lines2 .ensures .long ∙ l₂ .before .before .before .before .before .before .take-lines .ensures .long
+    let l = c .before .before .before .before in
+    l .take-lines .ensures .long ∙ eleven (l .before .before .before .before) .long
 
 returns : tie.Need-returns
 returns c =
     let f = c .before in
-    let l₂ = f .before .before .before in
-    let u = l₂ .before .before in
-    let l₁ = u .before .before .before .before in
-    let p = l₁ .before .before .before .before .before .before .before .before .pre in
-    refuse-front _ _ _ _ _ (p .1 .1) (p .0 .words) (p .0 .lawful) (p .0 .iv) (p .1 .0) _ (p .1 .2) _ _ (l₁ .take-lines .ensures) _
-    (u .tally-of .ensures) _ _ (l₂ .take-lines2 .ensures) _ (brands-marked _ _ _ _ (p .0 .marked)) _ (f .first-number .ensures) (c .if1 .taken)
+    let l = f .before .before .before in
+    let u = l .before .before in
+    let j = u .before .before in
+    let p = j .before .before .before .before .before .before .before .before .before .before .pre in
+    refuse-front _ _ _ _ _ (p .1 .1) (p .0 .words) (p .0 .lawful) (p .0 .iv) (p .1 .0) _ (p .1 .2) _ _ (eleven j) _
+    (u .tally-of .ensures) _ _ (l .take-lines .ensures) _ (brands-marked _ _ _ _ (p .0 .marked)) _ (f .first-number .ensures) (c .if2 .taken)
 
 finish-set-requires : tie.Need-finish-set-requires
 finish-set-requires c κs =
     let i = c .before .before .before in
     let f = i .before in
-    let l₂ = f .before .before .before in
-    let u = l₂ .before .before in
-    let l₁ = u .before .before .before .before in
-    let p = l₁ .before .before .before .before .before .before .before .before .pre in
-    let few = sum-measured _ _ _ _ _ (p .1 .1) (p .0 .words) (p .0 .lawful) (p .0 .iv) (p .1 .0) _ (p .1 .2) _ _ (l₁ .take-lines .ensures) _
-    (u .tally-of .ensures) _ _ (l₂ .take-lines2 .ensures) _ (brands-marked _ _ _ _ (p .0 .marked)) _ (f .first-number .ensures) (i .if1 .left) in
-    (p .0, (few, l₂ .take-lines2 .ensures .long ∙ l₁ .take-lines .ensures .long ∙ start-long _ _ (p .1 .2)))
+    let l = f .before .before .before in
+    let u = l .before .before in
+    let j = u .before .before in
+    let p = j .before .before .before .before .before .before .before .before .before .before .pre in
+    let few = sum-measured _ _ _ _ _ (p .1 .1) (p .0 .words) (p .0 .lawful) (p .0 .iv) (p .1 .0) _ (p .1 .2) _ _ (eleven j) _
+    (u .tally-of .ensures) _ _ (l .take-lines .ensures) _ (brands-marked _ _ _ _ (p .0 .marked)) _ (f .first-number .ensures) (i .if2 .left) in
+    (p .0, ((few, l .take-lines .ensures .long ∙ behind j), j .before .before .before .standing .ensures))
 
 same-length-2 : tie.Need-same-length-2
 same-length-2 c =
     let f = c .before .before in
-    let l₁ = f .before .before .before .before .before .before .before .before .before .before .before .before .before .before in
-    omega (arith, f .finish-set .ensures .long, start-long _ _ (l₁ .before .before .before .before .before .before .before .before .pre .1 .2))
+    omega (arith, f .finish-set .ensures .long, start-long _ _ (f .before .before .before .before .before .before .before .before .before .before .before .before .before .before .before .before .before .before .before .before .before .before .pre .1 .2))
 
 returns-2 : tie.Need-returns-2
 returns-2 c =
     let i = c .before .before .before .before .before .before in
     let f = i .before in
-    let l₂ = f .before .before .before in
-    let u = l₂ .before .before in
-    let l₁ = u .before .before .before .before in
-    let p = l₁ .before .before .before .before .before .before .before .before .pre in
-    all-read _ _ _ _ _ (p .1 .1) (p .0 .words) (p .0 .lawful) (p .0 .iv) (p .1 .0) _ (p .1 .2) _ _ (l₁ .take-lines .ensures) _
-    (u .tally-of .ensures) _ _ (l₂ .take-lines2 .ensures) _ (brands-marked _ _ _ _ (p .0 .marked)) _ (f .first-number .ensures) (i .if1 .left)
+    let l = f .before .before .before in
+    let u = l .before .before in
+    let j = u .before .before in
+    let p = j .before .before .before .before .before .before .before .before .before .before .pre in
+    all-read _ _ _ _ _ (p .1 .1) (p .0 .words) (p .0 .lawful) (p .0 .iv) (p .1 .0) _ (p .1 .2) _ _ (eleven j) _
+    (u .tally-of .ensures) _ _ (l .take-lines .ensures) _ (brands-marked _ _ _ _ (p .0 .marked)) _ (f .first-number .ensures) (i .if2 .left)
     _ _ (c .before .before .finish-set .ensures)
 
 pub take-fields-spec : {M : Type 1} → statement M
@@ -96,10 +131,14 @@ take-fields-spec =
     tie.close
     (tie.spec
     cast-ivs
-    take-lines-requires
+    standing-requires
+    slice-aggregate-marks
+    shared-slice-read-if1
+    well-requires
+    take-line-requires
     slice-reshared-read-tally-of
     tally-of-requires
-    take-lines-requires-2
+    take-lines-requires
     first-number-requires
     same-length
     returns

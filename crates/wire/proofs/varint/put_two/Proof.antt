@@ -8,45 +8,35 @@ use Rattle.wire.proofs.FormLaws.{lawful}
 use Rattle.wire.proofs.ShortLaws.{short-bytes, room-two, wrote-two}
 use Rattle.wire.proofs.varint.put_two.Statement.{statement}
 use Rattle.wire.proofs.varint.put_two.Tie as tie
-use Rattle.wire.proofs.varint.put_two.Reads as reads
-use Rattle.wire.proofs.varint.put_two.Lts as lts
-use Rattle.wire.proofs.form.ones.Reads as ones-reads
 
--- src/varint.rt:128:16
 ones-requires : tie.Need-ones-requires
 ones-requires c κs = search needs
 
--- src/varint.rt:128:16
 add-out : tie.Need-add-out
 add-out c =
     let b = c .before in
     let a = b .args in
     omega (arith, room-two (rows (a .form)) (lawful (a .form)) (a .v) (now (a .out)) (a .at) (b .pre .1) (b .pre .0 .0) (b .pre .0 .1))
 
--- src/varint.rt:128:15
 cast-out : tie.Need-cast-out
 cast-out c = search needs
 
--- src/varint.rt:128:5
 slice-write-out : tie.Need-slice-write-out
 slice-write-out c =
     let b = c .before in
     let a = b .args in
     omega (arith, room-two (rows (a .form)) (lawful (a .form)) (a .v) (now (a .out)) (a .at) (b .pre .1) (b .pre .0 .0) (b .pre .0 .1))
 
--- src/varint.rt:129:19
 cast-out-2 : tie.Need-cast-out-2
 cast-out-2 c =
     let b = c .before .before in
     omega (arith, b .pre .0 .1, c .ones .ensures, short-bytes (rows (b .args .form)) (lawful (b .args .form)))
 
--- src/varint.rt:129:9
 add-out-2 : tie.Need-add-out-2
 add-out-2 c =
     let b = c .before .before in
     omega (arith, b .pre .0 .1, c .ones .ensures, short-bytes (rows (b .args .form)) (lawful (b .args .form)))
 
--- src/varint.rt:129:5
 slice-write-out-2 : tie.Need-slice-write-out-2
 slice-write-out-2 c =
     let b = c .before .before in
@@ -60,11 +50,9 @@ add-result c =
     let a = b .args in
     omega (arith, room-two (rows (a .form)) (lawful (a .form)) (a .v) (now (a .out)) (a .at) (b .pre .1) (b .pre .0 .0) (b .pre .0 .1))
 
--- src/varint.rt:123:1
 same-length : tie.Need-same-length
 same-length c = search needs
 
--- src/varint.rt:123:1
 returns : tie.Need-returns
 returns c =
     let b = c .before .before in

@@ -8,40 +8,26 @@ use Rattle.wire.proofs.Reading.{outside, empty}
 use Rattle.wire.proofs.ShortLaws.{short-bytes, read-one}
 use Rattle.wire.proofs.varint.read.Statement.{statement}
 use Rattle.wire.proofs.varint.read.Tie as tie
-use Rattle.wire.proofs.varint.read.Reads as reads
-use Rattle.wire.proofs.varint.read.Lts as lts
-use Rattle.wire.proofs.form.ones.Reads as ones-reads
-use Rattle.wire.proofs.form.twos.Reads as twos-reads
-use Rattle.wire.proofs.varint.more_at.Reads as more-at-reads
-use Rattle.wire.proofs.varint.two_at.Reads as two-at-reads
-use Rattle.wire.proofs.varint.wide.Reads as wide-reads
 
--- src/varint.rt:79:9
 returns : tie.Need-returns
 returns c = let a = c .before .before .args in outside (rows (a .form)) (now (a .s)) (a .at) _ (c .if1 .taken)
 
--- src/varint.rt:82:9
 returns-2 : tie.Need-returns-2
 returns-2 c =
     let a = c .before .before .before .args in empty (rows (a .form)) (now (a .s)) _ _ (c .before .if1 .left) (c .if2 .taken)
 
--- src/varint.rt:84:18
 shared-slice-read-wide : tie.Need-shared-slice-read-wide
 shared-slice-read-wide c = search needs
 
--- src/varint.rt:84:9
 wide-requires : tie.Need-wide-requires
 wide-requires c κs = search needs
 
--- src/varint.rt:85:9
 ones-requires : tie.Need-ones-requires
 ones-requires c κs = search needs
 
--- src/varint.rt:87:30
 add-t11 : tie.Need-add-t11
 add-t11 c = search needs
 
--- src/varint.rt:87:9
 returns-3 : tie.Need-returns-3
 returns-3 c =
     let w = c .before .before in
@@ -51,17 +37,14 @@ returns-3 c =
     (record { before = i .if2 .left; inside = i .before .if1 .left; first = w .wide .ensures })
     (omega (arith, c .if3 .taken, c .before .ones .ensures))
 
--- src/varint.rt:89:19
 twos-requires : tie.Need-twos-requires
 twos-requires c κs = search needs
 
--- src/varint.rt:89:12
 add-if4 : tie.Need-add-if4
 add-if4 c =
     let a = c .before .before .before .before .before .before .before .before .args in
     omega (arith, short-bytes (rows (a .form)) (lawful (a .form)), c .twos .ensures, c .before .before .ones .ensures)
 
--- src/varint.rt:90:9
 two-at-requires : tie.Need-two-at-requires
 two-at-requires c κs =
     let w = c .before .before .before .before in
@@ -71,18 +54,15 @@ two-at-requires c κs =
       (omega (arith, c .before .before .if3 .left, o .ones .ensures), omega (arith, c .if4 .taken, c .before .twos .ensures, o .ones .ensures)),
     )
 
--- src/varint.rt:90:9
 returns-4 : tie.Need-returns-4
 returns-4 c = search needs
 
--- src/varint.rt:92:5
 more-at-requires : tie.Need-more-at-requires
 more-at-requires c κs =
     let w = c .before .before .before .before in
     let i = w .before .before in
     record { before = i .if2 .left; inside = i .before .if1 .left; first = w .wide .ensures }
 
--- src/varint.rt:75:1
 returns-5 : tie.Need-returns-5
 returns-5 c = search needs
 

@@ -8,16 +8,10 @@ use Rattle.wire.proofs.FormLaws.{lawful}
 use Rattle.wire.proofs.ShortLaws.{short-bytes, cut-two, read-two}
 use Rattle.wire.proofs.varint.two_at.Statement.{statement}
 use Rattle.wire.proofs.varint.two_at.Tie as tie
-use Rattle.wire.proofs.varint.two_at.Reads as reads
-use Rattle.wire.proofs.varint.two_at.Lts as lts
-use Rattle.wire.proofs.form.ones.Reads as ones-reads
-use Rattle.wire.proofs.varint.wide.Reads as wide-reads
 
--- src/varint.rt:47:8
 add-if1 : tie.Need-add-if1
 add-if1 c = let h = c .before .pre .0 in omega (arith, h .before, h .inside)
 
--- src/varint.rt:48:9
 returns : tie.Need-returns
 returns c =
     let b = c .before .before in
@@ -25,16 +19,13 @@ returns c =
     let p = b .pre in
     cut-two (rows (a .form)) (lawful (a .form)) (now (a .s)) (a .at) (a .end) (a .b) (p .0) (p .1 .0) (p .1 .1) (omega arith)
 
--- src/varint.rt:50:21
 ones-requires : tie.Need-ones-requires
 ones-requires c κs = search needs
 
--- src/varint.rt:50:17
 sub-above : tie.Need-sub-above
 sub-above c =
     let p = c .before .before .before .pre in omega (arith, p .1 .0, c .ones .ensures)
 
--- src/varint.rt:51:16
 add-wide : tie.Need-add-wide
 add-wide c = search needs
 
