@@ -4,18 +4,11 @@ use native.Mathlib.Nat.{add-zero, sub-zero}
 use native.Mathlib.Omega.{arith}
 use mathlib.Core.Path.{_≡_, refl, sym, _∙_, ap}
 use mathlib.Core.List.{List}
-use lib.ListN.{length, getD, drop, set, length-set}
+use lib.ListN.{length, drop, set, length-set}
 use lib.Seq.{slice, sets, slice-cons}
-use Rattle.laws.proofs.ListLaws.{getD-in}
 use Rattle.laws.proofs.SliceLaws.{slice-none}
 use Rattle.wire.specs.declared.form.Row.{Row}
 use Rattle.wire.specs.declared.zigzag.Coding.{Coding}
-use Rattle.wire.specs.declared.zigzag.Reached.{Reached}
-use Rattle.wire.specs.declared.zigzag.Reached.the-variants.{To}
-use Rattle.wire.specs.Form.{ones}
-use Rattle.wire.specs.Zigzag.{reached}
-use Rattle.wire.proofs.FormLaws.{Lawful}
-use Rattle.wire.proofs.ShortLaws.{read-one}
 use Rattle.runs.specs.declared.Outcome.{Outcome}
 use Rattle.runs.specs.declared.Outcome.the-variants.{Done, Misfit, Outside}
 use Rattle.runs.specs.declared.Next.{Next}
@@ -23,7 +16,7 @@ use Rattle.runs.specs.declared.Next.the-variants.{Value, Cut}
 use Rattle.runs.specs.declared.Next.the-variants.{Outside as Beyond}
 use Rattle.runs.specs.Run.{Filled, FilledAs, Filling, stop, more, filled, filledAt, nextAt, outcomeOf}
 use Rattle.runs.proofs.RunLaws.{filled-outside, filled-inside, filled-none}
-use Rattle.runs.proofs.NextLaws.{onNext, by-next, next-value}
+use Rattle.runs.proofs.NextLaws.{onNext, by-next}
 
 module _ (F : List Row) (coding : Coding) (base bound : ℕ) (s : List ℕ) (at end : ℕ) (old out₀ : List ℕ) (to n : ℕ) where
   -- the end is past the bytes: nothing is read
@@ -93,11 +86,3 @@ module _ (F : List Row) (coding : Coding) (base bound : ℕ) (s : List ℕ) (at 
             answer = sym (ap (λ (f : Filled). f .answer) one) ∙ h .answer;
             values = rw r (sym (ap (λ (f : Filled). sets out (to + i) (f .values)) one) ∙ h .values);
           }
-
-      -- a value more, whose varint has one byte
-      pub next-one : Lawful 0 F → p < end → i < length old → {z v : ℕ} {t : Reached} → z ≡ getD s p 0 → z < ones F
-          → t ≡ reached coding (getD old i 0) bound z → t ≡ To v
-          → Filling F coding base bound s at end old out₀ to n (set out (to + i) v) (p + 1) (i + 1)
-      next-one w here there {z} {v} {t} e one r u =
-          let g = read-one F w s p end z (record { before = here; inside = h .bytes; first = e }) one in
-          next v (p + 1) (next-value F coding base bound old s p end i g refl (getD-in old i 0 base there) r u) refl

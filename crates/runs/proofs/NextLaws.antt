@@ -1,10 +1,11 @@
 -- The next value of a run: from what was read of it, and what it says of the values that are left. Assumes nothing.
-use Prim.Native.Nat.{ℕ, suc, _+_, _≤_}
+use Prim.Native.Nat.{ℕ, suc, _+_, _≤_, _<_}
 use native.Mathlib.Numerals.{add-one}
 use mathlib.Core.Path.{_≡_, refl, sym, _∙_}
 use mathlib.Core.List.{List}
 use lib.ListN.{length, getD, drop}
 use lib.Seq.{slice}
+use Rattle.laws.proofs.ListLaws.{getD-in}
 use Rattle.laws.proofs.SliceLaws.{drop-slice}
 use Rattle.wire.specs.declared.form.Row.{Row}
 use Rattle.wire.specs.declared.varint.Got.{Got}
@@ -13,9 +14,12 @@ use Rattle.wire.specs.declared.zigzag.Coding.{Coding}
 use Rattle.wire.specs.declared.zigzag.Reached.{Reached}
 use Rattle.wire.specs.declared.zigzag.Reached.the-variants.{To}
 use Rattle.wire.specs.declared.zigzag.Reached.the-variants.{Outside as Beyond}
-use Rattle.wire.specs.Varint.{readF, readAt, shift, onGot}
+use Rattle.wire.specs.Form.{ones}
+use Rattle.wire.specs.Varint.{readF, readAt, shift, onGot, Begins}
 use Rattle.wire.specs.Zigzag.{reached, onReached}
+use Rattle.wire.proofs.FormLaws.{Lawful}
 use Rattle.wire.proofs.Reading.{inside}
+use Rattle.wire.proofs.ShortLaws.{read-one}
 use Rattle.runs.specs.declared.Outcome.the-variants as outcome
 use Rattle.runs.specs.declared.Next.{Next}
 use Rattle.runs.specs.declared.Next.the-variants.{Value, Cut, Outside}
@@ -44,6 +48,11 @@ module _ (F : List Row) (coding : Coding) (base bound : ℕ) (old s : List ℕ) 
     pub next-value : {v : ℕ} → t ≡ To v → Value v q ≡ nextAt F coding base bound old s p end i
     unfolding nextAt
     next-value u = rw (sym e ∙ f, sym o, sym r ∙ u)
+
+  -- there is one of one byte, and the value is in range
+  pub next-one : Lawful 0 F → Begins s p end (getD s p 0) → i < length old → {z v : ℕ} {t : Reached} → z ≡ getD s p 0 → z < ones F
+      → t ≡ reached coding (getD old i 0) bound z → t ≡ To v → Value v (p + 1) ≡ nextAt F coding base bound old s p end i
+  next-one w b there {z} e one r u = next-value (read-one F w s p end z (rw e b) one) refl (getD-in old i 0 base there) r u
 
   -- what is left to read, one value and m more, goes by the next value
   module _ (m : ℕ) (h : end ≤ length s) where

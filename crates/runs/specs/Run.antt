@@ -94,6 +94,12 @@ outcomeOf (Value v next) = Done
 outcomeOf Cut = Misfit
 outcomeOf Beyond = Outside
 
+-- where a call told a value, it is the next one n, whose varint, at the place p, has one byte; else nothing is said
+abbrev pub OneAs : Next → ℕ → Next → Type 0
+OneAs n p (Value v q) = (Value v q ≡ n) × (q ≡ p + 1)
+OneAs n p Cut = Unit {0}
+OneAs n p Beyond = Unit {0}
+
 -- a call answered r, and left what it read from the place `to` on
 pub record FilledAs (f : Filled) (before : List ℕ) (to : ℕ) (r : Outcome) (after : List ℕ) : Type 0 where
   pub answered : r ≡ f .answer

@@ -2,12 +2,12 @@
 // take as parameters how the values stand on the wire, the old list, what an absent old element counts as, and the largest value.
 // Letters: `s` bytes that are read, `n` how many.
 ghost use mathlib.Core.Path.{_≡_};
-ghost use Prim.Native.Nat.{ℕ, _+_, _-_, _≤_};
+ghost use Prim.Native.Nat.{ℕ, _+_, _-_, _≤_, _<_};
 ghost use mathlib.Core.List.{List};
 ghost use lib.ListN.{length, getD};
 ghost use Rattle.laws.specs.Writes.{Wrote};
 ghost use Rattle.wire.specs.Form.{rows};
-ghost use Rattle.runs.specs.Run.{FilledAs, Filling, filledAt, nextAt, outcomeOf, runOf, measured};
+ghost use Rattle.runs.specs.Run.{FilledAs, Filling, OneAs, filledAt, nextAt, outcomeOf, runOf, measured};
 use wire::form::Form;
 use wire::varint::Got;
 use wire::zigzag::Coded;
@@ -77,6 +77,23 @@ fn outcome_of(g: Next) -> Outcome
     }
 }
 
+// The value with the number i, if its varint, which stands at the place p, has one byte.
+fn one_at(form: Form, coding: Coding, s: &[u8], p: usize, old: &[u64], i: usize, bound: u64) -> Next
+    requires { ⌜ (p < length (now s)) × (i < length (now old)) ⌝ }
+    ensures { λ r. ⌜ ((base end : ℕ) → p < end → end ≤ length (now (s .entry))
+        → OneAs (nextAt (rows form) coding base bound (now (old .entry)) (now (s .entry)) p end i) p r) ⌝ }
+{
+    let z = wire::varint::wide(s[p]);
+    if wire::form::ones(form) <= z {
+        return Next::Cut;
+    }
+    let t = wire::zigzag::reach(coding, old[i], bound, z);
+    let Reached::To(v) = t else {
+        return Next::Outside;
+    };
+    Next::Value(v, p + 1)
+}
+
 // Reads the values in front whose varints have one byte, where each of the n has an old value to go by, up to one that is out of range. Gives how many
 // it stored. Such a value stands at the place of its number, so nothing but that is kept from one to the next.
 fn fill_ones(
@@ -107,12 +124,8 @@ fn fill_ones(
     }
     let mut i = 0;
     while i < n {
-        let z = wire::varint::wide(s[at + i]);
-        if wire::form::ones(form) <= z {
-            return i;
-        }
-        let t = wire::zigzag::reach(coding, old[i], bound, z);
-        let Reached::To(v) = t else {
+        let g = one_at(form, coding, s, at + i, old, i, bound);
+        let Next::Value(v, _) = g else {
             return i;
         };
         out[to + i] = v;
