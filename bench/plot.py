@@ -3,7 +3,8 @@
 import re
 import sys
 
-PANELS = (("v", "video: samples, with size and offset"), ("c", "cenc: samples, three subsamples each"), ("e", "audio, one sample: events"))
+PANELS = (("v", "video: samples, with size and offset"), ("c", "cenc: samples, three subsamples each"), ("a", "audio: samples, numbers of one byte"),
+          ("e", "audio, one sample: events"))
 LINES = (("ours", "encode", "#0b6e99", ""), ("peer", "encode", "#0b6e99", "6 4"), ("ours", "receive", "#b5460f", ""), ("peer", "receive", "#b5460f", "6 4"))
 WIDTH, HEIGHT, LEFT, TOP, GAP = 300, 260, 64, 56, 40
 
@@ -11,7 +12,7 @@ WIDTH, HEIGHT, LEFT, TOP, GAP = 300, 260, 64, 56, 40
 def rows(path):
     got = {}
     for line in open(path):
-        m = re.match(r"([vce])(\d+)\s+(delta|full)\s+(encode|receive)\s+([\d.]+)\s+([\d.]+)", line)
+        m = re.match(r"([vcae])(\d+)\s+(delta|full)\s+(encode|receive)\s+([\d.]+)\s+([\d.]+)", line)
         if m:
             letter, n, kind, call, ours, peer = m.groups()
             got.setdefault((letter, kind, "ours", call), []).append((int(n), float(ours)))

@@ -2,7 +2,8 @@
 """workloads.py: writes, in C, the chunks that the growth of cost is measured on.
 
 For each length two chunks that take turns, as in a group: video with a size and a composition offset for each sample (v1 to v64), cenc with three
-subsamples for each (c1 to c64), and audio of one sample with a list of events (e0 to e16). The form is that of the benchmark's own workloads.h: name,
+subsamples for each (c1 to c64), audio whose samples are so small, and so much alike, that every number of a delta has one byte (a1 to a64), and audio of
+one sample with a list of events (e0 to e16). The form is that of the benchmark's own workloads.h: name,
 parameters, ticks, and of each chunk the bytes up to and with the `mdat` header, the payload's length, and where BMDT stands."""
 import struct
 
@@ -56,6 +57,10 @@ def cenc(n, i):
     return chunk([sum(a + b for a, b in m) for m in subsamples], subsamples=subsamples, iv=i)
 
 
+def short(n, i):
+    return chunk([40 + 7 * (k + i) % 16 for k in range(n)])
+
+
 def audio(n, i):
     return chunk([300], events=n)
 
@@ -64,7 +69,7 @@ def main():
     rows = []
     print("/* Made by bench/workloads.py. */")
     kinds = (("v", LENGTHS, video, (1, 90000, 1, 3000, 0, 3, 0, 0), 3000), ("c", LENGTHS, cenc, (1, 48000, 1, 1024, 0, 0, 1, 16), 1024),
-             ("e", EVENTS, audio, (1, 48000, 1, 1024, 0, 0, 0, 0), 0))
+             ("a", LENGTHS, short, (1, 48000, 1, 1024, 0, 0, 0, 0), 1024), ("e", EVENTS, audio, (1, 48000, 1, 1024, 0, 0, 0, 0), 0))
     for letter, lengths, make, params, ticks in kinds:
         for n in lengths:
             name = letter + str(n)

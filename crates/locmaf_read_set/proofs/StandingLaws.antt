@@ -1,4 +1,4 @@
--- The loop over the marks of the lines. Assumes nothing.
+-- The loop over the marks of the lines, and what a mark says of its line. Assumes nothing.
 use Prim.Native.Nat.{ℕ, zero, suc, _+_, _-_, _≤_, _<_}
 use native.Mathlib.Nat.{not-suc-le-zero, le-of-suc-le-suc, sub-zero}
 use native.Mathlib.Numerals.{add-one}
@@ -97,17 +97,18 @@ marks-said F o index gone t a r h =
     (λ i lt. rw (stands-is F o index gone t a r h i (omega (arith, line-count))))
 
 module _ (index gone : List ℕ) (held : Bool) (r m : List ℕ) (em : m ≡ marksIn index gone held r) where
-  -- there are as many as lines
+  -- there are as many marks as lines
   pub marks-count : length m ≡ lineCount
   marks-count = ap length em ∙ length-map lines (λ l. cond (staysIn index gone held r l) 1 0) ∙ line-count
 
-  -- each by its line
+  -- and each says whether its line stands
   mark-is : (i : ℕ) → i < lineCount → getD m i 0 ≡ cond (staysIn index gone held r (getD lines i spare)) 1 0
   mark-is i lt =
       getD-in m i 0 (cond (staysIn index gone held r spare) 1 0) (omega (arith, marks-count))
       ∙ ap (λ (s : List ℕ). getD s i (cond (staysIn index gone held r spare) 1 0)) em
       ∙ List·getD-map (λ l. cond (staysIn index gone held r l) 1 0) lines i spare
 
+-- 0 says that it doesn't
 mark-none : (b : Bool) → _≡_ {A = ℕ} (cond b 1 0) 0 → b ≡ false
 mark-none true e = absurd (omega arith)
 mark-none false e = refl

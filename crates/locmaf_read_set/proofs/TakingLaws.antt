@@ -91,7 +91,6 @@ module _ (f : Line → Came) (from to : ℕ) (x₀ : List ℕ) where
       unfolding storeAll
       taking-next c y k =
           let n : to ≤ length lines = omega (arith, line-count, h .last) in
-          let ec : c ≡ f (getD lines i spare) .cell = k .answered in
           let one : storeAll (λ l. f l .field) (slice i to lines) x
           ≡ storeAll (λ l. f l .field) (slice (i + 1) to lines) (sets x (getD lines i spare .place) (wordsOf (f (getD lines i spare) .field))) =
           rw (slice-cons i to lines spare lt n, add-one) in
@@ -100,9 +99,9 @@ module _ (f : Line → Came) (from to : ℕ) (x₀ : List ℕ) where
             last = h .last;
             words = h .words;
             long = k .long ∙ h .long;
-            firsts = rest-next (λ l. f l .cell .first) from to i first (c .first) lt (h .last) (ap (λ (z : Cell). z .first) ec) (h .firsts);
-            seconds = rest-next (λ l. f l .cell .second) from to i second (c .second) lt (h .last) (ap (λ (z : Cell). z .second) ec) (h .seconds);
-            withins = rest-next (λ l. f l .cell .within) from to i within (c .within) lt (h .last) (ap (λ (z : Cell). z .within) ec) (h .withins);
+            firsts = rest-next (λ l. f l .cell .first) from to i first (c .first) lt (h .last) (ap (λ (z : Cell). z .first) (k .answered)) (h .firsts);
+            seconds = rest-next (λ l. f l .cell .second) from to i second (c .second) lt (h .last) (ap (λ (z : Cell). z .second) (k .answered)) (h .seconds);
+            withins = rest-next (λ l. f l .cell .within) from to i within (c .within) lt (h .last) (ap (λ (z : Cell). z .within) (k .answered)) (h .withins);
             stored = λ p q s.
                 let ey : y ≡ sets x (getD lines i spare .place) (wordsOf (f (getD lines i spare) .field)) =
                 k .stored (and-right first (c .first) p) (and-right second (c .second) q) (and-right within (c .within) s) in

@@ -119,7 +119,7 @@ fn take_line(
 }
 
 // The fields of the lines from a number up to another, with lengths that go by m. One that is neither sent nor carried on
-// is right as it is, and has no words.
+// is right as it is, and has no words: its mark is 0.
 fn take_lines(
     form: Form,
     a: Against,
@@ -191,7 +191,8 @@ pub fn read_set(
     take_fields(form, a, o, index, &gone, t, r, n, x)
 }
 
-// The fields of n samples. Id 11 comes first, since the lengths of ids 13 and 15 go by its sum.
+// The fields of n samples. Id 11 comes first, since the lengths of ids 13 and 15 go by its sum. Which fields stand is worked
+// out once, for the lines and for the rules of the set.
 fn take_fields(
     form: Form,
     a: Against,
