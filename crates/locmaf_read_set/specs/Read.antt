@@ -1,5 +1,5 @@
 -- The set of moof fields that an object gives, and what is asked of it, step by step in the order of 01.
-use Prim.Native.Nat.{ℕ, _+_, _%_, _≤_}
+use Prim.Native.Nat.{ℕ, _+_, _-_, _/_, _%_, _≤_}
 use mathlib.Core.Path.{_≡_}
 use mathlib.Core.Bool.{Bool, true, false, cond, not, _&&_, _||_}
 use mathlib.Core.List.{List, [], _∷_, map}
@@ -10,7 +10,7 @@ use lib.Seq.{slice}
 use Rattle.laws.specs.Tests.{_and_, sum}
 use Rattle.laws.specs.Ladder.{Rung, _else_, ladder}
 use Rattle.constants.specs.Ids.{idCount}
-use Rattle.constants.specs.Maxima.{samplesMost, subsamplesMost}
+use Rattle.constants.specs.Maxima.{samplesMost, subsamplesMost, entryMost}
 use Rattle.wire.specs.declared.form.Row.{Row}
 use Rattle.locmaf_read_index.specs.Places.{indexLen, standsAt, numberAt}
 use Rattle.wire.specs.declared.zigzag.Coding.{Coding}
@@ -22,7 +22,7 @@ use Rattle.field_table.specs.declared.lines.Line.{Line}
 use Rattle.field_table.specs.declared.lines.Measure.{Measure}
 use Rattle.field_table.specs.Lines.{lines, lineFor, every, setLen, Small, lineCount, subsamplesLine}
 use Rattle.field_set.specs.declared.lawful.Tally.{Tally}
-use Rattle.field_set.specs.Lawful.{saizOk, setRules, sameIvSize, lawful}
+use Rattle.field_set.specs.Lawful.{TallyOf, valuesOf, saizOk, setRules, sameIvSize, lawful}
 use Rattle.locmaf_read_said.specs.declared.said.Word.{Word}
 use Rattle.locmaf_read_said.specs.declared.said.Word.the-variants.{Omitted, Deleted, Sent}
 use Rattle.locmaf_read_field.specs.declared.cells.Cell.{Cell}
@@ -32,7 +32,7 @@ use Rattle.field_rules.specs.Fields.{numbers, Held, codingFor, stood}
 use Rattle.locmaf_read_said.specs.Deletions.{deletionsOk}
 use Rattle.locmaf_read_said.specs.Against.{againstOf}
 use Rattle.locmaf_read_field.specs.Cells.{Came, cellOf}
-use Rattle.field_rules.specs.Words.{setWords, measure, wasOf, storeAll}
+use Rattle.field_rules.specs.Words.{noFields, setWords, measure, wasOf, storeAll}
 
 -- ==== The rules
 
@@ -141,6 +141,18 @@ pub record TakenAll (f : Line → Came) (ls : List Line) (before : List ℕ) (c 
   pub within : c .within ≡ every (λ l. f l .cell .within) ls
   pub stored : (c .first ≡ true) → (c .second ≡ true) → (c .within ≡ true) → after ≡ storeAll (λ l. f l .field) ls before
   pub long : length after ≡ length before
+
+-- the fields up to id 11's were taken into the words `after`, with lengths that go by m: id 11 came to b, its counts to c, and those before it to e
+pub record FrontTaken (t : Track) (delta : Bool) (r : List ℕ) (says : Says) (m : Measure) (e b : Cell) (c : Tally) (after : List ℕ) : Type 0 where
+  pub start : List ℕ
+  pub eleven : List ℕ
+  pub few : m .count ≤ samplesMost
+  pub lengths : m ≡ measure t (m .count) 0
+  pub reached : countReached t delta r says ≡ To (m .count)
+  pub empty : start ≡ setWords 0 (m .count) noFields
+  pub pairs : TakenAll (cameOf t delta r says (measure t (m .count) 0)) (slice subsamplesLine (subsamplesLine + 1) lines) start b eleven
+  pub tally : TallyOf c ((entryMost - 2 - t .«iv_size») / 6) (valuesOf 11 (m .count) eleven)
+  pub others : TakenAll (cameOf t delta r says (measure t (m .count) 0)) (slice 0 subsamplesLine lines) eleven e after
 
 -- a row of rules was asked: the number, and where it is 0 the words
 pub record ReadAs (rungs : List Rung) (words : List ℕ) (number : ℕ) (after : List ℕ) : Type 0 where

@@ -15,7 +15,7 @@ ghost use Rattle.wire.specs.declared.zigzag.Reached.the-variants.{To};
 ghost use Rattle.locmaf_read_said.specs.Said.{saysIn, scalarIn, Telling};
 ghost use Rattle.field_rules.specs.Words.{noFields, setWords};
 ghost use Rattle.locmaf_read_field.specs.Cells.{TakenAs};
-ghost use Rattle.locmaf_read_set.specs.Read.{countFrom, countReached, brandsIn, staysIn, marksIn, cameOf, Lent, Readable, Measured, TakenAll, SetReadAs, FieldsReadAs, firstRungs, LastReadAs};
+ghost use Rattle.locmaf_read_set.specs.Read.{countFrom, countReached, brandsIn, staysIn, marksIn, cameOf, Lent, Readable, Measured, TakenAll, FrontTaken, SetReadAs, FieldsReadAs, firstRungs, LastReadAs};
 use constants::ids;
 use constants::maxima;
 use field_set::lawful;
@@ -221,13 +221,38 @@ fn take_fields(
     };
     let c = lawful::tally_of(t, x, x[lines::SUBSAMPLES], count);
     let e = take_lines(form, a, o, index, gone, marks, t, r, m, 0, PAIRS, &mut *x);
+    finish_fields(form, a, o, index, gone, marks, t, r, m, e, b, c, x)
+}
+
+// What is asked of the fields up to id 11's, and then those behind it: id 11 came to b, its counts to c, and the fields before it to e.
+fn finish_fields(
+    form: Form,
+    a: Against,
+    o: &[u8],
+    index: &[u64],
+    gone: &[u64],
+    marks: &[u64],
+    t: Track,
+    r: &[u64],
+    m: Measure,
+    e: Cell,
+    b: Cell,
+    c: Tally,
+    x: &mut [u64],
+) -> u64
+    requires { ⌜ Readable (rows form) (now o) (now index) (now gone) t a (now r) ⌝ }
+    requires { ⌜ now marks ≡ marksIn (now index) (now gone) (a .held) (now r) ⌝ }
+    requires { ⌜ FrontTaken t (a .held) (now r) (saysIn (rows form) (now o) (now index)) m e b c (now x) ⌝ }
+    ensures { λ k. ⌜ FieldsReadAs (rows form) t (a .held) (now (r .entry)) (now (o .entry)) (now (index .entry)) k
+        (now (x .exit)) ⌝ }
+{
     let number = first_number(index, e, b, c);
     if number != 0 {
         return number;
     }
     let k = Measure {
-        count,
-        ivs,
+        count: m.count,
+        ivs: m.ivs,
         sum: c.sum,
     };
     finish_set(

@@ -1,4 +1,4 @@
--- `locmaf_read_set::read::take_fields` meets its contract: each return by its law of `proofs/RungLaws.antt`. Assumes nothing.
+-- `locmaf_read_set::read::take_fields` meets its contract: what it hands on is what `finish_fields` asks for. Assumes nothing.
 use Prim.Native.Nat.{_+_}
 use denote.Ref.{now}
 use native.Mathlib.Omega.{arith}
@@ -11,10 +11,9 @@ use Rattle.field_table.specs.Lines.{lines, setLen, subsamplesLine}
 use Rattle.field_rules.specs.Words.{measure}
 use Rattle.locmaf_read_said.specs.Said.{saysIn}
 use Rattle.locmaf_read_set.specs.Read.{cameOf, TakenAll}
-use Rattle.locmaf_read_set.proofs.ReadableLaws.{brands-marked}
 use Rattle.locmaf_read_set.proofs.StandingLaws.{unmarked}
 use Rattle.locmaf_read_set.proofs.TakingLaws.{taken-one}
-use Rattle.locmaf_read_set.proofs.RungLaws.{measured, start-long, refuse-front, sum-measured, all-read}
+use Rattle.locmaf_read_set.proofs.RungLaws.{measured, start-long}
 use borrow.Author.Needs.{needs}
 use Rattle.locmaf_read_set.proofs.read.take_fields.Statement.{statement}
 use Rattle.locmaf_read_set.proofs.read.take_fields.Tie as tie
@@ -79,52 +78,36 @@ take-lines-requires c κs =
     let p = b .pre in
     (p .0, ((measured (b .args .t) _ 0 (p .0 .iv) (p .1 .0) (omega arith), omega arith, omega arith, behind j), j .before .before .before .standing .ensures))
 
-first-number-requires : tie.Need-first-number-requires
-first-number-requires c κs = c .before .before .before .before .before .before .before .before .before .before .before .before .before .before .before .before .pre .0 .marked .words
+finish-fields-requires : tie.Need-finish-fields-requires
+finish-fields-requires c κs =
+    let l = c .before .before .before in
+    let u = l .before .before in
+    let j = u .before .before in
+    let p = j .before .before .before .before .before .before .before .before .before .before .pre in (
+      p .0,
+      (
+        j .before .before .before .standing .ensures,
+        record {
+          start = _;
+          eleven = _;
+          few = p .1 .0;
+          lengths = refl;
+          reached = p .1 .1;
+          empty = p .1 .2;
+          pairs = eleven j;
+          tally = u .tally-of .ensures;
+          others = l .take-lines .ensures;
+        },
+      ),
+    )
 
 same-length : tie.Need-same-length
 same-length c =
-    let l = c .before .before .before .before in
-    l .take-lines .ensures .long ∙ eleven (l .before .before .before .before) .long
+    let f = c .before .before in
+    omega (arith, f .finish-fields .ensures .long, start-long _ _ (f .before .before .before .before .before .before .before .before .before .before .before .before .before .before .before .before .before .before .pre .1 .2))
 
 returns : tie.Need-returns
-returns c =
-    let f = c .before in
-    let l = f .before .before .before in
-    let u = l .before .before in
-    let j = u .before .before in
-    let p = j .before .before .before .before .before .before .before .before .before .before .pre in
-    refuse-front _ _ _ _ _ (p .1 .1) (p .0 .words) (p .0 .lawful) (p .0 .iv) (p .1 .0) _ (p .1 .2) _ _ (eleven j) _
-    (u .tally-of .ensures) _ _ (l .take-lines .ensures) _ (brands-marked _ _ _ _ (p .0 .marked)) _ (f .first-number .ensures) (c .if2 .taken)
-
-finish-set-requires : tie.Need-finish-set-requires
-finish-set-requires c κs =
-    let i = c .before .before .before in
-    let f = i .before in
-    let l = f .before .before .before in
-    let u = l .before .before in
-    let j = u .before .before in
-    let p = j .before .before .before .before .before .before .before .before .before .before .pre in
-    let few = sum-measured _ _ _ _ _ (p .1 .1) (p .0 .words) (p .0 .lawful) (p .0 .iv) (p .1 .0) _ (p .1 .2) _ _ (eleven j) _
-    (u .tally-of .ensures) _ _ (l .take-lines .ensures) _ (brands-marked _ _ _ _ (p .0 .marked)) _ (f .first-number .ensures) (i .if2 .left) in
-    (p .0, ((few, l .take-lines .ensures .long ∙ behind j), j .before .before .before .standing .ensures))
-
-same-length-2 : tie.Need-same-length-2
-same-length-2 c =
-    let f = c .before .before in
-    omega (arith, f .finish-set .ensures .long, start-long _ _ (f .before .before .before .before .before .before .before .before .before .before .before .before .before .before .before .before .before .before .before .before .before .before .pre .1 .2))
-
-returns-2 : tie.Need-returns-2
-returns-2 c =
-    let i = c .before .before .before .before .before .before in
-    let f = i .before in
-    let l = f .before .before .before in
-    let u = l .before .before in
-    let j = u .before .before in
-    let p = j .before .before .before .before .before .before .before .before .before .before .pre in
-    all-read _ _ _ _ _ (p .1 .1) (p .0 .words) (p .0 .lawful) (p .0 .iv) (p .1 .0) _ (p .1 .2) _ _ (eleven j) _
-    (u .tally-of .ensures) _ _ (l .take-lines .ensures) _ (brands-marked _ _ _ _ (p .0 .marked)) _ (f .first-number .ensures) (i .if2 .left)
-    _ _ (c .before .before .finish-set .ensures)
+returns c = c .before .before .finish-fields .ensures
 
 pub take-fields-spec : {M : Type 1} → statement M
 take-fields-spec =
@@ -139,9 +122,6 @@ take-fields-spec =
     slice-reshared-read-tally-of
     tally-of-requires
     take-lines-requires
-    first-number-requires
+    finish-fields-requires
     same-length
-    returns
-    finish-set-requires
-    same-length-2
-    returns-2)
+    returns)
