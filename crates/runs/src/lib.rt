@@ -151,7 +151,8 @@ fn fill_rest(
 ) -> Outcome
     requires { ⌜ to + n ≤ length (now out) ⌝ }
     ensures { λ r. ⌜ ((at : ℕ) (before : List ℕ)
-        → Filling (rows form) coding base bound (now (s .entry)) at end (now (old .entry)) before to n (now (out .entry)) p i
+        → Filling (rows form) coding base bound (now (s .entry)) at end (now (old .entry)) before to n
+        (now (out .entry)) p i
         → FilledAs (filledAt (rows form) coding base bound n (now (old .entry)) (now (s .entry)) at end)
         before to r (now (out .exit))) ⌝ }
 {
