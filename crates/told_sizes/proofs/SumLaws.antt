@@ -1,6 +1,6 @@
 -- Laws of sums over a set's words. Assumes nothing.
 use Prim.Native.Nat.{ℕ, _+_, _-_, _*_, _^_, _≤_, _<_}
-use native.Mathlib.Nat.{mul-le-mul-right}
+use native.Mathlib.Nat.{add-zero, mul-le-mul-right}
 use native.Mathlib.Omega.{arith}
 use mathlib.Core.Path.{_≡_, sym, _∙_, ap}
 use mathlib.Core.Bool.{true}
@@ -123,7 +123,41 @@ module _ {w : List ℕ} (s : Summable w) (j k : ℕ) (h : j + k ≤ subsamplesMo
   unfolding lines lineFor
   pairs-join = omega (arith, bytes-join 13 w j k (omega (arith, s .words)), bytes-join 15 w j k (omega (arith, s .words)))
 
-  pub pairs-are : (a b : ℕ) → a ≡ sum (slice ((clearAt + 1) + j) ((clearAt + 1) + j + k) w) → b ≡ sum (slice ((protectedAt + 1) + j) ((protectedAt + 1) + j + k) w)
-      → (a + b ≡ pairBytes w j k) × (a + b < 2 ^ 41)
-  unfolding bytesOf lines lineFor
-  pairs-are a b x y = (rw (x, y), omega (arith, clear-small s j k h, protected-small s j k h))
+-- of two parts of k words the first i of each are added up, and what is left of them
+pub record Pairing (w : List ℕ) (a b k n i : ℕ) : Type 0 where
+  pub first : a + k ≤ length w
+  pub second : b + k ≤ length w
+  pub small : sum (slice a (a + k) w) + sum (slice b (b + k) w) < 2 ^ 41
+  pub left : n + (sum (slice (a + i) (a + k) w) + sum (slice (b + i) (b + k) w)) ≡ sum (slice a (a + k) w) + sum (slice b (b + k) w)
+
+module _ (w : List ℕ) (a b k n i : ℕ) (h : Pairing w a b k n i) (lt : i < k) where
+  -- the next word of each, and those after it
+  next-two : n + (getD w (a + i) 0 + getD w (b + i) 0) + (sum (slice (a + (i + 1)) (a + k) w) + sum (slice (b + (i + 1)) (b + k) w))
+      ≡ sum (slice a (a + k) w) + sum (slice b (b + k) w)
+  next-two =
+      let p : a + (i + 1) ≡ a + i + 1 = omega arith in
+      let q : b + (i + 1) ≡ b + i + 1 = omega arith in
+      rw (p, q) (omega (arith, h .left, sum-next w (a + i) (a + k) (omega arith) (h .first), sum-next w (b + i) (b + k) (omega arith) (h .second)))
+
+  pub pair-fits : n + (getD w (a + i) 0 + getD w (b + i) 0) < 2 ^ 41
+  pair-fits = omega (arith, next-two, h .small)
+
+  pub pair-more : Pairing w a b k (n + (getD w (a + i) 0 + getD w (b + i) 0)) (i + 1)
+  pair-more = record { first = h .first; second = h .second; small = h .small; left = next-two }
+
+module _ {w : List ℕ} (s : Summable w) (j k : ℕ) (h : j + k ≤ subsamplesMost) where
+  pub pair-start : Pairing w (clearAt + 1 + j) (protectedAt + 1 + j) k 0 0
+  pair-start =
+      record {
+        first = omega (arith, s .words);
+        second = omega (arith, s .words);
+        small = omega (arith, clear-small s j k h, protected-small s j k h);
+        left = rw (add-zero (clearAt + 1 + j), add-zero (protectedAt + 1 + j)) (omega arith);
+      }
+
+  pub pair-end : (n i : ℕ) → Pairing w (clearAt + 1 + j) (protectedAt + 1 + j) k n i → k ≤ i → (n ≡ pairBytes w j k) × (n < 2 ^ 41)
+  unfolding bytesOf lines lineFor sum
+  pair-end n i p le =
+      let x : sum (slice (clearAt + 1 + j + i) (clearAt + 1 + j + k) w) ≡ 0 = ap sum (slice-none (clearAt + 1 + j + i) (clearAt + 1 + j + k) w (omega arith)) in
+      let y : sum (slice (protectedAt + 1 + j + i) (protectedAt + 1 + j + k) w) ≡ 0 = ap sum (slice-none (protectedAt + 1 + j + i) (protectedAt + 1 + j + k) w (omega arith)) in
+      (omega (arith, p .left), omega (arith, p .left, p .small))
