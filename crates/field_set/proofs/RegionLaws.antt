@@ -1,5 +1,5 @@
 -- The region of a line, and the loop over all lines. Assumes nothing.
-use Prim.Native.Nat.{ℕ, _+_, _-_, _^_, _≤_, _<_, zero-le}
+use Prim.Native.Nat.{ℕ, zero, suc, _+_, _-_, _^_, _≤_, _<_, zero-le}
 use native.Mathlib.Nat.{add-zero, le-refl}
 use native.Mathlib.Numerals.{add-one}
 use native.Mathlib.Omega.{arith}
@@ -16,9 +16,10 @@ use Rattle.laws.proofs.SliceLaws.{slice-none, slice-join}
 use Rattle.laws.proofs.TestLaws.{and-next, and-end, and-assoc, same-test, allZero-append, bits-zero, bits-le}
 use Rattle.field_table.specs.declared.lines.Line.{Line}
 use Rattle.field_table.specs.declared.lines.Measure.{Measure}
-use Rattle.field_table.specs.Lines.{lines, spare, setLen, placeOf, wanted, Small, lineCount}
+use Rattle.field_table.specs.Lines.{lines, spare, setLen, placeOf, marksOf, wanted, Small, lineCount}
 use Rattle.field_set.specs.Lawful.{inUse, regionOk, regionsOk}
 use Rattle.field_table.proofs.LineLaws.{Shaped, shaped, line-here, no-lines, place-of, place-next, place-past}
+use Rattle.field_table.proofs.NoneLaws.{zero-at}
 
 -- a field without its mark uses nothing
 pub unused : (mark k : ℕ) → mark ≡ 0 → 0 ≡ inUse mark k
@@ -187,3 +188,15 @@ module _ (m : Measure) (w : List ℕ) where
               left = rw (scan-place, ey, bits-zero (rest ∷ slice free (l .place) w), after)
                   (regroup ok _ (eqb rest 0) (allZero (slice free (l .place) w)) _ _ ∙ rw (region-stands m l w stands n en scan-shape k v ev) at here);
             }
+
+  -- no field stands: the words not in use are all words
+  module _ (e : length w ≡ setLen) (s : Small m) (none : allZero (marksOf w) ≡ true) where
+    scan-all : (i : ℕ) → i ≤ lineCount → Scanning m w true 0 2 i
+    unfolding marksOf
+    scan-all zero h = scan-start e s
+    scan-all (suc i) h =
+        let z : getD w (getD lines i spare .place) 0 ≡ 0 = zero-at (λ (l : Line). getD w (l .place) 0) none i h in
+        rw (← add-one i) (scan-free true 0 2 i (scan-all i (omega arith)) h (placeOf i) refl (getD lines i spare) refl (rw (place-of i h) z))
+
+    pub scan-none : (y : ℕ) → y ≡ allBits (slice 2 setLen w) → eqb y 0 ≡ regionsOk m lines w
+    scan-none = scan-end true 0 2 lineCount (scan-all lineCount (le-refl lineCount)) (le-refl lineCount)

@@ -14,6 +14,7 @@ use constants::maxima;
 use field_table::lines;
 use field_table::lines::Measure;
 use field_table::marks::marks_of;
+use field_table::marks::none_stands;
 use track::Track;
 use word_spans::scan;
 
@@ -51,12 +52,17 @@ fn in_use(mark: u64, k: usize) -> usize
 }
 
 // Whether the regions of all lines are lawful. A field that doesn't stand has no word in use, so the words between two fields that stand are one
-// run of zeros, which is read at once.
+// run of zeros, which is read at once; and where no field stands, all words are. With several samples some field stands nearly always, so it isn't asked.
 fn regions_ok(w: &[u64], m: Measure) -> bool
     requires { ⌜ length (now w) ≡ setLen ⌝ }
     requires { ⌜ Small m ⌝ }
     ensures { λ r. ⌜ r ≡ regionsOk m lines (now (w .entry)) ⌝ }
 {
+    if m.count <= 1 {
+        if none_stands(w) {
+            return scan::bits(w, lines::SIZES, lines::SET) == 0;
+        }
+    }
     let mut ok = true;
     let mut rest = 0;
     let mut free = lines::SIZES;

@@ -2,6 +2,7 @@
 // Letters: `w` the words of a set.
 ghost use mathlib.Core.Path.{_≡_};
 ghost use lib.ListN.{length};
+ghost use Rattle.laws.specs.Tests.{allZero};
 ghost use Rattle.field_table.specs.Lines.{setLen, marksOf};
 use crate::lines;
 
@@ -25,4 +26,18 @@ pub fn marks_of(w: &[u64]) -> [u64; lines::LINES]
         w[lines::PROTECTED],
         w[lines::IV_SIZE],
     ]
+}
+
+// Whether no field stands.
+pub fn none_stands(w: &[u64]) -> bool
+    requires { ⌜ length (now w) ≡ setLen ⌝ }
+    ensures { λ r. ⌜ r ≡ allZero (marksOf (now (w .entry))) ⌝ }
+{
+    let mut all = 0;
+    let mut i = 0;
+    while i < lines::LINES {
+        all = all | w[lines::place_at(i)];
+        i += 1;
+    }
+    all == 0
 }
