@@ -10,7 +10,7 @@ use lib.Dec.{leb, ltb}
 use lib.ListN.{length, getD}
 use lib.Seq.{slice, slice-cons, length-slice}
 use Rattle.laws.proofs.SliceLaws.{slice-none, slice-join}
-use Rattle.laws.proofs.TestLaws.{both-of}
+use Rattle.laws.proofs.TestLaws.{both-of, and-is, and-end}
 use Rattle.wire.specs.declared.form.Row.{Row}
 use Rattle.wire.specs.Form.{ones}
 use Rattle.wire.proofs.FormLaws.{Lawful}
@@ -18,10 +18,6 @@ use Rattle.wire.proofs.ShortLaws.{front-one}
 use Rattle.locmaf_read_block.specs.declared.numbers.Counted.the-variants.{Whole}
 use Rattle.locmaf_read_block.specs.Numbers.{numbersRun, counted, countAt, plus, allOnes}
 use Rattle.locmaf_read_block.proofs.NumberLaws.{numbers-none, numbers-one, plus-zero, counted-before, count-inside}
-
-and-true : (a : Bool) → (a && true) ≡ a
-and-true true = refl
-and-true false = refl
 
 module _ (F : List Row) where
   -- each byte is a number
@@ -65,7 +61,7 @@ module _ (F : List Row) where
       let s₃ = slice-cons (p + 3) (p + 4) s 0 (omega arith) h in
       let s₄ = slice-none (suc (p + 3)) (p + 4) s (omega arith) in
       let all : slice p (p + 4) s ≡ getD s p 0 ∷ getD s (p + 1) 0 ∷ getD s (p + 2) 0 ∷ getD s (p + 3) 0 ∷ [] = cc in
-      rw (all, and-true (ltb (getD s (p + 3) 0) (ones F)))
+      rw (all, ← and-is (ltb (getD s (p + 3) 0) (ones F)) true, and-end (ltb (getD s (p + 3) 0) (ones F)))
 
   -- ---- the walk over a list from the place at, eight bytes at a time, up to its last eight
 

@@ -6,5 +6,6 @@ pub mod StandingLaws
 pub mod FirstLaws
 pub mod LastLaws
 pub mod RungLaws
+pub mod BareLaws
 pub mod OrderLaws
 pub mod NewSetLaws

@@ -36,10 +36,6 @@ rest-end p from to i b le ge h =
     let e : i ≡ to = omega arith in
     sym (rw (e, slice-empty to lines) (and-end b)) ∙ h
 
--- a test that holds changes nothing
-and-true : (b : Bool) → (b && true) ≡ b
-and-true b = sym (and-is b true) ∙ and-end b
-
 -- the lines from one number up to the one at i are taken
 pub record Taking (f : Line → Came) (from to : ℕ) (x₀ x : List ℕ) (first second within : Bool) (i : ℕ) : Type 0 where
   pub high : i ≤ to
@@ -112,7 +108,7 @@ module _ (f : Line → Came) (from to : ℕ) (x₀ : List ℕ) where
 
       -- one that has nothing to take
       pub taking-skip : TakenAs (f (getD lines i spare)) (getD lines i spare .place) x right x → Taking f from to x₀ x first second within (i + 1)
-      taking-skip k = rw (and-true first, and-true second, and-true within) at (taking-next right x k)
+      taking-skip k = rw (← and-is first true, ← and-is second true, ← and-is within true, and-end first, and-end second, and-end within) at (taking-next right x k)
 
 -- a run of one line, under other names
 pub taken-one : (f : Line → Came) (i : ℕ) → i < lineCount → (x : List ℕ) → length x ≡ setLen → {c d : Cell} {y z : List ℕ}

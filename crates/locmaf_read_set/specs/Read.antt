@@ -5,7 +5,7 @@ use mathlib.Core.Bool.{Bool, true, false, cond, not, _&&_, _||_}
 use mathlib.Core.List.{List, [], _∷_, map}
 use mathlib.Core.Option.{Option, none, some}
 use lib.Dec.{eqb, leb}
-use lib.ListN.{length, getD}
+use lib.ListN.{length, getD, replicate}
 use lib.Seq.{slice}
 use Rattle.laws.specs.Tests.{_and_, sum}
 use Rattle.laws.specs.Ladder.{Rung, _else_, ladder}
@@ -116,6 +116,14 @@ staysIn index gone held r l = wordStands (wordIn index gone (l .id)) (stood held
 
 abbrev pub marksIn : List ℕ → List ℕ → Bool → List ℕ → List ℕ
 marksIn index gone held r = map (λ l. cond (staysIn index gone held r l) 1 0) lines
+
+-- the object sends no field of the table
+unfoldable pub noneSent : List ℕ → Bool
+noneSent index = every (λ l. eqb (getD index (standsAt (l .id)) 0) 0) lines
+
+-- what is asked of a set of n samples in which no field stands
+unfoldable pub bareRungs : Track → ℕ → List ℕ → List Rung
+bareRungs t n index = (brandsIn index else 14) ∷ (setRules t n (replicate lineCount 0) else 14) ∷ []
 
 -- the words that are lent for an object: its index, the marks of what it deletes, and the reference's set
 abbrev pub Lent : List ℕ → List ℕ → List ℕ → Type 0

@@ -15,7 +15,7 @@ ghost use Rattle.wire.specs.declared.zigzag.Reached.the-variants.{To};
 ghost use Rattle.locmaf_read_said.specs.Said.{saysIn, scalarIn, Telling};
 ghost use Rattle.field_rules.specs.Words.{noFields, setWords};
 ghost use Rattle.locmaf_read_field.specs.Cells.{TakenAs};
-ghost use Rattle.locmaf_read_set.specs.Read.{countFrom, countReached, brandsIn, staysIn, marksIn, cameOf, Lent, Readable, Measured, TakenAll, FrontTaken, SetReadAs, FieldsReadAs, firstRungs, LastReadAs};
+ghost use Rattle.locmaf_read_set.specs.Read.{countFrom, countReached, brandsIn, staysIn, marksIn, cameOf, Lent, Readable, Measured, TakenAll, FrontTaken, noneSent, bareRungs, SetReadAs, FieldsReadAs, firstRungs, LastReadAs};
 use constants::ids;
 use constants::maxima;
 use field_set::lawful;
@@ -23,6 +23,7 @@ use field_set::lawful::Tally;
 use field_set::rules;
 use field_table::lines;
 use field_table::lines::Measure;
+use field_table::marks::none_stands;
 use field_table::order;
 use locmaf_read_field::cells;
 use locmaf_read_field::cells::Cell;
@@ -90,6 +91,31 @@ fn standing(index: &[u64], gone: &[u64], held: bool, r: &[u64]) -> [u64; lines::
         i += 1;
     }
     m
+}
+
+// Whether the object sends no field of the set, but for BMDT and the sample count.
+fn none_sent(index: &[u64]) -> bool
+    requires { ⌜ length (now index) ≡ indexLen ⌝ }
+    ensures { λ b. ⌜ b ≡ noneSent (now (index .entry)) ⌝ }
+{
+    let mut all = 0;
+    let mut i = 0;
+    while i < lines::LINES {
+        all = all | index[lines::id_at(i) as usize * places::EACH];
+        i += 1;
+    }
+    all == 0
+}
+
+// The number of a set of n samples in which no field stands: 14 or 0.
+fn bare_number(t: Track, n: u64, index: &[u64]) -> u64
+    requires { ⌜ length (now index) ≡ indexLen ⌝ }
+    ensures { λ k. ⌜ k ≡ ladder (bareRungs t n (now (index .entry))) (λ j. j) 0 ⌝ }
+{
+    if brands_fit(index) & rules::rules_ok(t, n, &[0u64; lines::LINES]) {
+        return 0;
+    }
+    14
 }
 
 // The field of the line with the number i, which stands: it is sent or carried on. Its length goes by m.
@@ -191,9 +217,35 @@ pub fn read_set(
     take_fields(form, a, o, index, &gone, t, r, n, x)
 }
 
-// The fields of n samples. Id 11 comes first, since the lengths of ids 13 and 15 go by its sum. Which fields stand is worked
-// out once, for the lines and for the rules of the set.
+// The fields of n samples. Where none is sent and none stood, all lines are passed over at once; with several samples that is seldom so, and not asked.
 fn take_fields(
+    form: Form,
+    a: Against,
+    o: &[u8],
+    index: &[u64],
+    gone: &[u64],
+    t: Track,
+    r: &[u64],
+    n: u64,
+    x: &mut [u64],
+) -> u64
+    requires { ⌜ Readable (rows form) (now o) (now index) (now gone) t a (now r) ⌝ }
+    requires { ⌜ (n ≤ samplesMost) × (countReached t (a .held) (now r) (saysIn (rows form) (now o) (now index)) ≡ To n)
+        × (now x ≡ setWords 0 n noFields) ⌝ }
+    ensures { λ k. ⌜ FieldsReadAs (rows form) t (a .held) (now (r .entry)) (now (o .entry)) (now (index .entry)) k
+        (now (x .exit)) ⌝ }
+{
+    if n <= 1 {
+        if none_sent(index) & (!a.held | none_stands(r)) {
+            return bare_number(t, n, index);
+        }
+    }
+    take_standing(form, a, o, index, gone, t, r, n, x)
+}
+
+// The fields of n samples, of which some may stand. Id 11 comes first, since the lengths of ids 13 and 15 go by its sum. Which fields stand is worked
+// out once, for the lines and for the rules of the set.
+fn take_standing(
     form: Form,
     a: Against,
     o: &[u8],

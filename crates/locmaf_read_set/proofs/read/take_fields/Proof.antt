@@ -1,127 +1,46 @@
--- `locmaf_read_set::read::take_fields` meets its contract: what it hands on is what `finish_fields` asks for. Assumes nothing.
-use Prim.Native.Nat.{_+_}
-use denote.Ref.{now}
-use native.Mathlib.Omega.{arith}
-use mathlib.Core.Logic.{⊎-elim}
-use mathlib.Core.Path.{_≡_, refl, _∙_}
-use lib.ListN.{length}
-use lib.Seq.{slice}
-use Rattle.wire.specs.Form.{rows}
-use Rattle.field_table.specs.Lines.{lines, setLen, subsamplesLine}
-use Rattle.field_rules.specs.Words.{measure}
-use Rattle.locmaf_read_said.specs.Said.{saysIn}
-use Rattle.locmaf_read_set.specs.Read.{cameOf, TakenAll}
-use Rattle.locmaf_read_set.proofs.StandingLaws.{unmarked}
-use Rattle.locmaf_read_set.proofs.TakingLaws.{taken-one}
-use Rattle.locmaf_read_set.proofs.RungLaws.{measured, start-long}
+-- `locmaf_read_set::read::take_fields` meets its contract: where no field is sent and none stood, what is asked is all that is left of the
+-- rules. Assumes nothing.
+use mathlib.Core.Path.{sym, _∙_}
+use Rattle.laws.proofs.TestLaws.{both-of}
+use Rattle.locmaf_read_set.proofs.BareLaws.{bare-read}
 use borrow.Author.Needs.{needs}
 use Rattle.locmaf_read_set.proofs.read.take_fields.Statement.{statement}
 use Rattle.locmaf_read_set.proofs.read.take_fields.Tie as tie
 
-cast-ivs : tie.Need-cast-ivs
-cast-ivs c = search needs
+none-sent-requires : tie.Need-none-sent-requires
+none-sent-requires c κs = c .before .before .before .before .before .before .pre .0 .marked .words
 
-standing-requires : tie.Need-standing-requires
-standing-requires c κs =
-    let p = c .before .before .before .before .before .before .pre in
-    (p .0 .marked .words, p .0 .marked .gone-words, p .0 .words)
+none-stands-requires : tie.Need-none-stands-requires
+none-stands-requires c κs = c .before .before .before .before .before .before .before .before .pre .0 .words
 
-slice-aggregate-marks : tie.Need-slice-aggregate-marks
-slice-aggregate-marks c = search needs
+bare-number-requires : tie.Need-bare-number-requires
+bare-number-requires c κs = c .before .before .before .before .before .before .before .before .before .before .pre .0 .marked .words
 
-shared-slice-read-if1 : tie.Need-shared-slice-read-if1
-shared-slice-read-if1 c = search needs
+-- no field is sent, and none stood
+returns : tie.Need-returns
+returns c =
+    let e = c .before .before .before .before in
+    let p = e .before .before .before .before .before .before .before .pre in
+    let q = both-of _ _ (c .before .if2 .taken) in
+    bare-read _ _ _ _ _ _ _ (p .0) _ (p .1 .1) (sym (e .none-sent .ensures) ∙ q .0) (rw (c .before .before .none-stands .ensures) at (q .1)) _ (p .1 .2) _ (c .bare-number .ensures)
 
-well-requires : tie.Need-well-requires
-well-requires c κs = search needs
-
-take-line-requires : tie.Need-take-line-requires
-take-line-requires c κs =
-    let b = c .before .before .before .before .before .before .before .before .before .before .before in
-    let p = b .pre in
-    (p .0, (measured (b .args .t) _ 0 (p .0 .iv) (p .1 .0) (omega arith), omega arith, start-long _ _ (p .1 .2)))
-
--- id 11, where it stands and where it doesn't
-eleven : (c : tie.Joined1)
-    → (let a = c .before .before .before .before .before .before .before .before .before .before .args in
-    TakenAll
-    (cameOf (a .t) (a .a .held) (now (a .r)) (saysIn (rows (a .form)) (now (a .o)) (now (a .index))) (measure (a .t) (a .n) 0))
-    (slice subsamplesLine (subsamplesLine + 1) lines) (now (a .x)) (c .if1 .b) (c .if1 .x))
-eleven c =
-    let s = c .before .before .before in
-    let p = s .before .before .before .before .before .before .before .pre in
-    let long = start-long _ _ (p .1 .2) in
-    ⊎-elim
-    (λ w.
-    taken-one _ _ (omega arith) _ long
-    (unmarked _ _ _ _ _ _ _ (p .0) _ (s .standing .ensures) subsamplesLine (omega arith) (w .0 .taken) _ _) (w .2) (w .3 ∙ w .1 .ensures))
-    (λ w. taken-one _ _ (omega arith) _ long (w .2 .ensures) (w .5) (w .6))
-    (c .if1 .came)
-
--- the words are as many behind it
-behind : (c : tie.Joined1) → length (c .if1 .x) ≡ setLen
-behind c = eleven c .long ∙ start-long _ _ (c .before .before .before .before .before .before .before .before .before .before .pre .1 .2)
-
-slice-reshared-read-tally-of : tie.Need-slice-reshared-read-tally-of
-slice-reshared-read-tally-of c = omega (arith, behind (c .before))
-
-tally-of-requires : tie.Need-tally-of-requires
-tally-of-requires c κs =
-    let j = c .before in
-    let p = j .before .before .before .before .before .before .before .before .before .before .pre in
-    (behind j, ((p .1 .0, p .0 .iv), refl))
-
-take-lines-requires : tie.Need-take-lines-requires
-take-lines-requires c κs =
-    let j = c .before .before .before in
-    let b = j .before .before .before .before .before .before .before .before .before .before in
-    let p = b .pre in
-    (p .0, ((measured (b .args .t) _ 0 (p .0 .iv) (p .1 .0) (omega arith), omega arith, omega arith, behind j), j .before .before .before .standing .ensures))
-
-finish-fields-requires : tie.Need-finish-fields-requires
-finish-fields-requires c κs =
-    let l = c .before .before .before in
-    let u = l .before .before in
-    let j = u .before .before in
-    let p = j .before .before .before .before .before .before .before .before .before .before .pre in (
-      p .0,
-      (
-        j .before .before .before .standing .ensures,
-        record {
-          start = _;
-          eleven = _;
-          few = p .1 .0;
-          lengths = refl;
-          reached = p .1 .1;
-          empty = p .1 .2;
-          pairs = eleven j;
-          tally = u .tally-of .ensures;
-          others = l .take-lines .ensures;
-        },
-      ),
-    )
+take-standing-requires : tie.Need-take-standing-requires
+take-standing-requires c κs = c .before .before .before .before .before .before .before .pre
 
 same-length : tie.Need-same-length
-same-length c =
-    let f = c .before .before in
-    omega (arith, f .finish-fields .ensures .long, start-long _ _ (f .before .before .before .before .before .before .before .before .before .before .before .before .before .before .before .before .before .before .pre .1 .2))
+same-length c = search needs
 
-returns : tie.Need-returns
-returns c = c .before .before .finish-fields .ensures
+returns-2 : tie.Need-returns-2
+returns-2 c = c .before .before .take-standing .ensures
 
 pub take-fields-spec : {M : Type 1} → statement M
 take-fields-spec =
     tie.close
     (tie.spec
-    cast-ivs
-    standing-requires
-    slice-aggregate-marks
-    shared-slice-read-if1
-    well-requires
-    take-line-requires
-    slice-reshared-read-tally-of
-    tally-of-requires
-    take-lines-requires
-    finish-fields-requires
+    none-sent-requires
+    none-stands-requires
+    bare-number-requires
+    returns
+    take-standing-requires
     same-length
-    returns)
+    returns-2)
