@@ -1,15 +1,15 @@
 -- The boxes of a chunk lie in it, and what the tests of them say. Assumes nothing.
 use Prim.Native.Nat.{ℕ, _≤_}
 use native.Mathlib.Omega.{arith}
-use mathlib.Core.Path.{_≡_, refl, _∙_}
-use mathlib.Core.Bool.{Bool, true, false, _&&_}
+use mathlib.Core.Path.{_≡_, refl, sym, _∙_, ap}
+use mathlib.Core.Bool.{Bool, true, false, not, _&&_, and-false, false≢true}
 use mathlib.Core.List.{List}
 use lib.ListN.{length}
-use Rattle.laws.specs.Gate.{gate}
 use Rattle.laws.specs.Tests.{_and_}
-use Rattle.laws.proofs.GateLaws.{stop, pass}
+use Rattle.laws.proofs.GateLaws.{failed, held}
 use Rattle.laws.proofs.TestLaws.{left, right, both-of}
 use Rattle.track.specs.declared.Track.{Track}
+use Rattle.cmaf_read_tree.specs.Whole.{whole}
 use Rattle.cmaf_read_shape.specs.declared.top.Top.{Top}
 use Rattle.cmaf_read_shape.specs.declared.inner.Inner.{Inner}
 use Rattle.cmaf_read_shape.specs.Parts.{Inside}
@@ -18,15 +18,18 @@ use Rattle.cmaf_read_shape.specs.Inner.{innerOf, innerOk}
 use Rattle.cmaf_read_shape.proofs.PartLaws.{body-in}
 use Rattle.cmaf_read_shape.proofs.TopLaws.{TopIn, top-in, styp-inside, prft-inside, emsgs-inside, moof-inside, mdat-inside}
 use Rattle.cmaf_read_shape.proofs.InnerLaws.{InnerIn, inner-in, mfhd-inside, traf-inside, tfhd-inside, tfdt-inside, trun-inside, senc-inside, saiz-inside, saio-inside}
+use Rattle.cmaf_read_shape.proofs.WholeLaws.{shaped-whole}
 use Rattle.cmaf_read_prelude.specs.Styp.{stypOk}
 use Rattle.cmaf_read_prelude.specs.Prft.{prftOk}
 use Rattle.cmaf_read_prelude.specs.Emsg.{emsgsOk}
 use Rattle.cmaf_read_moof.specs.Headers.{mfhdOk, tfdtOk}
 use Rattle.cmaf_read_moof.specs.Defaults.{tfhdOk}
 use Rattle.cmaf_read_trun.specs.Rows.{trunOk}
-use Rattle.cmaf_read_senc.specs.Entries.{sencOk}
+use Rattle.cmaf_read_senc.specs.declared.entries.Filled.{Filled}
+use Rattle.cmaf_read_senc.specs.declared.entries.Filled.the-variants.{With, Wrong}
+use Rattle.cmaf_read_senc.specs.Entries.{isWith, sencOk, withOf, subsamples}
 use Rattle.cmaf_read_senc.specs.Sizes.{saizOk, saioOk}
-use Rattle.cmaf_read_boxes.specs.Right.{outerRight, samplesRight, protectionRight, boxesOk, boxesNumber}
+use Rattle.cmaf_read_boxes.specs.Right.{outerRight, samplesRight, boxesOk, PairsAs}
 
 -- ---- where they lie
 
@@ -127,46 +130,58 @@ pub found-hold : (t : Track) (c : List ℕ) (top : Top) (f : Inner) → top ≡ 
     → BoxesHold t c top f
 found-hold t c top f et ef e = rw (ef, et) (boxes-hold t c e)
 
--- the code's row of five tests is the definition's
-row-five : (a b o s p : Bool) → ((a && b) && (o && (s && p))) ≡ (a and b and o and s and p)
+-- ---- what the code asks of them: first whether they stand where they must, and of the `senc` last
+
+row-six : (a b o s n z : Bool) → ((a && b) && ((o && (s && z)) && n)) ≡ (a and b and o and s and (n && z))
 unfolding _and_
-row-five true true true true p = refl
-row-five true true true false p = refl
-row-five true true false s p = refl
-row-five true false o s p = refl
-row-five false b o s p = refl
+row-six true true true true true true = refl
+row-six true true true true true false = refl
+row-six true true true true false true = refl
+row-six true true true true false false = refl
+row-six true true true false n z = refl
+row-six true true false s n z = refl
+row-six true false o s n z = refl
+row-six false b o s n z = refl
 
-pub boxes-by : (t : Track) (c : List ℕ) (top : Top) (f : Inner) (a b o s p : Bool) → top ≡ topOf c → f ≡ innerOf c (top .moof)
-    → a ≡ topOk c top → b ≡ innerOk (top .moof) f
-    → o ≡ outerRight c top → s ≡ samplesRight c f → p ≡ protectionRight t c f
-    → ((a && b) && (o && (s && p))) ≡ boxesOk t c
-unfolding boxesOk
-boxes-by t c top f a b o s p et ef ea eb eo es ep =
-    row-five a b o s p ∙ rw (ea, eb, eo, es, ep, ef, et)
+module _ (t : Track) (c : List ℕ) {top : Top} {f : Inner} (et : top ≡ topOf c) (ef : f ≡ innerOf c (top .moof)) where
+  abbrev order : Bool
+  order = topOk c top && innerOk (top .moof) f
 
--- ---- the number
+  abbrev others : Bool
+  others = outerRight c top && (samplesRight c f && (saizOk c (f .saiz) && saioOk c (f .saio)))
 
-pub number-wrong : (t : Track) (c : List ℕ) → boxesOk t c ≡ false → 6 ≡ boxesNumber t c
-unfolding boxesNumber
-number-wrong t c h = stop 0 h
+  boxes-are : boxesOk t c ≡ (order && (others && sencOk t c (f .senc)))
+  unfolding boxesOk
+  boxes-are =
+      sym
+      (row-six (topOk c top) (innerOk (top .moof) f) (outerRight c top) (samplesRight c f) (sencOk t c (f .senc)) (saizOk c (f .saiz) && saioOk c (f .saio))
+      ∙ rw (ef, et))
 
-pub number-none : (t : Track) (c : List ℕ) → boxesOk t c ≡ true → 0 ≡ boxesNumber t c
-unfolding boxesNumber
-number-none t c h = pass 6 h refl
+  -- a box doesn't stand where it must
+  pub order-breaks : {x : Bool} → x ≡ order → not x ≡ true → boxesOk t c ≡ false
+  order-breaks q n = boxes-are ∙ ap (λ (x : Bool). x && (others && sencOk t c (f .senc))) (failed q n)
 
--- and what it says
-pub six-only : (t : Track) (c : List ℕ) {k : ℕ} → k ≡ boxesNumber t c → (k ≡ 0 → ⊥) → (boxesOk t c ≡ false) × (k ≡ 6)
-unfolding boxesNumber gate
-six-only t c {k} = by (boxesOk t c)
-  where
-    by : (b : Bool) → k ≡ gate b 6 0 → (k ≡ 0 → ⊥) → (b ≡ false) × (k ≡ 6)
-    by true e n = absurd (n e)
-    by false e n = (refl, e)
+  -- one is wrong beside the `senc`
+  pub pairs-wrong : {x : Bool} → x ≡ others → not x ≡ true → PairsAs t c Wrong
+  pairs-wrong q n =
+      let z : boxesOk t c ≡ false = boxes-are ∙ rw (failed q n) (and-false order) in
+      record { right = sym z; counted = λ k. absurd (false≢true (sym z ∙ k)) }
 
-pub none-right : (t : Track) (c : List ℕ) {k : ℕ} → k ≡ boxesNumber t c → k ≡ 0 → boxesOk t c ≡ true
-unfolding boxesNumber gate
-none-right t c {k} = by (boxesOk t c)
-  where
-    by : (b : Bool) → k ≡ gate b 6 0 → k ≡ 0 → b ≡ true
-    by true e z = refl
-    by false e z = absurd (omega (arith, e, z))
+  -- none is
+  pub pairs-read : {x : Bool} {r : Filled} → order ≡ true → x ≡ others → not x ≡ false
+      → (isWith r ≡ sencOk t c (f .senc)) × (withOf r ≡ subsamples t c (f .senc)) → PairsAs t c r
+  pairs-read h q n e = record { right = e .0 ∙ sym (boxes-are ∙ rw (h, held q n)); counted = λ k. e .1 ∙ rw (ef, et) }
+
+  -- boxes that stand where they must make a whole tree
+  pub order-whole : {x : Bool} → x ≡ order → not x ≡ false → whole c ≡ true
+  order-whole q n = shaped-whole c (rw (ef, et) at (held q n))
+
+  -- all were answered to be right, with so many subsamples
+  pub with-right : {r : Filled} {n : ℕ} → PairsAs t c r → r ≡ With n → (boxesOk t c ≡ true) × (n ≡ subsamples t c (f .senc))
+  with-right p e =
+      let b : boxesOk t c ≡ true = sym (p .right) ∙ ap isWith e in
+      (b, sym (ap withOf e) ∙ p .counted b ∙ sym (rw (ef, et)))
+
+-- one was answered to be wrong
+pub wrong-breaks : {t : Track} {c : List ℕ} {r : Filled} → PairsAs t c r → r ≡ Wrong → boxesOk t c ≡ false
+wrong-breaks p e = sym (p .right) ∙ ap isWith e

@@ -1,9 +1,8 @@
 -- Whether the boxes of a chunk are right. 01: "Order, own version and flags .., box lengths, an `emsg` string without its end zero and three-or-none are 6" (D17)
--- ==== The rules
 use Prim.Native.Nat.{ℕ}
-use mathlib.Core.Bool.{Bool, _&&_}
+use mathlib.Core.Path.{_≡_}
+use mathlib.Core.Bool.{Bool, true, _&&_}
 use mathlib.Core.List.{List}
-use Rattle.laws.specs.Gate.{gate}
 use Rattle.laws.specs.Tests.{_and_}
 use Rattle.track.specs.declared.Track.{Track}
 use Rattle.cmaf_read_shape.specs.declared.top.Top.{Top}
@@ -16,8 +15,11 @@ use Rattle.cmaf_read_prelude.specs.Emsg.{emsgsOk}
 use Rattle.cmaf_read_moof.specs.Headers.{mfhdOk, tfdtOk}
 use Rattle.cmaf_read_moof.specs.Defaults.{tfhdOk}
 use Rattle.cmaf_read_trun.specs.Rows.{trunOk}
-use Rattle.cmaf_read_senc.specs.Entries.{sencOk}
+use Rattle.cmaf_read_senc.specs.declared.entries.Filled.{Filled}
+use Rattle.cmaf_read_senc.specs.Entries.{isWith, sencOk, withOf, subsamples}
 use Rattle.cmaf_read_senc.specs.Sizes.{saizOk, saioOk}
+
+-- ==== The rules
 
 -- versions, flags and lengths: of the boxes at the top
 abbrev pub outerRight : List ℕ → Top → Bool
@@ -39,6 +41,9 @@ boxesRight t c top f = topOk c top and innerOk (top .moof) f and outerRight c to
 unfoldable pub boxesOk : Track → List ℕ → Bool
 boxesOk t c = boxesRight t c (topOf c) (innerOf c (topOf c .moof))
 
--- 6: "chunk: wrong box, order, version, flags or box length" (D21, D54)
-unfoldable pub boxesNumber : Track → List ℕ → ℕ
-boxesNumber t c = gate (boxesOk t c) 6 0
+-- ==== What only mirrors the code
+
+-- the boxes were looked at: whether they are right, and then how many subsamples the `senc` has
+pub record PairsAs (t : Track) (c : List ℕ) (r : Filled) : Type 0 where
+  pub right : isWith r ≡ boxesOk t c
+  pub counted : boxesOk t c ≡ true → withOf r ≡ subsamples t c (innerOf c (topOf c .moof) .senc)

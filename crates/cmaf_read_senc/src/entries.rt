@@ -6,7 +6,7 @@ ghost use Prim.Native.Nat.{_+_, _≤_, _<_, _^_};
 ghost use lib.ListN.{length};
 ghost use lib.Seq.{slice};
 ghost use Rattle.cmaf_read_shape.specs.Parts.{Inside};
-ghost use Rattle.cmaf_read_senc.specs.Entries.{sencHead, entriesOf, pairsAt, mapLength, entriesIn, sencFilled, sencOk, sencCount, subsamples};
+ghost use Rattle.cmaf_read_senc.specs.Entries.{sencHead, entriesOf, pairsAt, mapLength, entriesIn, sencFilled, isWith, sencOk, sencCount, withOf, subsamples};
 use byte_parts::Part;
 use cmaf_read_shape::parts;
 use cmaf_read_tree::numbers;
@@ -116,18 +116,18 @@ fn senc_filled(t: Track, c: &[u8], b: Part) -> Filled
 
 // ---- senc
 
-pub fn senc_ok(t: Track, c: &[u8], b: Part) -> bool
+// How many subsamples it has, or that it is wrong; none where it doesn't stand.
+pub fn senc_read(t: Track, c: &[u8], b: Part) -> Filled
     requires { ⌜ Inside (now c) b ⌝ }
-    ensures { λ r. ⌜ r ≡ sencOk t (now (c .entry)) b ⌝ }
+    ensures { λ r. ⌜ (isWith r ≡ sencOk t (now (c .entry)) b) × (withOf r ≡ subsamples t (now (c .entry)) b) ⌝ }
 {
     if b.len < HEAD {
-        return b.len == 0;
+        if b.len == 0 {
+            return Filled::With(0);
+        }
+        return Filled::Wrong;
     }
-    let f = senc_filled(t, c, b);
-    match f {
-        Filled::With(_) => true,
-        Filled::Wrong => false,
-    }
+    senc_filled(t, c, b)
 }
 
 // How many samples the `senc` counts.
@@ -139,19 +139,4 @@ pub fn senc_count(c: &[u8], b: Part) -> u64
         return 0;
     }
     numbers::u32_at(c, b.at + 12)
-}
-
-// How many subsamples it has.
-pub fn subsamples(t: Track, c: &[u8], b: Part) -> u64
-    requires { ⌜ Inside (now c) b ⌝ }
-    ensures { λ r. ⌜ r ≡ subsamples t (now (c .entry)) b ⌝ }
-{
-    if b.len < HEAD {
-        return 0;
-    }
-    let f = senc_filled(t, c, b);
-    let Filled::With(sum) = f else {
-        return 0;
-    };
-    sum
 }

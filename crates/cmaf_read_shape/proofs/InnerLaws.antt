@@ -10,6 +10,7 @@ use lib.Dec.{eqb}
 use lib.ListN.{length}
 use Rattle.laws.proofs.TestLaws.{both-of}
 use Rattle.boxes.specs.Box as kinds
+use Rattle.cmaf_read_tree.specs.Whole.{container}
 use Rattle.byte_parts.specs.declared.Part.{Part}
 use Rattle.cmaf_read_shape.specs.declared.parts.Any.{Any}
 use Rattle.cmaf_read_shape.specs.declared.inner.Inner.{Inner}
@@ -374,32 +375,38 @@ inner-says moof f e =
 abbrev LenOf : ℕ → Any → Any → Any → ℕ → Type 0
 LenOf kind a b d n = ((a .kind ≡ kind) × (n ≡ a .len)) ⊎ (((b .kind ≡ kind) × (n ≡ b .len)) ⊎ ((d .kind ≡ kind) × (n ≡ d .len)))
 
-pick-len : (kind : ℕ) (a b d : Any) → (pickOf kind a b d .len ≡ 0 → ⊥) → LenOf kind a b d (pickOf kind a b d .len)
+pub pick-len : (kind : ℕ) (a b d : Any) → (pickOf kind a b d .len ≡ 0 → ⊥) → LenOf kind a b d (pickOf kind a b d .len)
 pick-len kind a b d =
     let P : Part → Type 0 = λ p. (p .len ≡ 0 → ⊥) → LenOf kind a b d (p .len) in
     pick-one P kind a b d (λ e s. inl (e, refl)) (λ e s. inr (inl (e, refl))) (λ e s. inr (inr (e, refl))) (λ s. absurd (s refl))
 
+-- the boxes are as long as the three, and none is a container
+abbrev These : Any → Any → Any → ℕ → ℕ → ℕ → Type 0
+These a b d x y z =
+    (x + y + z ≡ a .len + b .len + d .len)
+    × ((container (a .kind) ≡ false) × ((container (b .kind) ≡ false) × (container (d .kind) ≡ false)))
+
 -- each of the three has one of the types
-one-each : (a b d : Any) {x y z : ℕ} → LenOf kinds.senc a b d x → LenOf kinds.saiz a b d y → LenOf kinds.saio a b d z
-    → x + y + z ≡ a .len + b .len + d .len
+pub one-each : (a b d : Any) {x y z : ℕ} → LenOf kinds.senc a b d x → LenOf kinds.saiz a b d y → LenOf kinds.saio a b d z → These a b d x y z
+unfolding container
 one-each a b d (inl x) (inl y) z = absurd (omega (arith, x .0, y .0))
 one-each a b d (inl x) (inr (inl y)) (inl z) = absurd (omega (arith, x .0, z .0))
 one-each a b d (inl x) (inr (inl y)) (inr (inl z)) = absurd (omega (arith, y .0, z .0))
-one-each a b d (inl x) (inr (inl y)) (inr (inr z)) = omega (arith, x .1, y .1, z .1)
+one-each a b d (inl x) (inr (inl y)) (inr (inr z)) = (omega (arith, x .1, y .1, z .1), (ap container (x .0), (ap container (y .0), ap container (z .0))))
 one-each a b d (inl x) (inr (inr y)) (inl z) = absurd (omega (arith, x .0, z .0))
-one-each a b d (inl x) (inr (inr y)) (inr (inl z)) = omega (arith, x .1, y .1, z .1)
+one-each a b d (inl x) (inr (inr y)) (inr (inl z)) = (omega (arith, x .1, y .1, z .1), (ap container (x .0), (ap container (z .0), ap container (y .0))))
 one-each a b d (inl x) (inr (inr y)) (inr (inr z)) = absurd (omega (arith, y .0, z .0))
 one-each a b d (inr (inl x)) (inl y) (inl z) = absurd (omega (arith, y .0, z .0))
 one-each a b d (inr (inl x)) (inl y) (inr (inl z)) = absurd (omega (arith, x .0, z .0))
-one-each a b d (inr (inl x)) (inl y) (inr (inr z)) = omega (arith, x .1, y .1, z .1)
+one-each a b d (inr (inl x)) (inl y) (inr (inr z)) = (omega (arith, x .1, y .1, z .1), (ap container (y .0), (ap container (x .0), ap container (z .0))))
 one-each a b d (inr (inl x)) (inr (inl y)) z = absurd (omega (arith, x .0, y .0))
-one-each a b d (inr (inl x)) (inr (inr y)) (inl z) = omega (arith, x .1, y .1, z .1)
+one-each a b d (inr (inl x)) (inr (inr y)) (inl z) = (omega (arith, x .1, y .1, z .1), (ap container (z .0), (ap container (x .0), ap container (y .0))))
 one-each a b d (inr (inl x)) (inr (inr y)) (inr (inl z)) = absurd (omega (arith, x .0, z .0))
 one-each a b d (inr (inl x)) (inr (inr y)) (inr (inr z)) = absurd (omega (arith, y .0, z .0))
 one-each a b d (inr (inr x)) (inl y) (inl z) = absurd (omega (arith, y .0, z .0))
-one-each a b d (inr (inr x)) (inl y) (inr (inl z)) = omega (arith, x .1, y .1, z .1)
+one-each a b d (inr (inr x)) (inl y) (inr (inl z)) = (omega (arith, x .1, y .1, z .1), (ap container (y .0), (ap container (z .0), ap container (x .0))))
 one-each a b d (inr (inr x)) (inl y) (inr (inr z)) = absurd (omega (arith, x .0, z .0))
-one-each a b d (inr (inr x)) (inr (inl y)) (inl z) = omega (arith, x .1, y .1, z .1)
+one-each a b d (inr (inr x)) (inr (inl y)) (inl z) = (omega (arith, x .1, y .1, z .1), (ap container (z .0), (ap container (y .0), ap container (x .0))))
 one-each a b d (inr (inr x)) (inr (inl y)) (inr (inl z)) = absurd (omega (arith, y .0, z .0))
 one-each a b d (inr (inr x)) (inr (inl y)) (inr (inr z)) = absurd (omega (arith, x .0, z .0))
 one-each a b d (inr (inr x)) (inr (inr y)) z = absurd (omega (arith, x .0, y .0))
@@ -417,7 +424,7 @@ last-fill c at end hx hy hz =
     let pb : b .at ≡ a .at + a .len = any-place c (a .at + a .len) end in
     let pd : d .at ≡ b .at + b .len = any-place c (b .at + b .len) end in
     let s : pickOf kinds.senc a b d .len + pickOf kinds.saiz a b d .len + pickOf kinds.saio a b d .len ≡ a .len + b .len + d .len =
-    one-each a b d (pick-len kinds.senc a b d hx) (pick-len kinds.saiz a b d hy) (pick-len kinds.saio a b d hz) in
+    one-each a b d (pick-len kinds.senc a b d hx) (pick-len kinds.saiz a b d hy) (pick-len kinds.saio a b d hz) .0 in
     omega arith
 
 -- so where all three stand, the `trun` and they fill the `traf` to its end

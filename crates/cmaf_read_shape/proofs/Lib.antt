@@ -5,3 +5,4 @@ pub mod InnerLaws
 pub mod LeftLaws
 pub mod OneBoxLaws
 pub mod WordLaws
+pub mod WholeLaws
