@@ -30,6 +30,7 @@ use Rattle.cmaf_read_chunk.specs.declared.read.Chunk.{Chunk}
 use Rattle.cmaf_read_chunk.specs.Accepted.{top, bmdt, prft, brands, events, fields}
 use Rattle.locmaf_write_block.specs.declared.cells.Basis.{Basis}
 use Rattle.locmaf_write_block.specs.Changes.{basisOf, Writable}
+use Rattle.locmaf_write_block.specs.Fields.{Kept}
 use Rattle.encoder.specs.Planned.{brandsAt, Recorded, Encodable, Held}
 
 -- the set has BMDT
@@ -41,6 +42,17 @@ start-is t c = words-start _ _ _
 start-small : (t : Track) (x : List ℕ) → lawful t x ≡ true → leb (getD x bmdtAt 0) numberMost ≡ true
 unfolding lawful
 start-small t x h = left _ _ (right _ _ (right _ _ h))
+
+-- what was kept of weighing against the reference as it is lent, and against the share's
+module _ {F : List Row} {t : Track} (s : List ℕ) {x kept : List ℕ} {delta : Bool} {b : Basis} (e : b ≡ basisOf t delta (lent s) x) where
+  kept-is : Kept F t (b .delta) (lent s) x kept ≡ Kept F t delta (drop setAt s) x kept
+  kept-is = ap (λ (q : Basis). Kept F t (q .delta) (lent s) x kept) e ∙ ap (λ (r : List ℕ). Kept F t delta r x kept) (part-to-end s setAt)
+
+  pub kept-share : Kept F t (b .delta) (lent s) x kept → Kept F t delta (drop setAt s) x kept
+  kept-share = subst (λ (T : Type 0). T) kept-is
+
+  pub kept-lent : Kept F t delta (drop setAt s) x kept → Kept F t (b .delta) (lent s) x kept
+  kept-lent = subst (λ (T : Type 0). T) (sym kept-is)
 
 -- a basis is that of its own kind of object
 pub basis-own : {t : Track} {delta : Bool} {r x : List ℕ} {b : Basis} → Writable t delta r x → b ≡ basisOf t delta r x

@@ -3,11 +3,12 @@
 //   planned, `p` a prft.
 ghost use mathlib.Core.Path.{_≡_};
 ghost use Prim.Native.Nat.{_≤_};
-ghost use lib.ListN.{length};
+ghost use lib.ListN.{length, drop};
 ghost use Rattle.laws.specs.Writes.{Wrote};
 ghost use Rattle.wire.specs.Form.{rows};
-ghost use Rattle.share_words.specs.Share.{shareLen};
+ghost use Rattle.share_words.specs.Share.{shareLen, setAt};
 ghost use Rattle.locmaf_write_tuples.specs.Items.{weightMost};
+ghost use Rattle.locmaf_write_block.specs.Fields.{keptLen, Kept};
 ghost use Rattle.encoder.specs.Object.{headerOf, mayDelta, objectOf};
 ghost use Rattle.encoder.specs.Planned.{Encodable, ReadOfOne, OfEach, frontBytes, Sendable, PlannedAs};
 use crate::properties;
@@ -34,14 +35,25 @@ fn may_delta(wish: bool, s: &[u64], p: Prft) -> bool
 }
 
 // A delta where one is wished for and possible, else a full object, else none.
-pub fn choose(form: Form, t: Track, wish: bool, s: &[u64], k: Chunk, ws: &[u64], x: &[u64]) -> Plan
+pub fn choose(
+    form: Form,
+    t: Track,
+    wish: bool,
+    s: &[u64],
+    k: Chunk,
+    ws: &[u64],
+    x: &[u64],
+    kept: &mut [usize],
+) -> Plan
     requires { ⌜ ReadOfOne (rows form) t (now s) k (now ws) (now x) ⌝ }
+    requires { ⌜ length (now kept) ≡ keptLen ⌝ }
     ensures { λ a. ⌜ OfEach (rows form) t (now (s .entry)) k (now (ws .entry)) (now (x .entry))
-        (λ c. PlannedAs (rows form) (now (s .entry)) c wish a) ⌝ }
+        (λ c. PlannedAs (rows form) (now (s .entry)) c wish a)
+        × Kept (rows form) t (a .delta) (drop setAt (now (s .entry))) (now (x .entry)) (now (kept .exit)) ⌝ }
 {
     let p = k.prft;
     if may_delta(wish, s, p) {
-        let d = properties::block_size(form, t, true, s, k, ws, x);
+        let d = properties::block_size(form, t, true, s, k, ws, x, &mut *kept);
         if d.fits {
             return Plan {
                 fits: true,
@@ -50,7 +62,7 @@ pub fn choose(form: Form, t: Track, wish: bool, s: &[u64], k: Chunk, ws: &[u64],
             };
         }
     }
-    let f = properties::block_size(form, t, false, s, k, ws, x);
+    let f = properties::block_size(form, t, false, s, k, ws, x, kept);
     Plan {
         fits: f.fits,
         delta: false,
@@ -86,15 +98,17 @@ pub fn put_front(
     k: Chunk,
     ws: &[u64],
     x: &[u64],
+    kept: &[usize],
     out: &mut [u8],
 ) -> usize
     requires { ⌜ Encodable (rows form) t (now s) (now c) k (now ws) (now x) ⌝ }
     requires { ⌜ Sendable (rows form) (now s) (now c) a ⌝ }
+    requires { ⌜ Kept (rows form) t (a .delta) (drop setAt (now s)) (now x) (now kept) ⌝ }
     requires { ⌜ length (objectOf (rows form) (now s) (now c) (a .delta)) ≤ length (now out) ⌝ }
     ensures { λ n. ⌜ Wrote (now (out .entry)) 0 (objectOf (rows form) (now (s .entry)) (now (c .entry)) (a .delta))
         (now (out .exit)) n ⌝ }
 {
     let h = wire::varint::put(form, out, 0, header_of(a.delta));
     let p = wire::varint::put(form, out, h, a.block as u64);
-    properties::put_block(form, t, a.delta, s, c, k, ws, x, out, p)
+    properties::put_block(form, t, a.delta, s, c, k, ws, x, kept, out, p)
 }

@@ -4,14 +4,15 @@ ghost use mathlib.Core.Path.{_≡_};
 ghost use mathlib.Core.Bool.{true};
 ghost use mathlib.Core.List.{List};
 ghost use Prim.Native.Nat.{ℕ, _+_, _-_, _≤_};
-ghost use lib.ListN.{length};
+ghost use lib.ListN.{length, drop};
 ghost use Rattle.wire.specs.Form.{rows};
 ghost use Rattle.laws.specs.Options.{isSome};
 ghost use Rattle.constants.specs.Maxima.{brandBytesMost, eventBytesMost};
-ghost use Rattle.share_words.specs.Share.{shareLen};
+ghost use Rattle.share_words.specs.Share.{shareLen, setAt};
 ghost use Rattle.cmaf_read_shape.specs.Parts.{endOf};
 ghost use Rattle.locmaf_write_events.specs.Records.{AllWords, sentOf};
 ghost use Rattle.locmaf_write_tuples.specs.Items.{pairMost, weightMost, WeighedAs, RoomFor, WroteItems};
+ghost use Rattle.locmaf_write_block.specs.Fields.{keptLen, Kept};
 ghost use Rattle.encoder.specs.Object.{brandItems, eventItems, blockItems};
 ghost use Rattle.encoder.specs.Planned.{BrandBytes, brandsAt, outsideItems, Recorded, Encodable, ReadOfOne, OfEach, Held};
 use byte_parts::Part;
@@ -111,6 +112,7 @@ fn put_events(
 
 // ---- all of them
 
+// What the block takes. The bytes of the tuples whose numbers had to be compared and coded for it are kept.
 pub fn block_size(
     form: Form,
     t: Track,
@@ -119,22 +121,25 @@ pub fn block_size(
     k: Chunk,
     ws: &[u64],
     x: &[u64],
+    kept: &mut [usize],
 ) -> Weight
     requires { ⌜ ReadOfOne (rows form) t (now s) k (now ws) (now x) ⌝ }
-    requires { ⌜ Held delta (now s) ⌝ }
+    requires { ⌜ Held delta (now s) × (length (now kept) ≡ keptLen) ⌝ }
     ensures { λ w. ⌜ OfEach (rows form) t (now (s .entry)) k (now (ws .entry)) (now (x .entry))
-        (λ c. WeighedAs (rows form) (blockItems (rows form) (now (s .entry)) c delta) weightMost w) ⌝ }
+        (λ c. WeighedAs (rows form) (blockItems (rows form) (now (s .entry)) c delta) weightMost w)
+        × Kept (rows form) t delta (drop setAt (now (s .entry))) (now (x .entry)) (now (kept .exit)) ⌝ }
 {
     let r = &s[share::SET..];
     let p = k.prft;
     let b = set::basis_of(t, delta, r, x);
-    let fields = set::set_size(form, t, b, r, x);
+    let fields = set::set_size(form, t, b, r, x, &mut *kept);
     let times = prft::times_size(form, delta, p, s);
     let version = prft::version_size(form, delta, p, s);
     let names = brands_size(form, delta, k.brands.len);
     let flags = prft::flags_size(form, delta, p, s);
     let happened = events_size(form, t, TrackTicks(x[lines::BMDT]), ws, k.events, k.list);
     let gone = deletions::deletions_size(form, b, r, x);
+    kept[set::GONE] = gone.bytes;
     let last = tuples::both(flags, tuples::both(happened, gone));
     tuples::both(
         fields,
@@ -182,11 +187,13 @@ pub fn put_block(
     k: Chunk,
     ws: &[u64],
     x: &[u64],
+    kept: &[usize],
     out: &mut [u8],
     at: usize,
 ) -> usize
     requires { ⌜ Encodable (rows form) t (now s) (now c) k (now ws) (now x) ⌝ }
     requires { ⌜ Held delta (now s) ⌝ }
+    requires { ⌜ Kept (rows form) t delta (drop setAt (now s)) (now x) (now kept) ⌝ }
     requires { ⌜ isSome (blockItems (rows form) (now s) (now c) delta) ≡ true ⌝ }
     requires { ⌜ RoomFor (rows form) (blockItems (rows form) (now s) (now c) delta) (now out) at ⌝ }
     ensures { λ r. ⌜ WroteItems (rows form) (blockItems (rows form) (now (s .entry)) (now (c .entry)) delta)
@@ -195,7 +202,7 @@ pub fn put_block(
     let r = &s[share::SET..];
     let bmdt = TrackTicks(x[lines::BMDT]);
     let b = set::basis_of(t, delta, r, x);
-    let u = set::put_set(form, t, b, r, x, out, at);
+    let u = set::put_set(form, t, b, r, x, kept, out, at);
     let v = put_outside(form, t, delta, s, c, k, bmdt, ws, out, u);
-    deletions::put_deletions(form, b, r, x, out, v)
+    deletions::put_deletions(form, b, r, x, kept[set::GONE], out, v)
 }

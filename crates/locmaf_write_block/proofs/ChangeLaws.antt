@@ -4,14 +4,15 @@ use mathlib.Core.Path.{_≡_, refl, sym, _∙_}
 use mathlib.Core.Bool.{Bool, true, false, false≢true, cond, not, _&&_, _||_}
 use mathlib.Core.List.{List}
 use borrow.Author.Tests.{eq-eqb, ne-eqb}
-use lib.ListN.{getD}
+use lib.ListN.{length, getD}
 use Rattle.wire.specs.declared.form.Row.{Row}
 use Rattle.track.specs.declared.Track.{Track}
 use Rattle.field_table.specs.declared.lines.Line.{Line}
 use Rattle.field_rules.specs.Fields.{isIvs, stood}
 use Rattle.locmaf_write_block.specs.declared.cells.Change.{Change}
 use Rattle.locmaf_write_block.specs.declared.cells.Change.the-variants.{Omitted, Deleted, Sent}
-use Rattle.locmaf_write_tuples.specs.Items.{nothing}
+use Rattle.locmaf_write_tuples.specs.Items.{nothing, bytesOf}
+use Rattle.locmaf_write_tuples.proofs.ItemLaws.{not-nothing}
 use Rattle.locmaf_write_block.specs.Changes.{same, onChange, stands, news, olds, changeOf, sentItems, lineItems}
 
 -- a field that stands, by the tests as code makes them: there was none, or it is always sent; and else by whether it is the same
@@ -60,6 +61,16 @@ sent-stands t delta r x l e =
     go false true c h = absurd (false≢true (let z : false ≡ true = cc in z))
     go false false c h = absurd (false≢true (let z : false ≡ true = cc in z))
 
+-- and one that has items is sent
+some-sent : (F : List Row) (t : Track) (delta : Bool) (r x : List ℕ) (l : Line) → (nothing ≡ lineItems t delta r x l F → ⊥) → changeOf t delta r x l ≡ Sent
+unfolding lineItems
+some-sent F t delta r x l n = go (changeOf t delta r x l) refl
+  where
+    go : (c : Change) → changeOf t delta r x l ≡ c → c ≡ Sent
+    go Omitted e = absurd (n (rw e))
+    go Deleted e = absurd (n (rw e))
+    go Sent e = refl
+
 -- what stands of the line that code looked up
 module _ (F : List Row) (t : Track) (delta : Bool) (r x : List ℕ) (l q : Line) (el : l ≡ q) (c : Change) (ec : c ≡ changeOf t delta r x l) where
   -- the field's items, or nothing
@@ -75,3 +86,15 @@ module _ (F : List Row) (t : Track) (delta : Bool) (r x : List ℕ) (l q : Line)
       go Omitted n = refl
       go Deleted n = refl
       go Sent n = absurd (n refl)
+
+-- where that has some bytes, the field stands, and its items are those that are sent
+module _ (F : List Row) (t : Track) (delta : Bool) (r x : List ℕ) (l q : Line) (el : l ≡ q)
+    (bytes : ℕ) (k : bytes ≡ length (bytesOf F (lineItems t delta r x q F))) (n : bytes ≡ 0 → ⊥) where
+  sent : changeOf t delta r x l ≡ Sent
+  sent = some-sent F t delta r x l (rw el (not-nothing F (lineItems t delta r x q F) bytes k n))
+
+  pub bytes-stand : stands t delta r x l ≡ true
+  bytes-stand = sent-stands t delta r x l sent
+
+  pub bytes-sent : sentItems t delta r x l F ≡ lineItems t delta r x q F
+  bytes-sent = line-sent F t delta r x l q el (changeOf t delta r x l) refl sent

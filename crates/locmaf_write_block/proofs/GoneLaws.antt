@@ -18,7 +18,8 @@ use Rattle.field_table.proofs.LineLaws.{line-here, no-lines, place-of}
 use Rattle.field_rules.specs.Fields.{isIvs}
 use Rattle.field_rules.specs.Vanished.{vanishedBy}
 use Rattle.locmaf_write_block.specs.declared.cells.Change.the-variants.{Omitted, Deleted, Sent}
-use Rattle.locmaf_write_tuples.specs.Items.{nothing, itemsIf, runItem}
+use Rattle.locmaf_write_tuples.specs.Items.{nothing, itemsIf, runItem, bytesOf}
+use Rattle.locmaf_write_tuples.proofs.ItemLaws.{not-nothing}
 use Rattle.locmaf_write_block.specs.Changes.{same, news, olds, changeOf}
 use Rattle.locmaf_write_block.specs.Fields.{isDeleted, goneOf, deletionItems, Collected}
 
@@ -49,6 +50,17 @@ module _ (t : Track) (delta : Bool) (r x : List ℕ) where
   unfolding goneOf
   gone-full d [] = refl
   gone-full d (l ∷ ls) = let no : isDeleted (changeOf t delta r x l) ≡ false = sym (deleted-by l) ∙ rw d in rw no (gone-full d ls)
+
+-- the same is deleted, whatever the track is
+module _ (t u : Track) (delta : Bool) (r x : List ℕ) where
+  gone-alike : (ls : List Line) → goneOf t delta r x ls ≡ goneOf u delta r x ls
+  unfolding goneOf
+  gone-alike [] = refl
+  gone-alike (l ∷ ls) = rw (← deleted-by t delta r x l, ← deleted-by u delta r x l, gone-alike ls)
+
+  pub deletions-alike : (F : List Row) → deletionItems F t delta r x ≡ deletionItems F u delta r x
+  unfolding deletionItems
+  deletions-alike F = rw (gone-alike lines)
 
 module _ (delta : Bool) (r x : List ℕ) where
   pub collect-full : delta ≡ false → (ids : List ℕ) → length ids ≡ lineCount
@@ -125,6 +137,10 @@ module _ (t : Track) (delta : Bool) (r x : List ℕ) (F : List Row) (n : ℕ) (e
   pub none-gone : n ≡ 0 → nothing ≡ deletionItems F t delta r x
   unfolding deletionItems itemsIf
   none-gone z = rw (eq-eqb (length (goneOf t delta r x lines)) 0 (omega arith))
+
+  -- something is where the tuple has bytes
+  pub bytes-gone : (bytes : ℕ) → bytes ≡ length (bytesOf F (deletionItems F t delta r x)) → (bytes ≡ 0 → ⊥) → n ≡ 0 → ⊥
+  bytes-gone bytes k some z = not-nothing F (deletionItems F t delta r x) bytes k some (none-gone z)
 
   pub some-gone : (n ≡ 0 → ⊥) → (ids : List ℕ) → ids ≡ goneOf t delta r x lines
       → runItem F Plain 27 0 [] ids ≡ deletionItems F t delta r x

@@ -1,19 +1,21 @@
 -- The set of moof fields from its parts: weighed, and written one after another. Assumes nothing.
 use Prim.Native.Nat.{ℕ, _+_, _*_, _≤_}
-use mathlib.Core.Path.{_≡_}
+use native.Mathlib.Omega.{arith}
+use mathlib.Core.Path.{_≡_, sym, _∙_, ap}
 use mathlib.Core.Bool.{Bool, true, _&&_}
 use mathlib.Core.List.{List}
-use lib.ListN.{length}
+use lib.ListN.{length, getD}
 use Rattle.laws.specs.Writes.{Wrote}
+use Rattle.laws.proofs.TestLaws.{and-left}
 use Rattle.wire.specs.declared.form.Row.{Row}
 use Rattle.laws.specs.Options.{isSome}
 use Rattle.track.specs.declared.Track.{Track}
 use Rattle.locmaf_write_tuples.specs.declared.tuples.Weight.{Weight}
 use Rattle.locmaf_write_tuples.specs.Items.{Items, _before_, bytesOf, pairMost, WeighedAs}
 use Rattle.locmaf_write_block.specs.Changes.{chunkLines, lineMost}
-use Rattle.locmaf_write_block.specs.Fields.{beforeBmdt, beforeCount, between, bmdtItems, countItems, fieldItems, setMost}
-use Rattle.locmaf_write_tuples.proofs.ItemLaws.{weighed-both, weighed-as}
-use Rattle.locmaf_write_tuples.proofs.AlikeLaws.{weighed-alike, interleaved}
+use Rattle.locmaf_write_block.specs.Fields.{beforeBmdt, beforeCount, between, bmdtItems, countItems, fieldItems, allAt, KeptFields, setMost}
+use Rattle.locmaf_write_tuples.proofs.ItemLaws.{before-some, weighed-both, weighed-as}
+use Rattle.locmaf_write_tuples.proofs.AlikeLaws.{weighed-alike, parts-long, interleaved}
 use Rattle.locmaf_write_tuples.proofs.PutLaws.{Left, left-start, left-next}
 use Rattle.locmaf_write_block.proofs.LinesLaws.{three-parts}
 
@@ -41,6 +43,22 @@ module _ (F : List Row) (t : Track) (delta : Bool) (r x : List ℕ) where
       weighed-alike F
       (interleaved F (between F t delta r x 0 beforeBmdt) (between F t delta r x beforeBmdt beforeCount) (between F t delta r x beforeCount chunkLines) (bmdtItems F t delta r x) (countItems F delta r x))
       (weighed-both (weighed-as (three-parts F t delta r x) p) (weighed-both q s g) h)
+
+  -- where the lines have no bytes together, those before BMDT have none
+  pub low-none : {kept : List ℕ} → KeptFields F t delta r x kept → isSome (fieldItems F t delta r x) ≡ true → getD kept allAt 0 ≡ 0
+      → 0 ≡ length (bytesOf F (between F t delta r x 0 beforeBmdt))
+  unfolding fieldItems
+  low-none k fits z =
+      let a : Items = between F t delta r x 0 beforeBmdt in
+      let b : Items = between F t delta r x beforeBmdt beforeCount before between F t delta r x beforeCount chunkLines in
+      let q : Items = bmdtItems F t delta r x before countItems F delta r x in
+      let some : isSome (a before b) ≡ true =
+      and-left (isSome (a before b)) (isSome q)
+      (sym (before-some (a before b) q)
+      ∙ interleaved F a (between F t delta r x beforeBmdt beforeCount) (between F t delta r x beforeCount chunkLines) (bmdtItems F t delta r x) (countItems F delta r x) .fit
+      ∙ fits) in
+      let all : isSome (between F t delta r x 0 chunkLines) ≡ true = ap isSome (three-parts F t delta r x) ∙ some in
+      omega (arith, k .all all, ap (λ (is : Items). length (bytesOf F is)) (three-parts F t delta r x), parts-long F a b some)
 
   -- all are left to be written; then all but the low lines, and so on
   module _ (l : List ℕ) (at : ℕ) (fits : isSome (fieldItems F t delta r x) ≡ true)

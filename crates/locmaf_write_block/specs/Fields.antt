@@ -1,11 +1,12 @@
 -- The set of moof fields in an object. 01: "The encoder writes them ascending".
-use Prim.Native.Nat.{ℕ, _+_, _*_, _≤_}
+use Prim.Native.Nat.{ℕ, _+_, _*_, _≤_, _<_}
 use mathlib.Core.Path.{_≡_}
 use mathlib.Core.Bool.{Bool, true, false, cond, not, _||_}
 use mathlib.Core.List.{List, [], _∷_}
 use lib.Dec.{eqb}
 use lib.ListN.{length, getD, take}
 use lib.Seq.{slice}
+use Rattle.laws.specs.Options.{isSome}
 use Rattle.wire.specs.declared.form.Row.{Row}
 use Rattle.wire.specs.declared.zigzag.Coding.the-variants.{Plain}
 use Rattle.wire.specs.Zigzag.{codeOf}
@@ -16,7 +17,7 @@ use Rattle.field_rules.specs.Fields.{codingFor}
 use Rattle.effective.specs.Follows.{nextTime}
 use Rattle.locmaf_write_block.specs.declared.cells.Change.{Change}
 use Rattle.locmaf_write_block.specs.declared.cells.Change.the-variants.{Omitted, Deleted, Sent}
-use Rattle.locmaf_write_tuples.specs.Items.{Items, nothing, _before_, itemsIf, numberItem, runItem, pairMost}
+use Rattle.locmaf_write_tuples.specs.Items.{Items, nothing, _before_, itemsIf, numberItem, runItem, bytesOf, pairMost}
 use Rattle.locmaf_write_block.specs.Changes.{chunkLines, changeOf, lineItems, lineMost}
 
 -- ==== The rules
@@ -79,6 +80,31 @@ module _ (F : List Row) (t : Track) (delta : Bool) (r x : List ℕ) where
 -- the field of the line at a number
 abbrev pub fieldAt : List Row → Track → Bool → List ℕ → List ℕ → ℕ → Items
 fieldAt F t delta r x i = lineItems t delta r x (getD lines i spare) F
+
+-- what is kept of weighing for writing: the bytes of each line, those of all lines together, and those of the deletions
+abbrev pub allAt : ℕ
+allAt = chunkLines
+
+abbrev pub goneAt : ℕ
+goneAt = chunkLines + 1
+
+abbrev pub keptLen : ℕ
+keptLen = chunkLines + 2
+
+-- the bytes of each field's tuple that fits are kept; of one that isn't sent they are 0
+pub record KeptEach (F : List Row) (t : Track) (delta : Bool) (r x kept : List ℕ) : Type 0 where
+  pub long : length kept ≡ keptLen
+  pub each : (i : ℕ) → i < chunkLines → isSome (fieldAt F t delta r x i) ≡ true → getD kept i 0 ≡ length (bytesOf F (fieldAt F t delta r x i))
+
+-- and those of all of them, where all fit
+pub record KeptFields (F : List Row) (t : Track) (delta : Bool) (r x kept : List ℕ) : Type 0 where
+  pub lines : KeptEach F t delta r x kept
+  pub all : isSome (between F t delta r x 0 chunkLines) ≡ true → getD kept allAt 0 ≡ length (bytesOf F (between F t delta r x 0 chunkLines))
+
+-- and those of the deletions
+pub record Kept (F : List Row) (t : Track) (delta : Bool) (r x kept : List ℕ) : Type 0 where
+  pub fields : KeptFields F t delta r x kept
+  pub gone : isSome (deletionItems F t delta r x) ≡ true → getD kept goneAt 0 ≡ length (bytesOf F (deletionItems F t delta r x))
 
 -- the ids that were collected, whatever the track is: so many, and the first so many words
 pub record Collected (gone : Track → List ℕ) (ids : List ℕ) (n : ℕ) : Type 0 where

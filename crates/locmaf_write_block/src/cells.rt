@@ -17,7 +17,7 @@ ghost use Rattle.laws.specs.Options.{isSome};
 ghost use Rattle.runs.specs.Run.{first};
 ghost use Rattle.track.specs.declared.Track.{Track};
 ghost use Rattle.field_rules.specs.Fields.{stood, oldValues};
-ghost use Rattle.locmaf_write_tuples.specs.Items.{wideBytes, WeighedAs, RoomFor, WroteItems};
+ghost use Rattle.locmaf_write_tuples.specs.Items.{wideBytes, bytesOf, WeighedAs, RoomFor, WroteItems};
 ghost use Rattle.locmaf_write_block.specs.Changes.{chunkLines, same, stands, changeOf, sentItems, Based, ChunkLine, Measured, lineMost, listItem, codedItem};
 ghost use Rattle.locmaf_write_block.specs.Fields.{fieldAt};
 use field_rules::rules::absent_value;
@@ -227,13 +227,16 @@ fn put_list(
     l: Line,
     k: usize,
     base: u64,
+    bytes: usize,
     out: &mut [u8],
     at: usize,
 ) -> usize
     requires { ⌜ ChunkLine l ⌝ }
     requires { ⌜ Measured (b .was) (now r) ⌝ }
     requires { ⌜ (l .place + 1 + k ≤ length (now x)) × (length (now x) ≡ setLen) ⌝ }
+    requires { ⌜ k ≤ subsamplesMost ⌝ }
     requires { ⌜ isSome (listItem (rows form) c b (now r) (now x) l k base) ≡ true ⌝ }
+    requires { ⌜ bytes ≡ length (bytesOf (rows form) (listItem (rows form) c b (now r) (now x) l k base)) ⌝ }
     requires { ⌜ RoomFor (rows form) (listItem (rows form) c b (now r) (now x) l k base) (now out) at ⌝ }
     ensures { λ p. ⌜ WroteItems (rows form) (listItem (rows form) c b (now (r .entry)) (now (x .entry)) l k base)
         (now (out .entry)) at (now (out .exit)) p ⌝ }
@@ -244,6 +247,7 @@ fn put_list(
         form,
         c,
         l.id,
+        bytes,
         &x[from..from + k],
         &r[from..from + u],
         base,
@@ -262,13 +266,16 @@ fn put_coded(
     l: Line,
     k: usize,
     base: u64,
+    bytes: usize,
     out: &mut [u8],
     at: usize,
 ) -> usize
     requires { ⌜ ChunkLine l ⌝ }
     requires { ⌜ Measured (b .was) (now r) ⌝ }
     requires { ⌜ (l .place + 1 + k ≤ length (now x)) × (length (now x) ≡ setLen) ⌝ }
+    requires { ⌜ k ≤ subsamplesMost ⌝ }
     requires { ⌜ isSome (codedItem (rows form) c b (now r) (now x) l k base) ≡ true ⌝ }
+    requires { ⌜ bytes ≡ length (bytesOf (rows form) (codedItem (rows form) c b (now r) (now x) l k base)) ⌝ }
     requires { ⌜ RoomFor (rows form) (codedItem (rows form) c b (now r) (now x) l k base) (now out) at ⌝ }
     ensures { λ p. ⌜ WroteItems (rows form) (codedItem (rows form) c b (now (r .entry)) (now (x .entry)) l k base)
         (now (out .entry)) at (now (out .exit)) p ⌝ }
@@ -277,7 +284,7 @@ fn put_coded(
         let z = number_of(form, c, b, r, x, l, base);
         return tuples::put_number(form, true, l.id, z, out, at);
     }
-    put_list(form, c, b, r, x, l, k, base, out, at)
+    put_list(form, c, b, r, x, l, k, base, bytes, out, at)
 }
 
 fn put_sent(
@@ -287,6 +294,7 @@ fn put_sent(
     r: &[u64],
     x: &[u64],
     l: Line,
+    bytes: usize,
     out: &mut [u8],
     at: usize,
 ) -> usize
@@ -294,6 +302,7 @@ fn put_sent(
     requires { ⌜ ChunkLine l ⌝ }
     requires { ⌜ stands t (b .delta) (now r) (now x) l ≡ true ⌝ }
     requires { ⌜ isSome (sentItems t (b .delta) (now r) (now x) l (rows form)) ≡ true ⌝ }
+    requires { ⌜ bytes ≡ length (bytesOf (rows form) (sentItems t (b .delta) (now r) (now x) l (rows form))) ⌝ }
     requires { ⌜ RoomFor (rows form) (sentItems t (b .delta) (now r) (now x) l (rows form)) (now out) at ⌝ }
     ensures { λ p. ⌜ WroteItems (rows form) (sentItems t (b .delta) (now (r .entry)) (now (x .entry)) l (rows form))
         (now (out .entry)) at (now (out .exit)) p ⌝ }
@@ -308,7 +317,7 @@ fn put_sent(
     if is_ivs(want) {
         return put_ivs(form, l.id, &x[from..from + k], out, at);
     }
-    put_coded(form, c, b, r, x, l, k, base, out, at)
+    put_coded(form, c, b, r, x, l, k, base, bytes, out, at)
 }
 
 // The bytes of one field's tuple; none of one that is omitted or deleted. Most fields don't stand in a chunk, and for those the place of their
@@ -331,6 +340,7 @@ pub fn line_size(form: Form, t: Track, b: Basis, r: &[u64], x: &[u64], i: usize)
     }
 }
 
+// The same tuple written, whose bytes were weighed: a field without any isn't sent, and one with some is.
 pub fn put_line(
     form: Form,
     t: Track,
@@ -338,25 +348,21 @@ pub fn put_line(
     r: &[u64],
     x: &[u64],
     i: usize,
+    bytes: usize,
     out: &mut [u8],
     at: usize,
 ) -> usize
     requires { ⌜ Based t b (now r) (now x) ⌝ }
     requires { ⌜ i < chunkLines ⌝ }
     requires { ⌜ isSome (fieldAt (rows form) t (b .delta) (now r) (now x) i) ≡ true ⌝ }
+    requires { ⌜ bytes ≡ length (bytesOf (rows form) (fieldAt (rows form) t (b .delta) (now r) (now x) i)) ⌝ }
     requires { ⌜ RoomFor (rows form) (fieldAt (rows form) t (b .delta) (now r) (now x) i)
         (now out) at ⌝ }
     ensures { λ p. ⌜ WroteItems (rows form) (fieldAt (rows form) t (b .delta) (now (r .entry)) (now (x .entry)) i)
         (now (out .entry)) at (now (out .exit)) p ⌝ }
 {
-    let place = lines::place_at(i);
-    if x[place] == 0 {
+    if bytes == 0 {
         return at;
     }
-    let l = lines::line_at(i);
-    let change = change_of(b, r, x, l);
-    match change {
-        Change::Omitted | Change::Deleted => at,
-        Change::Sent => put_sent(form, t, b, r, x, l, out, at),
-    }
+    put_sent(form, t, b, r, x, lines::line_at(i), bytes, out, at)
 }

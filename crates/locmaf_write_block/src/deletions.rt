@@ -8,7 +8,7 @@ ghost use Rattle.track.specs.declared.Track.{Track};
 ghost use Rattle.wire.specs.Form.{rows};
 ghost use Rattle.laws.specs.Options.{isSome};
 ghost use Rattle.field_table.specs.Lines.{lines, spare, lineCount, setLen};
-ghost use Rattle.locmaf_write_tuples.specs.Items.{WeighedAs, RoomFor, WroteItems};
+ghost use Rattle.locmaf_write_tuples.specs.Items.{bytesOf, WeighedAs, RoomFor, WroteItems};
 ghost use Rattle.locmaf_write_block.specs.Changes.{changeOf};
 ghost use Rattle.locmaf_write_block.specs.Fields.{isDeleted, goneOf, deletionItems, Collected, goneMost};
 use crate::cells::Basis;
@@ -68,23 +68,34 @@ pub fn deletions_size(form: Form, b: Basis, r: &[u64], x: &[u64]) -> Weight
     tuples::run_size(form, Coding::Plain, ids::DELETIONS, &ids[..n], &x[..0], 0)
 }
 
-pub fn put_deletions(form: Form, b: Basis, r: &[u64], x: &[u64], out: &mut [u8], at: usize) -> usize
+// The same tuple written, whose bytes were weighed. Seldom does a field vanish, so that mostly nothing is looked for.
+pub fn put_deletions(
+    form: Form,
+    b: Basis,
+    r: &[u64],
+    x: &[u64],
+    bytes: usize,
+    out: &mut [u8],
+    at: usize,
+) -> usize
     requires { ⌜ (length (now r) ≡ setLen) × (length (now x) ≡ setLen) ⌝ }
     requires { ⌜ ((t : Track) × (isSome (deletionItems (rows form) t (b .delta) (now r) (now x)) ≡ true)
+        × (bytes ≡ length (bytesOf (rows form) (deletionItems (rows form) t (b .delta) (now r) (now x))))
         × RoomFor (rows form) (deletionItems (rows form) t (b .delta) (now r) (now x)) (now out) at) ⌝ }
     ensures { λ p. ⌜ ((t : Track)
         → WroteItems (rows form) (deletionItems (rows form) t (b .delta) (now (r .entry)) (now (x .entry)))
         (now (out .entry)) at (now (out .exit)) p) ⌝ }
 {
-    let mut ids = [0u64; lines::LINES];
-    let n = deleted(b, r, x, &mut ids);
-    if n == 0 {
+    if bytes == 0 {
         return at;
     }
+    let mut ids = [0u64; lines::LINES];
+    let n = deleted(b, r, x, &mut ids);
     tuples::put_run(
         form,
         Coding::Plain,
         ids::DELETIONS,
+        bytes,
         &ids[..n],
         &x[..0],
         0,

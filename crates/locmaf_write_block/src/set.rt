@@ -9,7 +9,7 @@ ghost use Rattle.laws.specs.Options.{isSome};
 ghost use Rattle.field_table.specs.Lines.{lines, setLen};
 ghost use Rattle.locmaf_write_tuples.specs.Items.{pairMost, WeighedAs, RoomFor, WroteItems};
 ghost use Rattle.locmaf_write_block.specs.Changes.{chunkLines, basisOf, Writable, Based, lineMost};
-ghost use Rattle.locmaf_write_block.specs.Fields.{beforeBmdt, beforeCount, between, bmdtStands, bmdtItems, countStands, countItems, fieldItems, setMost};
+ghost use Rattle.locmaf_write_block.specs.Fields.{beforeBmdt, beforeCount, between, bmdtStands, bmdtItems, countStands, countItems, fieldItems, keptLen, KeptEach, KeptFields, setMost};
 use crate::cells;
 use crate::cells::Basis;
 use constants::ids;
@@ -31,6 +31,13 @@ const BEFORE_COUNT: usize = order::PROTECTED;
 
 // The lines that a chunk's set can have: all but the last, id 16's, since the track's parameter cuts a chunk's IVs.
 const CHUNK_LINES: usize = lines::LINES - 1;
+
+// What is kept of weighing for writing: the bytes of each line's tuple, and behind them those of all lines together and those of the deletions.
+const ALL: usize = CHUNK_LINES;
+
+pub const GONE: usize = CHUNK_LINES + 1;
+
+pub const KEPT: usize = CHUNK_LINES + 2;
 
 // What the set x is written against: in a delta the reference r, in a full object nothing.
 pub fn basis_of(t: Track, delta: bool, r: &[u64], x: &[u64]) -> Basis
@@ -134,31 +141,26 @@ fn put_count(form: Form, delta: bool, r: &[u64], x: &[u64], out: &mut [u8], at: 
 
 // ---- the lines
 
-// The lines from a number up to another.
-fn lines_size(
-    form: Form,
-    t: Track,
-    b: Basis,
-    r: &[u64],
-    x: &[u64],
-    from: usize,
-    to: usize,
-) -> Weight
+// All lines that a chunk can have. The bytes of each are kept.
+fn lines_size(form: Form, t: Track, b: Basis, r: &[u64], x: &[u64], kept: &mut [usize]) -> Weight
     requires { ⌜ Based t b (now r) (now x) ⌝ }
-    requires { ⌜ (from ≤ to) × (to ≤ chunkLines) ⌝ }
-    ensures { λ w. ⌜ WeighedAs (rows form) (between (rows form) t (b .delta) (now (r .entry)) (now (x .entry)) from to)
-        (lineMost * (to - from)) w ⌝ }
+    requires { ⌜ length (now kept) ≡ keptLen ⌝ }
+    ensures { λ w. ⌜ WeighedAs (rows form)
+        (between (rows form) t (b .delta) (now (r .entry)) (now (x .entry)) 0 chunkLines) (lineMost * chunkLines) w
+        × KeptEach (rows form) t (b .delta) (now (r .entry)) (now (x .entry)) (now (kept .exit)) ⌝ }
 {
     let mut sum = tuples::whole(0);
-    let mut i = from;
-    while i < to {
+    let mut i = 0;
+    while i < CHUNK_LINES {
         let w = cells::line_size(form, t, b, r, x, i);
+        kept[i] = w.bytes;
         sum = tuples::both(sum, w);
         i += 1;
     }
     sum
 }
 
+// The lines from a number up to another.
 fn put_lines(
     form: Form,
     t: Track,
@@ -167,11 +169,13 @@ fn put_lines(
     x: &[u64],
     from: usize,
     to: usize,
+    kept: &[usize],
     out: &mut [u8],
     at: usize,
 ) -> usize
     requires { ⌜ Based t b (now r) (now x) ⌝ }
     requires { ⌜ (from ≤ to) × (to ≤ chunkLines) ⌝ }
+    requires { ⌜ KeptEach (rows form) t (b .delta) (now r) (now x) (now kept) ⌝ }
     requires { ⌜ isSome (between (rows form) t (b .delta) (now r) (now x) from to) ≡ true ⌝ }
     requires { ⌜ RoomFor (rows form) (between (rows form) t (b .delta) (now r) (now x) from to)
         (now out) at ⌝ }
@@ -181,7 +185,7 @@ fn put_lines(
     let mut p = at;
     let mut i = from;
     while i < to {
-        p = cells::put_line(form, t, b, r, x, i, out, p);
+        p = cells::put_line(form, t, b, r, x, i, kept[i], out, p);
         i += 1;
     }
     p
@@ -194,10 +198,12 @@ fn put_middle(
     b: Basis,
     r: &[u64],
     x: &[u64],
+    kept: &[usize],
     out: &mut [u8],
     at: usize,
 ) -> usize
     requires { ⌜ Based t b (now r) (now x) ⌝ }
+    requires { ⌜ KeptEach (rows form) t (b .delta) (now r) (now x) (now kept) ⌝ }
     requires { ⌜ isSome (between (rows form) t (b .delta) (now r) (now x) beforeBmdt beforeCount) ≡ true ⌝ }
     requires { ⌜ RoomFor (rows form) (between (rows form) t (b .delta) (now r) (now x) beforeBmdt beforeCount)
         (now out) at ⌝ }
@@ -208,7 +214,7 @@ fn put_middle(
     if (x[lines::SUBSAMPLES] == 0) & (x[lines::FIRST_FLAGS] == 0) & (x[lines::CLEAR] == 0) {
         return at;
     }
-    put_lines(form, t, b, r, x, BEFORE_BMDT, BEFORE_COUNT, out, at)
+    put_lines(form, t, b, r, x, BEFORE_BMDT, BEFORE_COUNT, kept, out, at)
 }
 
 // The line after the sample count, id 15's, seldom stands either.
@@ -218,10 +224,12 @@ fn put_high(
     b: Basis,
     r: &[u64],
     x: &[u64],
+    kept: &[usize],
     out: &mut [u8],
     at: usize,
 ) -> usize
     requires { ⌜ Based t b (now r) (now x) ⌝ }
+    requires { ⌜ KeptEach (rows form) t (b .delta) (now r) (now x) (now kept) ⌝ }
     requires { ⌜ isSome (between (rows form) t (b .delta) (now r) (now x) beforeCount chunkLines) ≡ true ⌝ }
     requires { ⌜ RoomFor (rows form) (between (rows form) t (b .delta) (now r) (now x) beforeCount chunkLines)
         (now out) at ⌝ }
@@ -232,42 +240,52 @@ fn put_high(
     if x[lines::PROTECTED] == 0 {
         return at;
     }
-    put_lines(form, t, b, r, x, BEFORE_COUNT, CHUNK_LINES, out, at)
+    put_lines(form, t, b, r, x, BEFORE_COUNT, CHUNK_LINES, kept, out, at)
 }
 
 // ---- ids 1 to 15
 
 // A sum is the same in any order, so the lines are weighed in one walk, whatever stands between them in the object.
-pub fn set_size(form: Form, t: Track, b: Basis, r: &[u64], x: &[u64]) -> Weight
+pub fn set_size(form: Form, t: Track, b: Basis, r: &[u64], x: &[u64], kept: &mut [usize]) -> Weight
     requires { ⌜ Based t b (now r) (now x) ⌝ }
+    requires { ⌜ length (now kept) ≡ keptLen ⌝ }
     ensures { λ w. ⌜ WeighedAs (rows form) (fieldItems (rows form) t (b .delta) (now (r .entry)) (now (x .entry)))
-        setMost w ⌝ }
+        setMost w
+        × KeptFields (rows form) t (b .delta) (now (r .entry)) (now (x .entry)) (now (kept .exit)) ⌝ }
 {
-    let fields = lines_size(form, t, b, r, x, 0, CHUNK_LINES);
+    let fields = lines_size(form, t, b, r, x, &mut *kept);
+    kept[ALL] = fields.bytes;
     let bmdt = bmdt_size(form, t, b.delta, r, x);
     let count = count_size(form, b.delta, r, x);
     let numbers = tuples::both(bmdt, count);
     tuples::both(fields, numbers)
 }
 
+// The same written. Where no field is sent, the lines before BMDT, which are most, are passed over at once.
 pub fn put_set(
     form: Form,
     t: Track,
     b: Basis,
     r: &[u64],
     x: &[u64],
+    kept: &[usize],
     out: &mut [u8],
     at: usize,
 ) -> usize
     requires { ⌜ Based t b (now r) (now x) ⌝ }
+    requires { ⌜ KeptFields (rows form) t (b .delta) (now r) (now x) (now kept) ⌝ }
     requires { ⌜ isSome (fieldItems (rows form) t (b .delta) (now r) (now x)) ≡ true ⌝ }
     requires { ⌜ RoomFor (rows form) (fieldItems (rows form) t (b .delta) (now r) (now x)) (now out) at ⌝ }
     ensures { λ p. ⌜ WroteItems (rows form) (fieldItems (rows form) t (b .delta) (now (r .entry)) (now (x .entry)))
         (now (out .entry)) at (now (out .exit)) p ⌝ }
 {
-    let p = put_lines(form, t, b, r, x, 0, BEFORE_BMDT, out, at);
+    let p = if kept[ALL] == 0 {
+        at
+    } else {
+        put_lines(form, t, b, r, x, 0, BEFORE_BMDT, kept, out, at)
+    };
     let q = put_bmdt(form, t, b.delta, r, x, out, p);
-    let u = put_middle(form, t, b, r, x, out, q);
+    let u = put_middle(form, t, b, r, x, kept, out, q);
     let v = put_count(form, b.delta, r, x, out, u);
-    put_high(form, t, b, r, x, out, v)
+    put_high(form, t, b, r, x, kept, out, v)
 }

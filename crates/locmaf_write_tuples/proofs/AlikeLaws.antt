@@ -30,7 +30,7 @@ module _ (F : List Row) where
   alike-then h k = record { fit = h .fit ∙ k .fit; long = λ s. h .long s ∙ k .long (sym (h .fit) ∙ s) }
 
   -- two parts that fit
-  parts-long : (a b : Items) → isSome (a before b) ≡ true → length (bytesOf F (a before b)) ≡ length (bytesOf F a) + length (bytesOf F b)
+  pub parts-long : (a b : Items) → isSome (a before b) ≡ true → length (bytesOf F (a before b)) ≡ length (bytesOf F a) + length (bytesOf F b)
   parts-long a b s =
       let both : (isSome a && isSome b) ≡ true = sym (before-some a b) ∙ s in
       ap length (bytes-before F a b (and-left (isSome a) (isSome b) both) (and-right (isSome a) (isSome b) both)) ∙ length-append (bytesOf F a) (bytesOf F b)

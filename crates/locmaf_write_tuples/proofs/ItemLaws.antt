@@ -69,6 +69,10 @@ module _ (F : List Row) where
   unfolding encBlock
   bytes-nothing = refl
 
+  -- so items that have some aren't nothing
+  pub not-nothing : (is : Items) (bytes : ℕ) → bytes ≡ length (bytesOf F is) → (bytes ≡ 0 → ⊥) → nothing ≡ is → ⊥
+  not-nothing is bytes k n e = n (k ∙ ap (λ (a : Items). length (bytesOf F a)) (sym e) ∙ ap length bytes-nothing)
+
   -- of items and then others
   pub bytes-before : (a b : Items) → isSome a ≡ true → isSome b ≡ true → bytesOf F (a before b) ≡ bytesOf F a ++ bytesOf F b
   unfolding _before_
@@ -102,16 +106,6 @@ module _ (F : List Row) where
   -- so is what code found to be it
   pub made-is : (coding : Coding) (old new : ℕ) (z : Coded) → z ≡ codeOf F coding old new → Made F z
   made-is coding old new z e = rw e (code-made coding old new)
-
--- ---- items under another name
-
-module _ (F : List Row) (a b : Items) (e : a ≡ b) where
-  -- they are some too, and take as much room
-  pub some-as : isSome b ≡ true → isSome a ≡ true
-  some-as h = rw e h
-
-  pub room-as : (at n : ℕ) → at + length (bytesOf F b) ≤ n → at + length (bytesOf F a) ≤ n
-  room-as at n h = rw e h
 
 -- ---- weights
 

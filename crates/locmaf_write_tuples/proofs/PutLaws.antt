@@ -3,7 +3,7 @@ use Prim.Native.Nat.{ℕ, _+_, _≤_}
 use native.Mathlib.Omega.{arith}
 use mathlib.Core.Path.{_≡_, refl, sym, _∙_, ap}
 use mathlib.Core.Bool.{true, _&&_}
-use mathlib.Core.List.{List, _++_}
+use mathlib.Core.List.{List, [], _∷_, _++_}
 use lib.ListN.{length, length-append}
 use Rattle.laws.specs.Writes.{Wrote}
 use Rattle.laws.proofs.TestLaws.{and-left, and-right}
@@ -19,6 +19,11 @@ pub put-needs : (F : List Row) {a b : Items} → a ≡ b → (at n : ℕ) → is
     → (isSome a ≡ true) × (at + length (bytesOf F a) ≤ n)
 put-needs F e at n s h = (rw e s, rw e h)
 
+-- and of which it is known how many bytes they are
+pub put-known : (F : List Row) {a b : Items} → a ≡ b → (bytes at n : ℕ) → isSome b ≡ true → bytes ≡ length (bytesOf F b) → at + length (bytesOf F b) ≤ n
+    → (isSome a ≡ true) × ((bytes ≡ length (bytesOf F a)) × (at + length (bytesOf F a) ≤ n))
+put-known F e bytes at n s k h = (rw e s, (rw e k, rw e h))
+
 pub put-as : (F : List Row) {a b : Items} {l m : List ℕ} {at p : ℕ} → a ≡ b → Wrote l at (bytesOf F a) m p → Wrote l at (bytesOf F b) m p
 put-as F e w = wrote-as (ap (bytesOf F) e) w
 
@@ -29,6 +34,14 @@ put-nothing F l at h = wrote-none l at h
 
 pub put-none : (F : List Row) {is : Items} (l : List ℕ) (at : ℕ) → is ≡ nothing → at + length (bytesOf F is) ≤ length l → Wrote l at (bytesOf F is) l at
 put-none F l at e h = put-as F (sym e) (put-nothing F l at (omega arith))
+
+-- so it is where bytes are known to be none
+pub put-empty : {bs : List ℕ} (l : List ℕ) (at n : ℕ) → n ≡ 0 → n ≡ length bs → at + length bs ≤ length l → Wrote l at bs l at
+put-empty {bs} l at n z k h = go bs (sym k ∙ z)
+  where
+    go : (cs : List ℕ) → length cs ≡ 0 → Wrote l at cs l at
+    go [] e = wrote-none l at (omega arith)
+    go (c ∷ cs) e = absurd (omega arith)
 
 -- of the whole, to be written in l from the place at on, these items are left, to be written in m from the place p on
 pub record Left (F : List Row) (whole : Items) (l : List ℕ) (at : ℕ) (is : Items) (m : List ℕ) (p : ℕ) : Type 0 where

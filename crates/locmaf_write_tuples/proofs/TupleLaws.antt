@@ -1,9 +1,11 @@
 -- One tuple: its weight and its bytes, by how the numbers in it came out. Assumes nothing.
-use Prim.Native.Nat.{ℕ, _+_, _*_, _≤_, _<_, zero-le, suc}
+use Prim.Native.Nat.{ℕ, _+_, _-_, _*_, _≤_, _<_, zero-le, suc}
 use native.Mathlib.Omega.{arith}
-use mathlib.Core.Path.{_≡_, sym, _∙_, ap}
+use mathlib.Core.Path.{_≡_, refl, sym, _∙_, ap}
 use mathlib.Core.Bool.{Bool, true, false, false≢true, not}
 use mathlib.Core.List.{List, [], _∷_, _++_, append-assoc}
+use borrow.Author.Tests.{ltb-true, ltb-false}
+use lib.Dec.{ltb}
 use lib.ListN.{length, length-append}
 use Rattle.laws.specs.Writes.{Wrote}
 use Rattle.laws.proofs.WriteLaws.{wrote-none}
@@ -15,13 +17,15 @@ use Rattle.wire.specs.declared.zigzag.Coded.the-variants.{Number, TooWide as Wi
 use Rattle.wire.specs.Form.{rows, limit, longest}
 use Rattle.wire.specs.Varint.{encode, sizeOf}
 use Rattle.wire.specs.Zigzag.{codeOf}
-use Rattle.wire.proofs.SizeLaws.{size-eight, limit-62, encode-size, size-longest, longest-eight}
+use Rattle.wire.proofs.FormLaws.{lawful}
+use Rattle.wire.proofs.SizeLaws.{size-eight, size-grows, size-some, limit-62, encode-size, size-longest, longest-eight}
+use Rattle.runs.specs.declared.Measured.{Measured}
 use Rattle.runs.specs.declared.Measured.the-variants.{Bytes, TooWide}
 use Rattle.runs.specs.Run.{first, rest, runOf, measured, onCoded}
 use Rattle.runs.proofs.RunLaws.{measured-length}
 use Rattle.laws.specs.Options.{isSome}
 use Rattle.constants.specs.Ids.{idCount}
-use Rattle.constants.specs.Maxima.{subsamplesMost}
+use Rattle.constants.specs.Maxima.{subsamplesMost, blockMost}
 use Rattle.block_items.specs.Items.{num, run, encItem}
 use Rattle.locmaf_write_tuples.specs.declared.tuples.Weight.{Weight}
 use Rattle.locmaf_write_tuples.specs.Items.{Items, itemsIf, numberItem, runItem, bytesOf, pairMost, Made, WeighedAs}
@@ -104,12 +108,12 @@ module _ (F : List Row) (coding : Coding) (id base : ℕ) (old new : List ℕ) w
     unfolding runItem
     weighed-no-run most e = rw wide (weighed-wide e)
 
-    pub no-run : isSome (runItem F coding id base old new) ≡ true → ⊥
+    no-run : isSome (runItem F coding id base old new) ≡ true → ⊥
     unfolding runItem
     no-run e = false≢true (rw wide at e)
 
   -- all fit
-  pub run-bytes : (n : ℕ) → measured F coding base old new ≡ Bytes n
+  run-bytes : (n : ℕ) → measured F coding base old new ≡ Bytes n
       → encode F id ++ encode F n ++ runOf F coding base old new ≡ bytesOf F (runItem F coding id base old new)
   unfolding runItem encItem
   run-bytes n e =
@@ -117,22 +121,86 @@ module _ (F : List Row) (coding : Coding) (id base : ℕ) (old new : List ℕ) w
       let l : length bs ≡ n = measured-length F coding base old new n e in
       rw e (append-assoc (encode F id) (encode F n) bs ∙ ap (λ (k : ℕ). encode F id ++ (encode F k ++ bs)) (sym l) ∙ sym (block-one F (run id bs)))
 
--- and their weight
-pub weighed-run : (form : Form) (coding : Coding) (id base : ℕ) (old new : List ℕ) (n k : ℕ) {w : Weight}
-    → measured (rows form) coding base old new ≡ Bytes n → id < idCount → length new ≤ subsamplesMost
-    → (k ≡ sizeOf (rows form) id + (sizeOf (rows form) n + n)) × (k ≤ pairMost + n) → (w .fits ≡ true) × (w .bytes ≡ k)
-    → WeighedAs (rows form) (runItem (rows form) coding id base old new) (pairMost + 8 * length new) w
-unfolding runItem
-weighed-run form coding id base old new n k m few short size e =
-    let F : List Row = rows form in
-    let bs : List ℕ = runOf F coding base old new in
-    let l : length bs ≡ n = measured-length F coding base old new n m in
-    let most : n ≤ 8 * length new = measured-most form coding base old new n m in
-    let all : length (encItem F (run id bs)) ≡ sizeOf F id + (sizeOf F (length bs) + length bs) =
-    run-length F id bs (omega (arith, limit-62 form)) (omega (arith, limit-62 form)) in
-    rw m
-    (record {
-      fits = e .0;
-      bytes = λ some. e .1 ∙ size .0 ∙ rw (← l) (sym (ap length (block-one F (run id bs)) ∙ all));
-      small = omega (arith, e .1, size .1);
-    })
+-- how long their tuple is, and its weight
+module _ (form : Form) (coding : Coding) (id base : ℕ) (old new : List ℕ) (low : id < idCount) (short : length new ≤ subsamplesMost) where
+  abbrev runBytes : ℕ
+  runBytes = length (bytesOf (rows form) (runItem (rows form) coding id base old new))
+
+  run-size : (n : ℕ) → measured (rows form) coding base old new ≡ Bytes n → runBytes ≡ sizeOf (rows form) id + (sizeOf (rows form) n + n)
+  unfolding runItem
+  run-size n m =
+      let F : List Row = rows form in
+      let bs : List ℕ = runOf F coding base old new in
+      let l : length bs ≡ n = measured-length F coding base old new n m in
+      let most : n ≤ 8 * length new = measured-most form coding base old new n m in
+      let all : length (encItem F (run id bs)) ≡ sizeOf F id + (sizeOf F (length bs) + length bs) =
+      run-length F id bs (omega (arith, limit-62 form)) (omega (arith, limit-62 form)) in
+      rw m (rw (← l) (ap length (block-one F (run id bs)) ∙ all))
+
+  pub weighed-run : (n k : ℕ) {w : Weight} → measured (rows form) coding base old new ≡ Bytes n
+      → (k ≡ sizeOf (rows form) id + (sizeOf (rows form) n + n)) × (k ≤ pairMost + n) → (w .fits ≡ true) × (w .bytes ≡ k)
+      → WeighedAs (rows form) (runItem (rows form) coding id base old new) (pairMost + 8 * length new) w
+  unfolding runItem
+  weighed-run n k m size e =
+      record {
+        fits = e .0 ∙ rw m;
+        bytes = λ some. e .1 ∙ size .0 ∙ sym (run-size n m);
+        small = omega (arith, e .1, size .1, measured-most form coding base old new n m);
+      }
+
+  -- the length of its body, which follows from that of the whole and that of the id
+  module _ (some : isSome (runItem (rows form) coding id base old new) ≡ true) (bytes s : ℕ) (all : bytes ≡ runBytes) (head : s ≡ sizeOf (rows form) id) where
+    body-of : (n : ℕ) × (measured (rows form) coding base old new ≡ Bytes n) × (n ≤ blockMost) × (bytes ≡ s + (sizeOf (rows form) n + n))
+    body-of = go (measured (rows form) coding base old new) refl
+      where
+        go : (k : Measured) → measured (rows form) coding base old new ≡ k
+            → (n : ℕ) × (measured (rows form) coding base old new ≡ Bytes n) × (n ≤ blockMost) × (bytes ≡ s + (sizeOf (rows form) n + n))
+        go (Bytes n) e = (n, e, omega (arith, measured-most form coding base old new n e), omega (arith, run-size n e))
+        go TooWide e = absurd (no-run (rows form) coding id base old new e some)
+
+    pub run-head : s ≤ bytes
+    run-head = omega (arith, body-of .3)
+
+    pub run-body : (n : ℕ) × (n ≤ blockMost) × (bytes - s ≡ sizeOf (rows form) n + n)
+    run-body = (body-of .0, body-of .2, omega (arith, body-of .3))
+
+    -- so the tuple's bytes are known, where code found it
+    pub body-found : (r : ℕ) → ((n : ℕ) → n ≤ blockMost → bytes - s ≡ sizeOf (rows form) n + n → r ≡ n)
+        → encode (rows form) id ++ encode (rows form) r ++ runOf (rows form) coding base old new ≡ bytesOf (rows form) (runItem (rows form) coding id base old new)
+    body-found r is =
+        run-bytes (rows form) coding id base old new r
+        (body-of .1 ∙ ap Bytes (sym (is (body-of .0) (body-of .2) (omega (arith, body-of .3)))))
+
+-- ---- how long a body is, by the bytes that it takes with its length before it
+
+module _ (form : Form) (m : ℕ) where
+  -- a body of k bytes takes m
+  abbrev Takes : ℕ → Type 0
+  Takes k = (k ≤ blockMost) × (m ≡ sizeOf (rows form) k + k)
+
+  -- so it has fewer
+  pub takes-more : (k : ℕ) → Takes k → k < m
+  takes-more k h = omega (arith, h .1, size-some (rows form) k (omega (arith, h .0, limit-62 form)))
+
+  -- where a body of n bytes takes more, it has fewer
+  pub takes-less : (n : ℕ) → m < n + sizeOf (rows form) n → (k : ℕ) → Takes k → k < n
+  takes-less n more k h = go (ltb k n) refl
+    where
+      go : (t : Bool) → ltb k n ≡ t → k < n
+      go true e = ltb-true _ _ e
+      go false e = let le : n ≤ k = ltb-false _ _ e in absurd (omega (arith, h .1, size-grows (rows form) (lawful form) n k le))
+
+  -- no such body has more bytes than n
+  pub record Above (n : ℕ) : Type 0 where
+    pub few : n ≤ pairMost + blockMost
+    pub all : (k : ℕ) → Takes k → k ≤ n
+
+  pub above-start : (k : ℕ) → Takes k → Above (m - 1)
+  above-start k h = record { few = omega (arith, h .0, h .1, size-eight form k); all = λ j g. omega (arith, takes-more j g) }
+
+  pub above-next : (n : ℕ) → Above n → m < n + sizeOf (rows form) n → Above (n - 1)
+  above-next n h more = record { few = omega (arith, h .few); all = λ k g. omega (arith, takes-less n more k g) }
+
+  -- and n is its length
+  pub above-end : (n : ℕ) → Above n → n + sizeOf (rows form) n ≤ m → (k : ℕ) → Takes k → n ≡ k
+  above-end n h le k g = omega (arith, g .1, h .all k g, size-grows (rows form) (lawful form) k n (h .all k g))

@@ -3,7 +3,7 @@
 ghost use mathlib.Core.Path.{_≡_};
 ghost use mathlib.Core.Bool.{true, false, _&&_};
 ghost use mathlib.Core.List.{_++_};
-ghost use Prim.Native.Nat.{_+_, _*_, _≤_, _<_};
+ghost use Prim.Native.Nat.{ℕ, _+_, _*_, _≤_, _<_};
 ghost use lib.ListN.{length};
 ghost use Rattle.laws.specs.Writes.{Wrote};
 ghost use Rattle.wire.specs.Form.{rows};
@@ -11,7 +11,7 @@ ghost use Rattle.wire.specs.Varint.{encode, sizeOf};
 ghost use Rattle.laws.specs.Options.{isSome};
 ghost use Rattle.constants.specs.Ids.{idCount};
 ghost use Rattle.constants.specs.Maxima.{subsamplesMost, blockMost};
-ghost use Rattle.locmaf_write_tuples.specs.Items.{itemsIf, numberItem, runItem, pairMost, weightMost, Made, WeighedAs, RoomFor, WroteItems};
+ghost use Rattle.locmaf_write_tuples.specs.Items.{itemsIf, numberItem, runItem, bytesOf, pairMost, weightMost, Made, WeighedAs, RoomFor, WroteItems};
 use runs::Measured;
 use wire::form::Form;
 use wire::zigzag::Coded;
@@ -114,26 +114,38 @@ pub fn run_size(form: Form, coding: Coding, id: u64, new: &[u64], old: &[u64], b
     }
 }
 
-// The length comes before the numbers, so they are measured once more.
+// How many bytes a body has that takes m of them with its length before it.
+fn body_in(form: Form, m: usize) -> usize
+    requires { ⌜ ((n : ℕ) × (n ≤ blockMost) × (m ≡ sizeOf (rows form) n + n)) ⌝ }
+    ensures { λ r. ⌜ ((n : ℕ) → n ≤ blockMost → m ≡ sizeOf (rows form) n + n → r ≡ n) ⌝ }
+{
+    let mut n = m - 1;
+    while m < n + wire::varint::size(form, n as u64) {
+        n -= 1;
+    }
+    n
+}
+
+// The same written. Its length stands before the numbers, and follows from the bytes of the whole tuple, which were weighed.
 pub fn put_run(
     form: Form,
     coding: Coding,
     id: u64,
+    bytes: usize,
     new: &[u64],
     old: &[u64],
     base: u64,
     out: &mut [u8],
     at: usize,
 ) -> usize
+    requires { ⌜ (id < idCount) × (length (now new) ≤ subsamplesMost) ⌝ }
     requires { ⌜ isSome (runItem (rows form) coding id base (now old) (now new)) ≡ true ⌝ }
+    requires { ⌜ bytes ≡ length (bytesOf (rows form) (runItem (rows form) coding id base (now old) (now new))) ⌝ }
     requires { ⌜ RoomFor (rows form) (runItem (rows form) coding id base (now old) (now new)) (now out) at ⌝ }
     ensures { λ r. ⌜ WroteItems (rows form) (runItem (rows form) coding id base (now (old .entry)) (now (new .entry)))
         (now (out .entry)) at (now (out .exit)) r ⌝ }
 {
-    let m = runs::measure(form, coding, new, old, base);
-    let Measured::Bytes(n) = m else {
-        return at;
-    };
+    let n = body_in(form, bytes - wire::varint::size(form, id));
     let a = put_head(form, id, n, out, at);
     runs::put(form, coding, new, old, base, out, a)
 }

@@ -1,5 +1,5 @@
--- How many bytes a number counts for: no more than the longest varint has. Assumes nothing.
-use Prim.Native.Nat.{ℕ, suc, _^_, _≤_, zero-le, max}
+-- How many bytes a number counts for: no more than the longest varint has, and no fewer than a smaller number. Assumes nothing.
+use Prim.Native.Nat.{ℕ, suc, _^_, _≤_, _<_, zero-le, max}
 use native.Mathlib.Nat.{le-trans, le-max-left, le-max-right, le-refl}
 use native.Mathlib.Omega.{arith}
 use mathlib.Core.Path.{_≡_, refl, ap}
@@ -17,7 +17,7 @@ use Rattle.wire.specs.declared.zigzag.Coded.the-variants.{TooWide}
 use Rattle.wire.specs.Form.{rows, cap, byValue, limit, longest, onFound}
 use Rattle.wire.specs.Varint.{encode, sizeOf}
 use Rattle.wire.specs.Zigzag.{fitted}
-use Rattle.wire.proofs.FormLaws.{past}
+use Rattle.wire.proofs.FormLaws.{Lawful, by-value, fits, no-longer, past}
 use Rattle.wire.proofs.VarintLaws.{encode-in, size-in, size-past}
 use Rattle.wire.proofs.ZigzagLaws.{fitted-wide}
 
@@ -46,7 +46,22 @@ size-longest (q ∷ rs) v = go (ltb v (cap q)) (size-longest rs v)
     go true ih = le-max-left (suc (q .tail)) (longest rs)
     go false ih = found-le (byValue rs v) (longest rs) _ ih (le-max-right (suc (q .tail)) (longest rs))
 
--- which has at most eight bytes
+-- a larger number has no fewer bytes: its row holds the smaller one too
+pub size-grows : (F : List Row) → Lawful 0 F → (v w : ℕ) → v ≤ w → sizeOf F v ≤ sizeOf F w
+size-grows F l v w h = go (byValue F w) refl
+  where
+    go : (f : Found) → byValue F w ≡ f → sizeOf F v ≤ sizeOf F w
+    go (In r) e =
+        let k = by-value F 0 w r l e in
+        let q = no-longer F 0 _ v r l (k .found) (omega (arith, k .holds)) in
+        omega (arith, size-in F w r e, size-in F v (q .0) (q .1), q .2)
+    go Past e = rw (size-past F w e) (size-longest F v)
+
+-- and every number that the form holds has some
+pub size-some : (F : List Row) (v : ℕ) → v < limit F → 0 < sizeOf F v
+size-some F v h = let r = fits F v h in omega (arith, size-in F v (r .0) (r .1))
+
+-- the longest varint has at most eight bytes
 pub longest-eight : (form : Form) → longest (rows form) ≤ 8
 unfolding longest
 longest-eight Rfc9000 = omega arith

@@ -1,4 +1,5 @@
 -- `encoder::encode::accept` meets its contract, by the laws of `proofs/WriteLaws.antt`. Assumes nothing.
+use mathlib.Core.Path.{refl}
 use borrow.Author.Tests.{not-false}
 use denote.Ref.{now}
 use Rattle.encoder.proofs.FrontLaws.{planned-sendable}
@@ -8,8 +9,11 @@ use borrow.Author.Needs.{needs}
 use Rattle.encoder.proofs.encode.accept.Statement.{statement}
 use Rattle.encoder.proofs.encode.accept.Tie as tie
 
+slice-aggregate-choose : tie.Need-slice-aggregate-choose
+slice-aggregate-choose c = search needs
+
 choose-requires : tie.Need-choose-requires
-choose-requires c κs = let b = c .before .before .before .before .before .before in (now (b .args .c), b .pre)
+choose-requires c κs = let b = c .before .before .before .before .before .before .before in ((now (b .args .c), b .pre), refl)
 
 refused-requires : tie.Need-refused-requires
 refused-requires c κs = search needs
@@ -19,17 +23,17 @@ same-length c = search needs
 
 returns : tie.Need-returns
 returns c =
-    let p = c .before .before .before in
-    let b = p .before .before .before .before .before .before .before in
+    let p = c .before .before .before .before in
+    let b = p .before .before .before .before .before .before .before .before in
     let a = b .args in
     refused-as (now (a .c)) (now (a .output)) (now (a .s)) 9 (c .refused .ensures)
-    (unfit (a .form) _ _ _ _ _ _ (b .pre) (a .wish) (now (a .output)) _ (p .choose .ensures _ (b .pre)) (c .before .if1 .taken))
+    (unfit (a .form) _ _ _ _ _ _ (b .pre) (a .wish) (now (a .output)) _ (p .choose .ensures .0 _ (b .pre)) (c .before .if1 .taken))
 
 front-length-requires : tie.Need-front-length-requires
 front-length-requires c κs =
-    let p = c .before .before in
-    let b = p .before .before .before .before .before .before .before in
-    p .choose .ensures _ (b .pre) .small
+    let p = c .before .before .before in
+    let b = p .before .before .before .before .before .before .before .before in
+    p .choose .ensures .0 _ (b .pre) .small
 
 refused-requires-2 : tie.Need-refused-requires-2
 refused-requires-2 c κs = search needs
@@ -40,23 +44,26 @@ same-length-2 c = search needs
 returns-2 : tie.Need-returns-2
 returns-2 c =
     let f = c .before .before in
-    let p = f .before .before .before in
-    let b = p .before .before .before .before .before .before .before in
+    let p = f .before .before .before .before in
+    let b = p .before .before .before .before .before .before .before .before in
     let a = b .args in
     refused-as (now (a .c)) (now (a .output)) (now (a .s)) 17 (c .refused2 .ensures)
-    (short (a .form) _ _ _ _ _ _ (b .pre) (a .wish) (now (a .output)) _ (p .choose .ensures _ (b .pre)) (f .before .if1 .left) _
+    (short (a .form) _ _ _ _ _ _ (b .pre) (a .wish) (now (a .output)) _ (p .choose .ensures .0 _ (b .pre)) (f .before .if1 .left) _
     (f .front-length .ensures) (c .before .if2 .taken))
+
+slice-aggregate-write : tie.Need-slice-aggregate-write
+slice-aggregate-write c = search needs
 
 write-requires : tie.Need-write-requires
 write-requires c κs =
-    let f = c .before .before .before in
-    let p = f .before .before .before in
-    let b = p .before .before .before .before .before .before .before in
+    let f = c .before .before .before .before in
+    let p = f .before .before .before .before in
+    let b = p .before .before .before .before .before .before .before .before in
     let a = b .args in
-    let q = p .choose .ensures _ (b .pre) in
+    let q = p .choose .ensures .0 _ (b .pre) in
     let i = f .before .if1 .left in
-    let l = room (a .form) _ _ _ _ _ _ (b .pre) (a .wish) (now (a .output)) _ q i _ (f .front-length .ensures) _ (c .before .before .if2 .left) in
-    (b .pre, (planned-sendable (a .form) q (not-false _ i), l))
+    let l = room (a .form) _ _ _ _ _ _ (b .pre) (a .wish) (now (a .output)) _ q i _ (f .front-length .ensures) _ (c .before .before .before .if2 .left) in
+    (b .pre, (planned-sendable (a .form) q (not-false _ i), (p .choose .ensures .1, l)))
 
 same-length-3 : tie.Need-same-length-3
 same-length-3 c = search needs
@@ -67,17 +74,18 @@ same-length-4 c = search needs
 returns-3 : tie.Need-returns-3
 returns-3 c =
     let w = c .before .before .before .before in
-    let f = w .before .before .before .before in
-    let p = f .before .before .before in
-    let b = p .before .before .before .before .before .before .before in
+    let f = w .before .before .before .before .before in
+    let p = f .before .before .before .before in
+    let b = p .before .before .before .before .before .before .before .before in
     let a = b .args in
-    done-is (a .form) _ _ _ _ _ _ (b .pre) (a .wish) (now (a .output)) _ (p .choose .ensures _ (b .pre)) (f .before .if1 .left) _ (f .front-length .ensures)
-    (w .before .before .before .if2 .left) (w .write .ensures)
+    done-is (a .form) _ _ _ _ _ _ (b .pre) (a .wish) (now (a .output)) _ (p .choose .ensures .0 _ (b .pre)) (f .before .if1 .left) _ (f .front-length .ensures)
+    (w .before .before .before .before .if2 .left) (w .write .ensures)
 
 pub accept-spec : {M : Type 1} → statement M
 accept-spec =
     tie.close
     (tie.spec
+    slice-aggregate-choose
     choose-requires
     refused-requires
     same-length
@@ -86,6 +94,7 @@ accept-spec =
     refused-requires-2
     same-length-2
     returns-2
+    slice-aggregate-write
     write-requires
     same-length-3
     same-length-4

@@ -8,16 +8,16 @@ use Rattle.encoder.proofs.encode.write.Statement.{statement}
 use Rattle.encoder.proofs.encode.write.Tie as tie
 
 put-front-requires : tie.Need-put-front-requires
-put-front-requires c κs = c .before .before .before .before .before .before .before .pre
+put-front-requires c κs = c .before .before .before .before .before .before .before .before .pre
 
 slice-read-sequence : tie.Need-slice-read-sequence
 slice-read-sequence c =
-    let z = c .before .before .before .before .before .before .before .before .before .before .before .before .before .pre .0 .on-share .share in
+    let z = c .before .before .before .before .before .before .before .before .before .before .before .before .before .before .pre .0 .on-share .share in
     search needs
 
 keep-requires : tie.Need-keep-requires
 keep-requires c κs =
-    let e = c .before .before .before .before .before .before .before .before .before .before .before .before .before .before .pre .0 in
+    let e = c .before .before .before .before .before .before .before .before .before .before .before .before .before .before .before .pre .0 in
     let a = e .on-share in
     ((a .share, e .set-long), (share-tidy Encoder _ (a .share) (a .lawful-share) (a .opened), lawful-tidy _ _ (e .set-long) (e .lawful-set)))
 

@@ -1,6 +1,6 @@
 -- `encoder::properties::put_block` meets its contract: its parts written one after another. Assumes nothing.
 use Rattle.locmaf_write_tuples.proofs.PutLaws.{left-first}
-use Rattle.encoder.proofs.GivenLaws.{basis-own, writable, brands-inside, recorded}
+use Rattle.encoder.proofs.GivenLaws.{basis-own, writable, kept-lent, brands-inside, recorded}
 use Rattle.encoder.proofs.BlockLaws.{before-set, before-outside, before-gone}
 use borrow.Author.Needs.{needs}
 use Rattle.encoder.proofs.properties.put_block.Statement.{statement}
@@ -15,38 +15,42 @@ part-r-start c = search needs
 part-r-end : tie.Need-part-r-end
 part-r-end c = search needs
 
-shared-slice-read-t20 : tie.Need-shared-slice-read-t20
-shared-slice-read-t20 c = let z = c .before .before .before .before .before .before .before .pre .0 .set-long in search needs
+shared-slice-read-t21 : tie.Need-shared-slice-read-t21
+shared-slice-read-t21 c = let z = c .before .before .before .before .before .before .before .before .pre .0 .set-long in search needs
 
 basis-of-requires : tie.Need-basis-of-requires
-basis-of-requires c κs = let b = c .before .before .before .before .before .before .before in writable (b .pre .0) _ (b .pre .1 .0)
+basis-of-requires c κs = let b = c .before .before .before .before .before .before .before .before in writable (b .pre .0) _ (b .pre .1 .0)
 
 put-set-requires : tie.Need-put-set-requires
 put-set-requires c κs =
     let d = c .before in
-    let b = d .before .before .before .before .before .before .before .before in
-    let h = before-set (b .pre .0) (b .args .delta) (d .basis-of .ensures) (b .args .out .now) _ (b .pre .1 .1) in
-    (basis-own (writable (b .pre .0) _ (b .pre .1 .0)) (d .basis-of .ensures), left-first _ _ _ _ _ _ _ _ h)
+    let b = d .before .before .before .before .before .before .before .before .before in
+    let h = before-set (b .pre .0) (b .args .delta) (d .basis-of .ensures) (b .args .out .now) _ (b .pre .1 .1 .1) in
+    let k = kept-lent (b .args .s .now) (d .basis-of .ensures) (b .pre .1 .1 .0) in
+    (basis-own (writable (b .pre .0) _ (b .pre .1 .0)) (d .basis-of .ensures), (k .fields, left-first _ _ _ _ _ _ _ _ h))
 
 put-outside-requires : tie.Need-put-outside-requires
 put-outside-requires c κs =
     let b₁ = c .before .before .before in
     let d = b₁ .before .before in
-    let b = d .before .before .before .before .before .before .before .before in
+    let b = d .before .before .before .before .before .before .before .before .before in
     let e = b .pre .0 in
-    let h = before-outside e (b .args .delta) (d .basis-of .ensures) (b .args .out .now) _ (b .pre .1 .1) (b₁ .put-set .ensures) in
+    let h = before-outside e (b .args .delta) (d .basis-of .ensures) (b .args .out .now) _ (b .pre .1 .1 .1) (b₁ .put-set .ensures) in
     (e .on-share .share, ((e .brand-bytes, brands-inside e), (recorded e, left-first _ _ _ _ _ _ _ _ h)))
+
+shared-slice-read-put-deletions : tie.Need-shared-slice-read-put-deletions
+shared-slice-read-put-deletions c = let z = c .before .before .before .before .before .before .before .before .before .before .before .before .before .before .before .before .before .before .pre .1 .1 .0 .fields .lines .long in search needs
 
 put-deletions-requires : tie.Need-put-deletions-requires
 put-deletions-requires c κs =
-    let b₂ = c .before .before .before in
+    let b₂ = c .before .before .before .before in
     let b₁ = b₂ .before .before .before .before in
     let d = b₁ .before .before in
-    let b = d .before .before .before .before .before .before .before .before in
-    let h = before-gone (b .pre .0) (b .args .delta) (d .basis-of .ensures) (b .args .out .now) _ (b .pre .1 .1)
+    let b = d .before .before .before .before .before .before .before .before .before in
+    let h = before-gone (b .pre .0) (b .args .delta) (d .basis-of .ensures) (b .args .out .now) _ (b .pre .1 .1 .1)
     (b₁ .put-set .ensures) (b₂ .put-outside .ensures) in
     let w = writable (b .pre .0) _ (b .pre .1 .0) in
-    ((w .old-words, w .new-words), (b .args .t, h .fits, h .room))
+    ((w .old-words, w .new-words), (b .args .t, h .fits, kept-lent (b .args .s .now) (d .basis-of .ensures) (b .pre .1 .1 .0) .gone (h .fits), h .room))
 
 same-length : tie.Need-same-length
 same-length c = search needs
@@ -54,11 +58,11 @@ same-length c = search needs
 returns : tie.Need-returns
 returns c =
     let b₃ = c .before .before in
-    let b₂ = b₃ .before .before .before .before in
+    let b₂ = b₃ .before .before .before .before .before in
     let b₁ = b₂ .before .before .before .before in
     let d = b₁ .before .before in
-    let b = d .before .before .before .before .before .before .before .before in
-    let h = before-gone (b .pre .0) (b .args .delta) (d .basis-of .ensures) (b .args .out .now) _ (b .pre .1 .1)
+    let b = d .before .before .before .before .before .before .before .before .before in
+    let h = before-gone (b .pre .0) (b .args .delta) (d .basis-of .ensures) (b .args .out .now) _ (b .pre .1 .1 .1)
     (b₁ .put-set .ensures) (b₂ .put-outside .ensures) in
     h .rest _ _ (b₃ .put-deletions .ensures _)
 
@@ -69,10 +73,11 @@ put-block-spec =
     sub-r
     part-r-start
     part-r-end
-    shared-slice-read-t20
+    shared-slice-read-t21
     basis-of-requires
     put-set-requires
     put-outside-requires
+    shared-slice-read-put-deletions
     put-deletions-requires
     same-length
     returns)

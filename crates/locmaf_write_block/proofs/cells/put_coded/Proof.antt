@@ -1,7 +1,7 @@
 -- `locmaf_write_block::cells::put_coded` meets its contract: one number, or a list. Assumes nothing.
 use borrow.Author.Needs.{needs}
 use Rattle.wire.specs.Form.{rows}
-use Rattle.locmaf_write_tuples.proofs.PutLaws.{put-needs, put-as}
+use Rattle.locmaf_write_tuples.proofs.PutLaws.{put-needs, put-known, put-as}
 use Rattle.locmaf_write_block.proofs.FieldLaws.{line-single}
 use Rattle.locmaf_write_block.proofs.SentLaws.{one-coded, list-coded}
 use Rattle.locmaf_write_block.proofs.cells.put_coded.Statement.{statement}
@@ -18,7 +18,8 @@ put-number-requires c κs =
     let a = b .args in
     let F = rows (a .form) in
     let e = one-coded F (a .c) (a .b) (a .r .now) (a .x .now) (a .l) (a .k) (a .base) (c .before .before .if1 .taken) _ (c .before .number-of .ensures) in
-    put-needs F e _ _ (b .pre .1 .1 .1 .0) (b .pre .1 .1 .1 .1)
+    let p = b .pre .1 .1 .1 .1 in
+    put-needs F e _ _ (p .0) (p .1 .1)
 
 same-length : tie.Need-same-length
 same-length c = search needs
@@ -37,7 +38,8 @@ put-list-requires c κs =
     let a = b .args in
     let F = rows (a .form) in
     let e = list-coded F (a .c) (a .b) (a .r .now) (a .x .now) (a .l) (a .k) (a .base) (c .before .if1 .left) in
-    (b .pre .0, (b .pre .1 .0, (b .pre .1 .1 .0, put-needs F e _ _ (b .pre .1 .1 .1 .0) (b .pre .1 .1 .1 .1))))
+    let p = b .pre .1 .1 .1 in
+    (b .pre .0, (b .pre .1 .0, (b .pre .1 .1 .0, (p .0, put-known F e _ _ _ (p .1 .0) (p .1 .1 .0) (p .1 .1 .1)))))
 
 same-length-2 : tie.Need-same-length-2
 same-length-2 c = search needs

@@ -1,9 +1,10 @@
 -- `locmaf_write_block::cells::put_list` meets its contract: the numbers are those that are lent. Assumes nothing.
 use borrow.Author.Needs.{needs}
+use native.Mathlib.Omega.{arith}
 use Rattle.wire.specs.Form.{rows}
-use Rattle.locmaf_write_tuples.proofs.ItemLaws.{some-as, room-as}
-use Rattle.locmaf_write_tuples.proofs.PutLaws.{put-as}
-use Rattle.locmaf_write_block.proofs.SentLaws.{lent-list}
+use Rattle.locmaf_write_tuples.proofs.PutLaws.{put-known, put-as}
+use Rattle.locmaf_write_block.proofs.FieldLaws.{line-low}
+use Rattle.locmaf_write_block.proofs.SentLaws.{lent-length, lent-list}
 use Rattle.locmaf_write_block.proofs.cells.put_list.Statement.{statement}
 use Rattle.locmaf_write_block.proofs.cells.put_list.Tie as tie
 
@@ -50,7 +51,8 @@ put-run-requires c κs =
     let a = b₂ .args in
     let F = rows (a .form) in
     let e = lent-list F (a .c) (a .b) (a .r .now) (a .x .now) (a .l) (a .k) (a .base) _ (b₂ .pre .1 .1 .0 .0) (b₁ .old-length .ensures) in
-    (some-as F _ _ e (b₂ .pre .1 .1 .1 .0), room-as F _ _ e _ _ (b₂ .pre .1 .1 .1 .1))
+    let few = b₂ .pre .1 .1 .1 in
+    ((line-low (b₂ .pre .0), omega (arith, lent-length (a .l) (a .x .now) (a .k) (b₂ .pre .1 .1 .0 .0), few .0)), put-known F e _ _ _ (few .1 .0) (few .1 .1 .0) (few .1 .1 .1))
 
 same-length : tie.Need-same-length
 same-length c = search needs

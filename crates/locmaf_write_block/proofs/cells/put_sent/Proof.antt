@@ -5,10 +5,10 @@ use mathlib.Core.Path.{sym, _∙_}
 use Rattle.wire.specs.Form.{rows}
 use Rattle.locmaf_write_block.proofs.FieldLaws.{measured-old, Field, chunk-field}
 use Rattle.laws.proofs.WriteLaws.{wrote-as}
-use Rattle.locmaf_write_block.proofs.SentLaws.{new-room, ivs-wrote, ivs-room, coded-is}
+use Rattle.locmaf_write_block.proofs.SentLaws.{new-room, new-few, ivs-wrote, ivs-room, coded-is}
 use Rattle.locmaf_write_block.proofs.cells.put_sent.Statement.{statement}
 use Rattle.locmaf_write_block.proofs.cells.put_sent.Tie as tie
-use Rattle.locmaf_write_tuples.proofs.PutLaws.{put-needs, put-as}
+use Rattle.locmaf_write_tuples.proofs.PutLaws.{put-known, put-as}
 
 -- the field that the call is about
 the-field : (s : tie.Start) → let a = s .args in Field (a .t) (a .b) (a .r .now) (a .x .now) (a .l)
@@ -61,7 +61,7 @@ put-ivs-requires c κs =
     let b₄ = b₃ .before .before .before .before .before .before in
     let a = b₄ .args in
     ivs-room (the-field b₄) _ (b₃ .length-of .ensures) (sym (b₂ .is-ivs .ensures) ∙ b₁ .if1 .taken)
-    (rows (a .form)) (a .out .now) (a .at) (b₄ .pre .1 .1 .1 .1)
+    (rows (a .form)) (a .out .now) (a .at) (b₄ .pre .1 .1 .1 .1 .1)
 
 same-length : tie.Need-same-length
 same-length c = search needs
@@ -86,6 +86,7 @@ put-coded-requires c κs =
     let b₅ = b₄ .before in
     let b₆ = b₅ .before .before .before .before .before .before in
     let a = b₆ .args in
+    let p = b₆ .pre .1 .1 .1 in
     let f = the-field b₆ in
     let e = coded-is f (rows (a .form)) _ (b₂ .is-ivs .ensures) (b₁ .if1 .left)
     _ (b₄ .field-coding .ensures) _ (b₃ .absent-value .ensures) _ (b₅ .length-of .ensures) in (
@@ -94,7 +95,7 @@ put-coded-requires c κs =
         measured-old (b₆ .pre .0),
         (
           (new-room f _ (b₅ .length-of .ensures), b₆ .pre .0 .0 .new-words),
-          put-needs (rows (a .form)) e _ _ (b₆ .pre .1 .1 .1 .0) (b₆ .pre .1 .1 .1 .1),
+          (new-few f _ (b₅ .length-of .ensures), put-known (rows (a .form)) e _ _ _ (p .0) (p .1 .0) (p .1 .1)),
         ),
       ),
     )

@@ -1,55 +1,79 @@
 -- `locmaf_write_block::set::put_set` meets its contract: its parts one after another. Assumes nothing.
-use borrow.Author.Needs.{needs}
 use native.Mathlib.Omega.{arith}
-use Rattle.locmaf_write_tuples.proofs.PutLaws.{left-first}
-use Rattle.locmaf_write_block.proofs.SetLaws.{before-low, before-bmdt, before-middle, before-count, before-high}
+use mathlib.Core.Path.{refl}
+use mathlib.Core.Logic.{⊎-elim}
+use Rattle.laws.specs.Writes.{Wrote}
+use Rattle.laws.proofs.WriteLaws.{wrote-length}
+use Rattle.wire.specs.Form.{rows}
+use Rattle.locmaf_write_tuples.specs.Items.{bytesOf}
+use Rattle.locmaf_write_tuples.proofs.PutLaws.{put-empty, left-first}
+use Rattle.locmaf_write_block.specs.Fields.{beforeBmdt, between}
+use Rattle.locmaf_write_block.proofs.SetLaws.{low-none, before-low, before-bmdt, before-middle, before-count, before-high}
 use Rattle.locmaf_write_block.proofs.set.put_set.Statement.{statement}
 use Rattle.locmaf_write_block.proofs.set.put_set.Tie as tie
 
+shared-slice-read-if1 : tie.Need-shared-slice-read-if1
+shared-slice-read-if1 c = omega (arith, c .before .before .before .before .before .pre .1 .0 .lines .long)
+
 put-lines-requires : tie.Need-put-lines-requires
 put-lines-requires c κs =
-    let b = c .before .before .before .before in
-    (b .pre .0, ((omega arith, omega arith), left-first _ _ _ _ _ _ _ _ (before-low _ _ _ _ _ (b .args .out .now) _ (b .pre .1 .0) (b .pre .1 .1))))
+    let b = c .before .before .before .before .before .before .before in
+    let p = b .pre .1 in
+    (b .pre .0, ((omega arith, omega arith), (p .0 .lines, left-first _ _ _ _ _ _ _ _ (before-low _ _ _ _ _ (b .args .out .now) _ (p .1 .0) (p .1 .1)))))
+
+-- the lines before BMDT are written, at once where they have no bytes
+low : (c : tie.Joined1) → let a = c .before .before .before .before .before .before .args in
+    let F = rows (a .form) in
+    Wrote (a .out .now) (a .at) (bytesOf F (between F (a .t) (a .b .delta) (a .r .now) (a .x .now) 0 beforeBmdt)) (c .if1 .out) (c .if1 .p)
+low c =
+    let b = c .before .before .before .before .before .before in
+    let a = b .args in
+    let p = b .pre .1 in
+    let F = rows (a .form) in
+    let h = before-low F (a .t) (a .b .delta) (a .r .now) (a .x .now) (a .out .now) (a .at) (p .1 .0) (p .1 .1) in
+    ⊎-elim
+    (λ w. rw (w .1, w .2) (put-empty _ _ 0 refl (low-none _ _ _ _ _ (p .0) (p .1 .0) (w .0 .taken)) (left-first _ _ _ _ _ _ _ _ h .1)))
+    (λ w. rw (w .5, w .6) (w .2 .ensures))
+    (c .if1 .came)
 
 put-bmdt-requires : tie.Need-put-bmdt-requires
 put-bmdt-requires c κs =
-    let b₁ = c .before .before .before in
-    let b₂ = b₁ .before .before .before .before .before in
-    (b₂ .pre .0 .0, left-first _ _ _ _ _ _ _ _ (before-bmdt _ _ _ _ _ (b₂ .args .out .now) _ (b₂ .pre .1 .0) (b₂ .pre .1 .1) _ _ (b₁ .put-lines .ensures)))
+    let b = c .before .before .before .before .before .before .before in
+    let p = b .pre .1 .1 in
+    (b .pre .0 .0, left-first _ _ _ _ _ _ _ _ (before-bmdt _ _ _ _ _ (b .args .out .now) _ (p .0) (p .1) _ _ (low (c .before))))
 
 put-middle-requires : tie.Need-put-middle-requires
 put-middle-requires c κs =
     let b₁ = c .before .before .before in
-    let b₂ = b₁ .before .before .before .before in
-    let b₃ = b₂ .before .before .before .before .before in
-    let h = before-middle _ _ _ _ _ (b₃ .args .out .now) _ (b₃ .pre .1 .0) (b₃ .pre .1 .1) _ _ (b₂ .put-lines .ensures) _ _ (b₁ .put-bmdt .ensures) in
-    (b₃ .pre .0, left-first _ _ _ _ _ _ _ _ h)
+    let b₂ = b₁ .before .before in
+    let b₃ = b₂ .before .before .before .before .before .before in
+    let p = b₃ .pre .1 .1 in
+    let h = before-middle _ _ _ _ _ (b₃ .args .out .now) _ (p .0) (p .1) _ _ (low b₂) _ _ (b₁ .put-bmdt .ensures) in
+    (b₃ .pre .0, (b₃ .pre .1 .0 .lines, left-first _ _ _ _ _ _ _ _ h))
 
 put-count-requires : tie.Need-put-count-requires
 put-count-requires c κs =
     let b₁ = c .before .before .before in
     let b₂ = b₁ .before .before .before .before in
-    let b₃ = b₂ .before .before .before .before in
-    let b₄ = b₃ .before .before .before .before .before in
-    let h = before-count _ _ _ _ _ (b₄ .args .out .now) _ (b₄ .pre .1 .0) (b₄ .pre .1 .1)
-    _ _ (b₃ .put-lines .ensures) _ _ (b₂ .put-bmdt .ensures) _ _ (b₁ .put-middle .ensures) in
-    let n = left-first _ _ _ _ _ _ _ _ h in
+    let b₃ = b₂ .before .before in
+    let b₄ = b₃ .before .before .before .before .before .before in
+    let p = b₄ .pre .1 .1 in
+    let h = before-count _ _ _ _ _ (b₄ .args .out .now) _ (p .0) (p .1)
+    _ _ (low b₃) _ _ (b₂ .put-bmdt .ensures) _ _ (b₁ .put-middle .ensures) in
     let w = b₄ .pre .0 .0 in
-    ((w .old-words, w .new-words), n)
+    ((w .old-words, w .new-words), left-first _ _ _ _ _ _ _ _ h)
 
 put-high-requires : tie.Need-put-high-requires
 put-high-requires c κs =
     let b₁ = c .before .before .before in
     let b₂ = b₁ .before .before .before .before in
     let b₃ = b₂ .before .before .before .before in
-    let b₄ = b₃ .before .before .before .before in
-    let b₅ = b₄ .before .before .before .before .before in
-    let h = before-high _ _ _ _ _ (b₅ .args .out .now) _ (b₅ .pre .1 .0) (b₅ .pre .1 .1)
-    _ _ (b₄ .put-lines .ensures) _ _ (b₃ .put-bmdt .ensures) _ _ (b₂ .put-middle .ensures) _ _ (b₁ .put-count .ensures) in
-    (b₅ .pre .0, (h .fits, h .room))
-
-same-length : tie.Need-same-length
-same-length c = search needs
+    let b₄ = b₃ .before .before in
+    let b₅ = b₄ .before .before .before .before .before .before in
+    let p = b₅ .pre .1 .1 in
+    let h = before-high _ _ _ _ _ (b₅ .args .out .now) _ (p .0) (p .1)
+    _ _ (low b₄) _ _ (b₃ .put-bmdt .ensures) _ _ (b₂ .put-middle .ensures) _ _ (b₁ .put-count .ensures) in
+    (b₅ .pre .0, (b₅ .pre .1 .0 .lines, (h .fits, h .room)))
 
 returns : tie.Need-returns
 returns c =
@@ -57,16 +81,22 @@ returns c =
     let b₂ = b₁ .before .before .before .before in
     let b₃ = b₂ .before .before .before .before in
     let b₄ = b₃ .before .before .before .before in
-    let b₅ = b₄ .before .before .before .before in
-    let b₆ = b₅ .before .before .before .before .before in
-    let h = before-high _ _ _ _ _ (b₆ .args .out .now) _ (b₆ .pre .1 .0) (b₆ .pre .1 .1)
-    _ _ (b₅ .put-lines .ensures) _ _ (b₄ .put-bmdt .ensures) _ _ (b₃ .put-middle .ensures) _ _ (b₂ .put-count .ensures) in
+    let b₅ = b₄ .before .before in
+    let b₆ = b₅ .before .before .before .before .before .before in
+    let p = b₆ .pre .1 .1 in
+    let h = before-high _ _ _ _ _ (b₆ .args .out .now) _ (p .0) (p .1)
+    _ _ (low b₅) _ _ (b₄ .put-bmdt .ensures) _ _ (b₃ .put-middle .ensures) _ _ (b₂ .put-count .ensures) in
     h .rest _ _ (b₁ .put-high .ensures)
+
+-- what was written has the length that it had
+same-length : tie.Need-same-length
+same-length c = wrote-length (returns c)
 
 pub put-set-spec : {M : Type 1} → statement M
 put-set-spec =
     tie.close
     (tie.spec
+    shared-slice-read-if1
     put-lines-requires
     put-bmdt-requires
     put-middle-requires

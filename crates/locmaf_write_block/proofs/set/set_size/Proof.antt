@@ -1,11 +1,16 @@
 -- `locmaf_write_block::set::set_size` meets its contract: its parts weighed together. Assumes nothing.
 use borrow.Author.Needs.{needs}
+use native.Mathlib.Omega.{arith}
+use Rattle.locmaf_write_block.proofs.LinesLaws.{keep-all}
 use Rattle.locmaf_write_block.proofs.SetLaws.{set-weighed}
 use Rattle.locmaf_write_block.proofs.set.set_size.Statement.{statement}
 use Rattle.locmaf_write_block.proofs.set.set_size.Tie as tie
 
 lines-size-requires : tie.Need-lines-size-requires
 lines-size-requires c κs = search needs
+
+slice-write-kept : tie.Need-slice-write-kept
+slice-write-kept c = omega (arith, c .before .before .lines-size .ensures .1 .long)
 
 bmdt-size-requires : tie.Need-bmdt-size-requires
 bmdt-size-requires c κs = search needs
@@ -14,25 +19,36 @@ count-size-requires : tie.Need-count-size-requires
 count-size-requires c κs = search needs
 
 both-requires : tie.Need-both-requires
-both-requires c κs = search (needs, c .count-size .ensures .small)
+both-requires c κs = (omega (arith, c .before .bmdt-size .ensures .small), omega (arith, c .count-size .ensures .small))
 
 both-requires-2 : tie.Need-both-requires-2
-both-requires-2 c κs = search (needs, c .before .count-size .ensures .small)
+both-requires-2 c κs =
+    let b = c .before in
+    let l = b .before .before .before .before .lines-size .ensures in
+    (omega (arith, l .0 .small), omega (arith, c .both .ensures .1, b .count-size .ensures .small, b .before .bmdt-size .ensures .small))
+
+same-length : tie.Need-same-length
+same-length c = search needs
 
 returns : tie.Need-returns
 returns c =
     let b₁ = c .before in
     let b₂ = b₁ .before in
     let b₃ = b₂ .before in
-    set-weighed _ _ _ _ _ (b₃ .before .lines-size .ensures) (b₃ .bmdt-size .ensures) (b₂ .count-size .ensures) _ _ (b₁ .both .ensures) (c .both2 .ensures)
+    let l = b₃ .before .before .before .lines-size .ensures in (
+      set-weighed _ _ _ _ _ (l .0) (b₃ .bmdt-size .ensures) (b₂ .count-size .ensures) _ _ (b₁ .both .ensures) (c .both2 .ensures),
+      keep-all _ _ _ _ _ (l .1) (l .0),
+    )
 
 pub set-size-spec : {M : Type 1} → statement M
 set-size-spec =
     tie.close
     (tie.spec
     lines-size-requires
+    slice-write-kept
     bmdt-size-requires
     count-size-requires
     both-requires
     both-requires-2
+    same-length
     returns)

@@ -40,9 +40,8 @@ returns c =
     let b₃ = b₂ .before .before in
     let b₄ = b₃ .before .before .before in
     let a = b₄ .args in
-    weighed-run (a .form) (a .coding) (a .id) (a .base) (a .old .now) (a .new .now) _ _
-    (sym (b₃ .measure .ensures) ∙ b₂ .m .given .1) (b₄ .pre .0) (b₄ .pre .1)
-    (b₁ .body-size .ensures) (c .whole .ensures)
+    weighed-run (a .form) (a .coding) (a .id) (a .base) (a .old .now) (a .new .now) (b₄ .pre .0) (b₄ .pre .1) _ _
+    (sym (b₃ .measure .ensures) ∙ b₂ .m .given .1) (b₁ .body-size .ensures) (c .whole .ensures)
 
 returns-2 : tie.Need-returns-2
 returns-2 c =
