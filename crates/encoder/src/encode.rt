@@ -1,16 +1,17 @@
 // The call: one chunk.
 ghost use mathlib.Core.Path.{_≡_};
 ghost use Prim.Native.Nat.{_≤_};
-ghost use lib.ListN.{length};
+ghost use lib.ListN.{length, drop};
 ghost use Rattle.wire.specs.Form.{rows};
 ghost use Rattle.wire.specs.declared.form.Form.the-variants.{Rfc9000};
 ghost use Rattle.field_table.specs.Lines.{setLen};
-ghost use Rattle.share_words.specs.Share.{shareLen};
+ghost use Rattle.share_words.specs.Share.{shareLen, setAt};
 ghost use Rattle.slots.specs.Table.{out, onTable};
 ghost use Rattle.answers.specs.Took.{took};
 ghost use Rattle.answers.specs.Took as T;
 ghost use Rattle.answers.specs.Answered.{AnsweredAs};
 ghost use Rattle.cmaf_read_chunk.specs.Chunks.{ReadAs};
+ghost use Rattle.locmaf_write_block.specs.Fields.{Kept};
 ghost use Rattle.encoder.specs.Object.{objectOf};
 ghost use Rattle.encoder.specs.Encode.{wished, encoding, onOpen, onAccepted};
 ghost use Rattle.encoder.specs.Planned.{Encodable, OnShare, Sendable, WrittenAs};
@@ -20,7 +21,9 @@ use answers::answer;
 use answers::answer::Answer;
 use cmaf_read_chunk::read::Chunk;
 use constants::maxima;
+use event_value::ALL_WORDS;
 use field_table::lines;
+use locmaf_write_block::set::KEPT;
 use share_words::share;
 use share_words::share::SHARE;
 use share_words::share::TABLE;
@@ -39,15 +42,17 @@ fn write(
     k: Chunk,
     events: &[u64],
     x: &[u64],
+    kept: &[usize],
     output: &mut [u8],
 ) -> Answer
     requires { ⌜ Encodable (rows form) t (now s) (now c) k (now events) (now x) ⌝ }
     requires { ⌜ Sendable (rows form) (now s) (now c) a ⌝ }
+    requires { ⌜ Kept (rows form) t (a .delta) (drop setAt (now s)) (now x) (now kept) ⌝ }
     requires { ⌜ length (objectOf (rows form) (now s) (now c) (a .delta)) ≤ length (now output) ⌝ }
     ensures { λ r. ⌜ WrittenAs (rows form) (now (s .entry)) (now (c .entry)) a k (now (x .entry)) (now (output .entry))
         r (now (output .exit)) (now (s .exit)) ⌝ }
 {
-    let n = front::put_front(form, t, a, s, c, k, events, x, output);
+    let n = front::put_front(form, t, a, s, c, k, events, x, kept, output);
     let prft = k.prft;
     let payload = k.payload;
     let sequence = s[share::ACCEPTED];
@@ -75,14 +80,15 @@ fn accept(
     ensures { λ a. ⌜ AnsweredAs (onAccepted (rows form) wish (now (c .entry)) (now (output .entry)) (now (s .entry)))
         (now (c .entry)) a (now (output .exit)) (now (s .exit)) ⌝ }
 {
-    let a = front::choose(form, t, wish, s, k, events, x);
+    let mut kept = [0usize; KEPT];
+    let a = front::choose(form, t, wish, s, k, events, x, &mut kept);
     if !a.fits {
         return answer::refused(9);
     }
     if output.len() < front::front_length(form, a) {
         return answer::refused(17);
     }
-    write(form, t, a, c, s, k, events, x, output)
+    write(form, t, a, c, s, k, events, x, &kept, output)
 }
 
 // A chunk that was read: number first, then act. No reference has a BMDT past its maximum, so it is asked whatever the wish.
@@ -125,10 +131,21 @@ fn take_chunk(
     ensures { λ a. ⌜ AnsweredAs (onOpen (rows form) wish (now (c .entry)) (now (output .entry)) (now (s .entry)))
         (now (c .entry)) a (now (output .exit)) (now (s .exit)) ⌝ }
 {
-    let mut events = [0u64; event_value::ALL_WORDS];
-    let mut x = [0u64; lines::SET];
-    let k = cmaf_read_chunk::read::read_chunk(form, t, c, &mut events, &mut x);
-    take_read(form, t, wish, c, s, k, &events, &x, output)
+    // the words of the events, and behind them those of the set: together they are cleared at once
+    let mut words = [0u64; ALL_WORDS + lines::SET];
+    let k = cmaf_read_chunk::read::read_chunk(form, t, c, &mut words);
+    let w = &words[..];
+    take_read(
+        form,
+        t,
+        wish,
+        c,
+        s,
+        k,
+        &w[..ALL_WORDS],
+        &w[ALL_WORDS..],
+        output,
+    )
 }
 
 // A chunk on a share.

@@ -11,3 +11,4 @@ pub mod WalkLaws
 pub mod ByLengthLaws
 pub mod LeftLaws
 pub mod PartLaws
+pub mod HalvesLaws

@@ -44,8 +44,8 @@ own-track {F} {o} {s} {t} {p} j = subst (λ (u : Track). Judgeable F o s u p) (j
 
 module _ {F : List Row} {o s : List ℕ} {t : Track} {p : Place} (j : Judgeable F o s t p) {k : ℕ} {index ev : List ℕ} (sa : SplitAs F o s k index ev) where
   -- the block can't be split
-  pub refuses-split : (x : List ℕ) → (k ≡ 0 → ⊥) → BlockReadAs F o s t p k index ev x
-  refuses-split x n =
+  pub refuses-split : (e x : List ℕ) → (k ≡ 0 → ⊥) → BlockReadAs F o s t p k index e x
+  refuses-split e x n =
       record {
         answered =
             sa .answered
@@ -92,14 +92,16 @@ module _ {F : List Row} {o s : List ℕ} {t : Track} {p : Place} (j : Judgeable 
           ∙ ap (λ (r : List ℕ). newWords t (isDelta F o) r (saysIn F o index) 0) (part-to-end s setAt)
           ∙ ap (λ (f : Says). newWords t (isDelta F o) (reference F o s) f 0) (split-of .says)
 
-      -- the number is the set's
-      pub read-of : BlockReadAs F o s t p n index ev x
-      read-of =
+      -- the number is the set's, and both lists of words are what was left in them
+      pub read-of : {e y : List ℕ} → e ≡ ev → y ≡ x → BlockReadAs F o s t p n index e y
+      read-of a b =
           record {
             answered =
                 track-is
                 ∙ climbed-on (splitRungs F o s) (setRungs (track F o s) (isDelta F o) (reference F o s) (saying F o)) (λ i. i) 0 split-holds;
-            read = λ y. record { head = j; split = split-of; hold = set-holds y; words = set-words y };
+            read =
+                λ y.
+                record { head = j; split = subst (λ (l : List ℕ). Split F o index l) (sym a) split-of; hold = set-holds y; words = b ∙ set-words y };
           }
 
 -- the values' rules come last

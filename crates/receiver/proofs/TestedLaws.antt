@@ -17,9 +17,10 @@ module _ (t : Track) (o : List ℕ) (v : Values) (payload : ℕ) (events : List 
       let no : v .ok ≡ true → ⊥ = λ h. false≢true (sym e ∙ h) in
       record { out = λ _. refl; read = λ h. absurd (no h); event = λ _ _. refl; stored = λ h _. absurd (no h); sums = λ h _. absurd (no h) }
 
-  module _ (ok : v .ok ≡ true) {z : Bool} {ws : List ℕ} (r : EventsRead t (v .bmdt .0) o events k z ws) where
+  -- the events were read, and their words are what was left in them
+  module _ (ok : v .ok ≡ true) {z : Bool} {us ws : List ℕ} (r : EventsRead t (v .bmdt .0) o events k z us) (left : ws ≡ us) where
     read-is : EventsRead t (v .bmdt .0) o events k (eventsOk (v .bmdt .0) o k events) ws
-    read-is = record { answered = refl; stored = r .stored; fits = r .fits }
+    read-is = rw left (record { answered = refl; stored = r .stored; fits = r .fits })
 
     -- one of an event is
     pub event-out : z ≡ false → (y : List ℕ) → TestedAs t o v payload events k x 15 ws y
@@ -28,13 +29,13 @@ module _ (t : Track) (o : List ℕ) (v : Values) (payload : ℕ) (events : List 
         record { out = λ _. refl; read = λ _. read-is; event = λ _ _. refl; stored = λ _ h. absurd (no h); sums = λ _ h. absurd (no h) }
 
     -- none is, and the sums were asked
-    pub summed : z ≡ true → (n : ℕ) → n ≡ cond (sumsIn t (set x bmdtAt (v .bmdt .0)) payload) 0 16
-        → TestedAs t o v payload events k x n ws (set x bmdtAt (v .bmdt .0))
-    summed e n h =
+    pub summed : z ≡ true → {y : List ℕ} → y ≡ set x bmdtAt (v .bmdt .0) → (n : ℕ) → n ≡ cond (sumsIn t (set x bmdtAt (v .bmdt .0)) payload) 0 16
+        → TestedAs t o v payload events k x n ws y
+    summed e q n h =
         record {
-          out = λ q. absurd (false≢true (sym q ∙ ok));
+          out = λ f. absurd (false≢true (sym f ∙ ok));
           read = λ _. read-is;
-          event = λ _ q. absurd (false≢true (sym q ∙ sym (r .answered) ∙ e));
-          stored = λ _ _. refl;
+          event = λ _ f. absurd (false≢true (sym f ∙ sym (r .answered) ∙ e));
+          stored = λ _ _. q;
           sums = λ _ _. h;
         }

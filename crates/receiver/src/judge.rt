@@ -3,7 +3,7 @@
 ghost use mathlib.Core.Path.{_≡_};
 ghost use mathlib.Core.List.{List};
 ghost use Prim.Native.Nat.{_+_, _-_, _≤_, _<_};
-ghost use lib.ListN.{length, replicate, drop};
+ghost use lib.ListN.{length, replicate, take, drop};
 ghost use Rattle.constants.specs.Ids.{idCount};
 ghost use Rattle.constants.specs.Maxima.{payloadMost};
 ghost use Rattle.wire.specs.declared.form.Row.{Row};
@@ -20,6 +20,7 @@ ghost use Rattle.receiver.specs.Judge.{ValuesTold, sumsIn, Testable, Tes
 use byte_parts::Part;
 use constants::ids;
 use constants::maxima;
+use event_value::ALL_WORDS;
 use field_table::lines;
 use locmaf_read_head::head::Place;
 use locmaf_read_index::places;
@@ -125,65 +126,51 @@ fn read_block(
     p: Place,
     s: &[u64],
     index: &mut [u64],
-    events: &mut [u64],
-    x: &mut [u64],
+    words: &mut [u64],
 ) -> u64
     requires { ⌜ Judgeable (rows form) (now o) (now s) t p ⌝ }
-    requires { ⌜ (now index ≡ replicate indexLen 0) × (now events ≡ replicate eventsLen 0)
-        × (now x ≡ replicate setLen 0) ⌝ }
+    requires { ⌜ (now index ≡ replicate indexLen 0) × (now words ≡ replicate (eventsLen + setLen) 0) ⌝ }
     ensures { λ k. ⌜ BlockReadAs (rows form) (now (o .entry)) (now (s .entry)) t p k (now (index .exit))
-        (now (events .exit)) (now (x .exit)) ⌝ }
+        (take eventsLen (now (words .exit))) (drop eventsLen (now (words .exit))) ⌝ }
 {
-    let k = split(form, o, p, s, &mut *index, &mut *events);
+    let k = split(form, o, p, s, &mut *index, &mut words[..ALL_WORDS]);
     if k != 0 {
         return k;
     }
     let r = &s[share::SET..];
-    locmaf_read_set::read::read_set(form, t, p.delta, o, index, r, &mut *x)
+    locmaf_read_set::read::read_set(form, t, p.delta, o, index, r, &mut words[ALL_WORDS..])
 }
 
 // The number of an object whose head is read.
-pub fn judge(
-    form: Form,
-    t: Track,
-    o: &[u8],
-    p: Place,
-    s: &[u64],
-    events: &mut [u64],
-    x: &mut [u64],
-) -> Judged
+pub fn judge(form: Form, t: Track, o: &[u8], p: Place, s: &[u64], words: &mut [u64]) -> Judged
     requires { ⌜ Judgeable (rows form) (now o) (now s) t p ⌝ }
-    requires { ⌜ (now events ≡ replicate eventsLen 0) × (now x ≡ replicate setLen 0) ⌝ }
-    ensures { λ j. ⌜ AllJudged (rows form) (now (o .entry)) (now (s .entry)) j (now (events .exit)) (now (x .exit)) ⌝ }
+    requires { ⌜ now words ≡ replicate (eventsLen + setLen) 0 ⌝ }
+    ensures { λ j. ⌜ AllJudged (rows form) (now (o .entry)) (now (s .entry)) j (take eventsLen (now (words .exit)))
+        (drop eventsLen (now (words .exit))) ⌝ }
 {
     let mut index = [0u64; places::INDEX];
-    let n = read_block(form, t, o, p, s, &mut index, &mut *events, &mut *x);
+    let n = read_block(form, t, o, p, s, &mut index, &mut *words);
     if n != 0 {
         return refused(n);
     }
-    judge_values(t, o, p, s, &index, events, x)
+    judge_values(t, o, p, s, &index, words)
 }
 
 // From the values of what isn't a moof field on. What stands on the wire is in the scratch words by now, so that no form is asked for: the promise
 // is for every form that they were read by.
-fn judge_values(
-    t: Track,
-    o: &[u8],
-    p: Place,
-    s: &[u64],
-    index: &[u64],
-    events: &mut [u64],
-    x: &mut [u64],
-) -> Judged
-    requires { ⌜ ((F : List Row) × SetRead F (now o) (now s) t p (now index) (now events) (now x)) ⌝ }
+fn judge_values(t: Track, o: &[u8], p: Place, s: &[u64], index: &[u64], words: &mut [u64]) -> Judged
+    requires { ⌜ ((F : List Row) × SetRead F (now o) (now s) t p (now index)
+        (take eventsLen (now words)) (drop eventsLen (now words))) ⌝ }
+    requires { ⌜ length (now words) ≡ eventsLen + setLen ⌝ }
     ensures { λ j. ⌜ ((F : List Row) → SetRead F (now (o .entry)) (now (s .entry)) t p (now (index .entry))
-        (now (events .entry)) (now (x .entry))
-        → ValuesJudged F (now (o .entry)) (now (s .entry)) j (now (events .exit)) (now (x .exit))) ⌝ }
+        (take eventsLen (now (words .entry))) (drop eventsLen (now (words .entry)))
+        → ValuesJudged F (now (o .entry)) (now (s .entry)) j
+        (take eventsLen (now (words .exit))) (drop eventsLen (now (words .exit)))) ⌝ }
 {
     let k = index[places::EVENTS_COUNT] as usize;
     let payload = o.len() - p.end;
     let v = values_of(t, p.delta, payload, k, s, index);
-    let number = values_number(t, o, v, payload as u64, events, k, x);
+    let number = values_number(t, o, v, payload as u64, words, k);
     let prft = v.prft;
     let brands = v.brands;
     Judged {
@@ -195,28 +182,22 @@ fn judge_values(
 }
 
 // The number of the first rule on values and sums that is broken, or 0. BMDT goes into the set's words on the way.
-fn values_number(
-    t: Track,
-    o: &[u8],
-    v: Values,
-    payload: u64,
-    events: &mut [u64],
-    k: usize,
-    x: &mut [u64],
-) -> u64
-    requires { ⌜ Testable (now o) v payload (now events) k (now x) ⌝ }
-    ensures { λ n. ⌜ TestedAs t (now (o .entry)) v payload (now (events .entry)) k (now (x .entry))
-        n (now (events .exit)) (now (x .exit)) ⌝ }
+fn values_number(t: Track, o: &[u8], v: Values, payload: u64, words: &mut [u64], k: usize) -> u64
+    requires { ⌜ Testable (now o) v payload (take eventsLen (now words)) k (drop eventsLen (now words)) ⌝ }
+    requires { ⌜ length (now words) ≡ eventsLen + setLen ⌝ }
+    ensures { λ n. ⌜ TestedAs t (now (o .entry)) v payload
+        (take eventsLen (now (words .entry))) k (drop eventsLen (now (words .entry)))
+        n (take eventsLen (now (words .exit))) (drop eventsLen (now (words .exit))) ⌝ }
 {
     if !v.ok {
         return 15;
     }
     let bmdt = v.bmdt;
-    if !locmaf_read_events::events::events_ok(t, bmdt, o, &mut *events, k) {
+    if !locmaf_read_events::events::events_ok(t, bmdt, o, &mut words[..ALL_WORDS], k) {
         return 15;
     }
-    x[lines::BMDT] = bmdt.0;
-    if !sums_ok(t, x, payload) {
+    words[ALL_WORDS + lines::BMDT] = bmdt.0;
+    if !sums_ok(t, &words[ALL_WORDS..], payload) {
         return 16;
     }
     0

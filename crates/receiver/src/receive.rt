@@ -21,6 +21,7 @@ use answers::room;
 use byte_parts::Part;
 use cmaf_write_front::front::front_length;
 use cmaf_write_front::front::put_front;
+use event_value::ALL_WORDS;
 use field_table::lines;
 use locmaf_read_head::head::Head;
 use locmaf_read_head::head::Place;
@@ -148,10 +149,11 @@ fn take_block(form: Form, t: Track, p: Place, o: &[u8], s: &mut [u64], output: &
     ensures { λ a. ⌜ AnsweredAs (taken (rows form) (now (o .entry)) (now (output .entry)) (now (s .entry)))
         (now (o .entry)) a (now (output .exit)) (now (s .exit)) ⌝ }
 {
-    let mut events = [0u64; event_value::ALL_WORDS];
-    let mut x = [0u64; lines::SET];
-    let j = judge::judge(form, t, o, p, s, &mut events, &mut x);
-    take_judged(t, p, o, s, j, &events, &x, output)
+    // the words of the events, and behind them those of the set: together they are cleared at once
+    let mut words = [0u64; ALL_WORDS + lines::SET];
+    let j = judge::judge(form, t, o, p, s, &mut words);
+    let w = &words[..];
+    take_judged(t, p, o, s, j, &w[..ALL_WORDS], &w[ALL_WORDS..], output)
 }
 
 // All that is asked before the block is read: the share, the head, and whether there is a reference for a delta.

@@ -4,16 +4,21 @@ use field_table::lines;
 use track::Asked;
 use wire::form::Form;
 
+// The words that a chunk is read into: those of its events, and from this place on those of its set.
+const FROM: usize = event_value::ALL_WORDS;
+
+const WORDS: usize = FROM + lines::SET;
+
 // The flags of the first sample, in five-bit form, by the words of the chunk's set: the first sample's own, those of each sample, the fragment's, or the track's.
-fn first_flags(x: &[u64; lines::SET], usual: u64) -> u64 {
-    if x[lines::FIRST_FLAGS] != 0 {
-        return x[lines::FIRST_FLAGS + 1];
+fn first_flags(words: &[u64; WORDS], usual: u64) -> u64 {
+    if words[FROM + lines::FIRST_FLAGS] != 0 {
+        return words[FROM + lines::FIRST_FLAGS + 1];
     }
-    if x[lines::FLAGS] != 0 {
-        return x[lines::FLAGS + 1];
+    if words[FROM + lines::FLAGS] != 0 {
+        return words[FROM + lines::FLAGS + 1];
     }
-    if x[lines::DEFAULT_FLAGS] != 0 {
-        return x[lines::DEFAULT_FLAGS + 1];
+    if words[FROM + lines::DEFAULT_FLAGS] != 0 {
+        return words[FROM + lines::DEFAULT_FLAGS + 1];
     }
     usual
 }
@@ -38,11 +43,10 @@ pub fn begins_sync(params: &[u64; 8], chunk: &[u8]) -> bool {
         return false;
     }
     let t = track::narrowed(a);
-    let mut events = [0u64; event_value::ALL_WORDS];
-    let mut x = [0u64; lines::SET];
-    let c = read::read_chunk(Form::Rfc9000, t, chunk, &mut events, &mut x);
-    if (c.number != 0) | (x[lines::COUNT] == 0) {
+    let mut words = [0u64; WORDS];
+    let c = read::read_chunk(Form::Rfc9000, t, chunk, &mut words);
+    if (c.number != 0) | (words[FROM + lines::COUNT] == 0) {
         return false;
     }
-    first_flags(&x, a.flags) % 2 == 0
+    first_flags(&words, a.flags) % 2 == 0
 }

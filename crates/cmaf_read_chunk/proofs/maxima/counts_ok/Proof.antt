@@ -9,34 +9,27 @@ use Rattle.cmaf_read_chunk.proofs.maxima.counts_ok.Tie as tie
 
 body-requires : tie.Need-body-requires
 body-requires c κs =
-    let s = c .before .before .before .before in
+    let s = c .before .before .before in
     let i = found-in (s .args .c .now) (s .args .top) (s .args .f) (s .pre .0 .0) (s .pre .0 .1) in
     omega (arith, i .mdat-in .within)
 
 samples-ok-requires : tie.Need-samples-ok-requires
 samples-ok-requires c κs =
-    let s = c .before .before .before .before .before in
+    let s = c .before .before .before .before in
     let i = found-in (s .args .c .now) (s .args .top) (s .args .f) (s .pre .0 .0) (s .pre .0 .1) in
     let l = trun-long (s .args .c .now) (s .args .f .trun) (s .pre .1) in
     ((i .trun-in, omega arith), (i .senc-in, i .saiz-in))
-
-subsamples-requires : tie.Need-subsamples-requires
-subsamples-requires c κs =
-    let s = c .before .before .before .before .before .before in
-    let i = found-in (s .args .c .now) (s .args .top) (s .args .f) (s .pre .0 .0) (s .pre .0 .1) in
-    i .senc-in
 
 brands-in-requires : tie.Need-brands-in-requires
 brands-in-requires c κs = search needs
 
 returns : tie.Need-returns
 returns c =
-    let s = c .before .before .before .before .before .before .before .before .before .before in
-    counts-by (s .args .t) (s .args .c .now) (s .args .top) (s .args .f) _ _ _ _ (s .pre .0 .0) (s .pre .0 .1)
-    (c .before .before .before .before .samples-ok .ensures) (c .before .before .before .subsamples .ensures) (c .before .before .brands-in .ensures)
-    (c .before .before .before .before .before .body .ensures)
+    let b = c .before .before in
+    let s = b .before .before .before .before .before .before in
+    λ t q.
+    counts-by t (s .args .c .now) (s .args .top) (s .args .f) _ _ _ _ (s .pre .0 .0) (s .pre .0 .1)
+    (b .before .samples-ok .ensures) q (b .brands-in .ensures) (b .before .before .body .ensures)
 
 pub counts-ok-spec : {M : Type 1} → statement M
-counts-ok-spec =
-    tie.close
-    (tie.spec body-requires samples-ok-requires subsamples-requires brands-in-requires returns)
+counts-ok-spec = tie.close (tie.spec body-requires samples-ok-requires brands-in-requires returns)

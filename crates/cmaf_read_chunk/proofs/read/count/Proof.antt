@@ -20,9 +20,9 @@ counting g =
     record {
       top-is = s .pre .0 .0;
       inner-is = s .pre .0 .1;
-      boxes-right = s .pre .1 .0;
-      counts-right = held (g .before .counts-ok .ensures) (g .if1 .left);
-      lent = s .pre .1 .1;
+      boxes-right = s .pre .1 .0 .0;
+      counts-right = held (g .before .counts-ok .ensures (s .args .t) (s .pre .1 .1)) (g .if1 .left);
+      lent = s .pre .1 .0 .1;
     }
 
 bytes : (g : tie.Else1) → Bytes (start g .args .c .now)
@@ -32,12 +32,13 @@ counts-ok-requires : tie.Need-counts-ok-requires
 counts-ok-requires c κs =
     let s = c .before .before in
     let a = s .args in
-    (s .pre .0, found-hold (a .t) (a .c .now) (a .top) (a .f) (s .pre .0 .0) (s .pre .0 .1) (s .pre .1 .0) .trun-ok)
+    (s .pre .0, found-hold (a .t) (a .c .now) (a .top) (a .f) (s .pre .0 .0) (s .pre .0 .1) (s .pre .1 .0 .0) .trun-ok)
 
 returns : tie.Need-returns
 returns c =
-    let a = c .before .before .before .before .args in
-    counts-break (rows (a .form)) (a .t) (a .c .now) (failed (c .before .counts-ok .ensures) (c .if1 .taken))
+    let s = c .before .before .before .before in
+    let a = s .args in
+    counts-break (rows (a .form)) (a .t) (a .c .now) (failed (c .before .counts-ok .ensures (a .t) (s .pre .1 .1)) (c .if1 .taken))
 
 keep-events-requires : tie.Need-keep-events-requires
 keep-events-requires c κs = events-lent (counting (c .before .before .before))

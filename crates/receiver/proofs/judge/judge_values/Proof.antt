@@ -2,8 +2,10 @@
 use borrow.Author.Needs.{needs}
 use mathlib.Core.Path.{_≡_, sym, _∙_, ap}
 use mathlib.Core.List.{List}
+use lib.ListN.{take, drop}
 use Rattle.laws.proofs.TestLaws.{all-bytes}
 use Rattle.wire.specs.declared.form.Row.{Row}
+use Rattle.event_value.specs.Events.{eventsLen}
 use Rattle.prft_value.specs.declared.Prft.{Prft}
 use Rattle.locmaf_read_said.specs.Said.{scalarIn}
 use Rattle.locmaf_read_times.specs.Prft.{prftOf}
@@ -15,11 +17,11 @@ use Rattle.receiver.proofs.judge.judge_values.Tie as tie
 
 -- what is known before the values are
 abbrev start : tie.After-values-of → tie.Start
-start g = g .before .before .before .before .before .before .before .before
+start g = g .before .before .before .before .before .before .before
 
 -- by a form F that the words were read by
 abbrev Read : tie.Start → List Row → Type 0
-Read b F = let a = b .args in SetRead F (a .o .now) (a .s .now) (a .t) (a .p) (a .index .now) (a .events .now) (a .x .now)
+Read b F = let a = b .args in SetRead F (a .o .now) (a .s .now) (a .t) (a .p) (a .index .now) (take eventsLen (a .words .now)) (drop eventsLen (a .words .now))
 
 -- what was told of the `prft`, with the time that was handed back
 abbrev told : tie.After-values-of → Told
@@ -30,7 +32,7 @@ told g =
 worked : (g : tie.After-values-of) (F : List Row) → Read (start g) F
     → let a = start g .args in
     let v = g .values-of .result in
-    Worked F (a .o .now) (a .s .now) (a .t) (a .p) (a .index .now) (a .events .now) (v .bmdt .0) (told g) (v .brands)
+    Worked F (a .o .now) (a .s .now) (a .t) (a .p) (a .index .now) (take eventsLen (a .words .now)) (v .bmdt .0) (told g) (v .brands)
 worked g F v =
     let e = g .values-of .ensures in
     record {
@@ -41,12 +43,12 @@ worked g F v =
       named = e .named;
     }
 
-gathered : (g : tie.After-values-of) (F : List Row) → Read (start g) F → let a = start g .args in Gathered F (a .o .now) (a .s .now) (a .t) (a .x .now)
+gathered : (g : tie.After-values-of) (F : List Row) → Read (start g) F → let a = start g .args in Gathered F (a .o .now) (a .s .now) (a .t) (drop eventsLen (a .words .now))
 gathered g F v =
     record {
       hold = v .hold;
       words = v .words;
-      bytes = all-bytes (start g .args .o .now) (λ i. g .before .before .before .before .before .before .before .shared-slice-known .given i .fits);
+      bytes = all-bytes (start g .args .o .now) (λ i. g .before .before .before .before .before .before .shared-slice-known .given i .fits);
     }
 
 -- its test is the rules'
@@ -57,39 +59,38 @@ shared-slice-read-k : tie.Need-shared-slice-read-k
 shared-slice-read-k c = search needs
 
 sub-payload : tie.Need-sub-payload
-sub-payload c = end-inside (c .before .before .before .before .before .before .before .pre .1 .head)
+sub-payload c = end-inside (c .before .before .before .before .before .before .pre .0 .1 .head)
 
 values-of-requires : tie.Need-values-of-requires
 values-of-requires c κs =
-    let v = c .before .before .before .before .before .before .before .pre .1 in
+    let v = c .before .before .before .before .before .before .pre .0 .1 in
     (v .split .telling .words, v .head .share, lent-timed (v .head))
 
 values-number-requires : tie.Need-values-number-requires
 values-number-requires c κs =
-    let g = c .before .before in
-    let v = start g .pre in
+    let g = c .before in
+    let v = start g .pre .0 in
     let w = worked g (v .0) (v .1) in
     let x = gathered g (v .0) (v .1) in
-    let e = within g (v .0) (v .1) in
-    record {
-      long = w .split .long;
-      room = some-words w x;
-      fit = λ h. events-lent w (sym e ∙ h);
-      summable = λ h. stored-summable w x (sym e ∙ h);
-      small = λ h. payload-most w (sym e ∙ h);
-    }
+    let e = within g (v .0) (v .1) in (
+      record {
+        long = w .split .long;
+        room = some-words w x;
+        fit = λ h. events-lent w (sym e ∙ h);
+        summable = λ h. stored-summable w x (sym e ∙ h);
+        small = λ h. payload-most w (sym e ∙ h);
+      },
+      start g .pre .1,
+    )
 
 same-length : tie.Need-same-length
 same-length c = search needs
 
-same-length-2 : tie.Need-same-length-2
-same-length-2 c = search needs
-
 returns : tie.Need-returns
 returns c =
     λ F v.
-    let n = c .before .before .before .before .before .before in
-    let g = n .before .before .before in
+    let n = c .before .before .before .before in
+    let g = n .before .before in
     values-judged (g .values-of .result) (worked g F v) (gathered g F v) (within g F v) (n .values-number .ensures)
 
 pub judge-values-spec : {M : Type 1} → statement M
@@ -101,5 +102,4 @@ judge-values-spec =
     values-of-requires
     values-number-requires
     same-length
-    same-length-2
     returns)

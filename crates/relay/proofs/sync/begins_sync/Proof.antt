@@ -21,11 +21,8 @@ narrowed-requires c κs = held (c .before .is-lawful .ensures) (c .if1 .left)
 slice-aggregate-read-chunk : tie.Need-slice-aggregate-read-chunk
 slice-aggregate-read-chunk c = search needs
 
-slice-aggregate-read-chunk-2 : tie.Need-slice-aggregate-read-chunk-2
-slice-aggregate-read-chunk-2 c = search needs
-
 read-chunk-requires : tie.Need-read-chunk-requires
-read-chunk-requires c κs = (rw (c .before .before .narrowed .ensures) (ranges _ (held (c .before .before .before .before .is-lawful .ensures) (c .before .before .before .if1 .left)) .iv-size), (refl, refl))
+read-chunk-requires c κs = (rw (c .before .before .narrowed .ensures) (ranges _ (held (c .before .before .before .before .is-lawful .ensures) (c .before .before .before .if1 .left)) .iv-size), refl)
 
 array-read-if2 : tie.Need-array-read-if2
 array-read-if2 c = search needs
@@ -48,7 +45,6 @@ begins-sync-spec =
     returns
     narrowed-requires
     slice-aggregate-read-chunk
-    slice-aggregate-read-chunk-2
     read-chunk-requires
     array-read-if2
     returns-2
