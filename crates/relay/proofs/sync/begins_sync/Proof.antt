@@ -22,7 +22,13 @@ slice-aggregate-read-chunk : tie.Need-slice-aggregate-read-chunk
 slice-aggregate-read-chunk c = search needs
 
 read-chunk-requires : tie.Need-read-chunk-requires
-read-chunk-requires c κs = (rw (c .before .before .narrowed .ensures) (ranges _ (held (c .before .before .before .before .is-lawful .ensures) (c .before .before .before .if1 .left)) .iv-size), refl)
+read-chunk-requires c κs = (rw (c .before .narrowed .ensures) (ranges _ (held (c .before .before .before .is-lawful .ensures) (c .before .before .if1 .left)) .iv-size), refl)
+
+add-if2 : tie.Need-add-if2
+add-if2 c = search needs
+
+mul-if2 : tie.Need-mul-if2
+mul-if2 c = search needs
 
 array-read-if2 : tie.Need-array-read-if2
 array-read-if2 c = search needs
@@ -46,6 +52,8 @@ begins-sync-spec =
     narrowed-requires
     slice-aggregate-read-chunk
     read-chunk-requires
+    add-if2
+    mul-if2
     array-read-if2
     returns-2
     first-flags-requires
