@@ -1,4 +1,4 @@
--- Laws of the effective durations: how large those of a reference are, and that the time that follows from them has 64 bits. Assumes nothing.
+-- Laws of the effective durations: the ways to their sum, and how large it is. Assumes nothing.
 use Prim.Native.Nat.{ℕ, _+_, _*_, _^_, _≤_, _<_, _-_, zero-le}
 use native.Mathlib.Nat.{mul-le-mul-right}
 use native.Mathlib.Omega.{arith}
@@ -48,6 +48,10 @@ module _ (t : Track) (r : List ℕ) where
   unfolding durationsOf
   durations-listed h d e = rw (h, durations-are r h) e
 
+  pub durations-told : has 3 r ≡ true → (d : ℕ) → d ≡ sum (valuesOf 3 (countIn r) r) → d ≡ durationsOf t r
+  unfolding durationsOf
+  durations-told h d e = rw h e
+
   pub durations-default : has 3 r ≡ false → has 4 r ≡ true → countIn r * valueAt 4 0 r ≡ durationsOf t r
   unfolding durationsOf
   durations-default h g = rw (h, g)
@@ -66,17 +70,12 @@ module _ (t : Track) (r : List ℕ) where
       go false true p q = omega (arith, durations-default p q, product-most (countIn r) (getD r (durationAt + 1) 0) (h .few) (duration-small h))
       go false false p q = omega (arith, durations-trex p q, product-most (countIn r) (t .duration) (h .few) f)
 
-  -- a time that follows from the reference has 64 bits
-  pub bmdt-fits : Timed r → t .duration ≤ 0xffff_ffff → (d : ℕ) → d ≡ durationsOf t r → getD r bmdtAt 0 + d < 2 ^ 64
-  bmdt-fits h f d e = omega (arith, durations-most h f, h .start)
-
--- a lawful set, and a set of zeros: times that follow from them have 64 bits
+-- a lawful set, and a set of zeros
 pub lawful-timed : (t : Track) (r : List ℕ) → length r ≡ setLen → lawful t r ≡ true → Timed r
 unfolding lines lineFor
 lawful-timed t r n e =
     record {
       words = n;
-      start = omega (arith, lawful-facts t r e .bmdt);
       few = lawful-facts t r e .count;
       durations = bounded _ _ r (lawful-region t r 2 e (omega arith)) (omega (arith, n));
       duration = bounded _ _ r (lawful-region t r 3 e (omega arith)) (omega (arith, n));
@@ -90,7 +89,6 @@ unfolding lines lineFor
 zeros-timed =
     record {
       words = length-replicate {A = ℕ} setLen 0;
-      start = zero-le;
       few = zero-le;
       durations = zeros-bounded 0xffff_ffff (durationsAt + 1) durationAt setLen (omega arith);
       duration = zeros-bounded 0xffff_ffff (durationAt + 1) offsetsAt setLen (omega arith);

@@ -1,4 +1,4 @@
 pub mod Sizes
 pub mod Durations
-pub mod Follows
+pub mod Expected
 pub mod Sums

@@ -56,7 +56,8 @@ fn write(
     let prft = k.prft;
     let payload = k.payload;
     let sequence = s[share::ACCEPTED];
-    reference::keep::keep(s, a.delta, prft, sequence, x);
+    reference::keep::keep(&mut *s, a.delta, prft, sequence, x);
+    reference::keep::renew(t, s);
     Answer {
         number: 0,
         front: n as u64,

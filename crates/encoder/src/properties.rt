@@ -132,7 +132,7 @@ pub fn block_size(
     let r = &s[share::SET..];
     let p = k.prft;
     let b = set::basis_of(t, delta, r, x);
-    let fields = set::set_size(form, t, b, r, x, &mut *kept);
+    let fields = set::set_size(form, t, b, slots::lawful::expected_of(s), r, x, &mut *kept);
     let times = prft::times_size(form, delta, p, s);
     let version = prft::version_size(form, delta, p, s);
     let names = brands_size(form, delta, k.brands.len);
@@ -202,7 +202,17 @@ pub fn put_block(
     let r = &s[share::SET..];
     let bmdt = TrackTicks(x[lines::BMDT]);
     let b = set::basis_of(t, delta, r, x);
-    let u = set::put_set(form, t, b, r, x, kept, out, at);
+    let u = set::put_set(
+        form,
+        t,
+        b,
+        slots::lawful::expected_of(s),
+        r,
+        x,
+        kept,
+        out,
+        at,
+    );
     let v = put_outside(form, t, delta, s, c, k, bmdt, ws, out, u);
     deletions::put_deletions(form, b, r, x, kept[set::GONE], out, v)
 }

@@ -2,7 +2,7 @@
 use Prim.Native.Nat.{ℕ, _+_, _-_, _/_, _≤_, _<_}
 use native.Mathlib.Omega.{arith}
 use mathlib.Core.Path.{_≡_, refl, sym, _∙_, ap}
-use mathlib.Core.Bool.{Bool, true, false, not, _&&_, _||_}
+use mathlib.Core.Bool.{Bool, true, false, false≢true, not, _&&_, _||_}
 use mathlib.Core.List.{List, [], _∷_}
 use borrow.Author.Tests.{leb-true, le-leb, lt-leb}
 use lib.Dec.{eqb, leb}
@@ -10,21 +10,17 @@ use lib.ListN.{getD}
 use lib.Seq.{slice}
 use Rattle.constants.specs.Maxima.{samplesMost, subsamplesMost, numberMost, entryMost}
 use Rattle.laws.specs.Tests.{_and_, allZero, allLe, sum}
-use Rattle.laws.proofs.TestLaws.{left, right, both}
+use Rattle.laws.proofs.TestLaws.{left, right, both, and-left, and-right}
 use Rattle.laws.proofs.GateLaws.{failed, held}
 use Rattle.track.specs.declared.Track.{Track}
 use Rattle.field_table.specs.declared.lines.Line.{Line}
 use Rattle.field_table.specs.declared.lines.Measure.{Measure}
 use Rattle.field_set.specs.declared.lawful.Tally.{Tally}
-use Rattle.field_table.specs.Lines.{every, lines, marksOf, spare, lineFor, wanted, bmdtAt, countAt, subsamplesAt, ivSizeAt, lineCount}
-use Rattle.field_set.specs.Lawful.{has, inUse, valuesOf, regionOk, regionsOk, saizOk, setRules, sameIvSize, measureOf, lawful, TallyOf}
+use Rattle.field_set.specs.declared.lawful.Tested.{Tested}
+use Rattle.field_table.specs.Lines.{every, lines, marksOf, spare, lineFor, wanted, bmdtAt, countAt, ivSizeAt, lineCount}
+use Rattle.field_set.specs.Lawful.{has, inUse, valuesOf, regionOk, regionsOk, saizOk, setRules, sameIvSize, measureOf, lawful, TallyOf, TestedAs}
 use Rattle.field_table.proofs.LineLaws.{line-count, every-at}
 use Rattle.field_set.proofs.TallyLaws.{saiz-is}
-
--- the words of the subsample counts
-pub counts-are : (n : ℕ) (w : List ℕ) → valuesOf 11 n w ≡ slice (subsamplesAt + 1) ((subsamplesAt + 1) + inUse (getD w subsamplesAt 0) n) w
-unfolding valuesOf lineFor lines
-counts-are n w = refl
 
 -- id 16 is absent, or its value is the parameter
 pub iv-size-is : (t : Track) (w : List ℕ) → (eqb (getD w ivSizeAt 0) 0 || eqb (getD w (ivSizeAt + 1) 0) (t .«iv_size»)) ≡ sameIvSize t w
@@ -41,6 +37,10 @@ pub tallied-sum : (t : Track) (w : List ℕ) (c : Tally) → t .«iv_size» ≤ 
 unfolding lawful
 tallied-sum t w c iv e h =
     h .total (h .within ∙ sym (saiz-is (t .«iv_size») (valuesOf 11 (getD w countAt 0) w) (omega arith)) ∙ left _ _ (right _ _ e))
+
+-- words of which something doesn't hold
+pub tested-not : {r : Tested} {holds : Bool} {n : ℕ} {w : List ℕ} → r .ok ≡ false → false ≡ holds → TestedAs r holds n w
+tested-not e h = record { right = e ∙ h; summed = λ k. absurd (false≢true (sym e ∙ k)) }
 
 module _ (t : Track) (w : List ℕ) where
   -- what code finds of words: too many samples
@@ -60,7 +60,7 @@ module _ (t : Track) (w : List ℕ) where
     many-subsamples h = rw (le-leb (getD w countAt 0) samplesMost few, failed tested h)
 
     -- and the tests that are left
-    pub lawful-rest : not (c .ok) ≡ false → (a z b : Bool)
+    lawful-rest : not (c .ok) ≡ false → (a z b : Bool)
         → a ≡ regionsOk (record { count = getD w countAt 0; ivs = t .«iv_size» / 8; sum = c .sum }) lines w
         → z ≡ sameIvSize t w
         → b ≡ setRules t (getD w countAt 0) (marksOf w)
@@ -78,6 +78,24 @@ module _ (t : Track) (w : List ℕ) where
         last-two true false true = refl
         last-two true false false = refl
         last-two false y z = refl
+
+    -- with the sum of the durations, which the regions gave
+    pub lawful-tested : not (c .ok) ≡ false → (r : Tested) (z b : Bool)
+        → TestedAs r (regionsOk (record { count = getD w countAt 0; ivs = t .«iv_size» / 8; sum = c .sum }) lines w) (getD w countAt 0) w
+        → z ≡ sameIvSize t w
+        → b ≡ setRules t (getD w countAt 0) (marksOf w)
+        → TestedAs (record { ok = leb (getD w bmdtAt 0) numberMost && (leb (c .sum) subsamplesMost && ((r .ok && z) && b)); durations = r .durations })
+        (lawful t w) (getD w countAt 0) w
+    lawful-tested h r z b er ez eb =
+        record {
+          right = lawful-rest h (r .ok) z b (er .right) ez eb;
+          summed =
+              λ e.
+              er .summed
+              (and-left (r .ok) z
+              (and-left (r .ok && z) b
+              (and-right (leb (c .sum) subsamplesMost) _ (and-right (leb (getD w bmdtAt 0) numberMost) _ e))));
+        }
 
 -- how many values of a line's field are in use
 abbrev pub usedOf : Measure → Line → List ℕ → ℕ

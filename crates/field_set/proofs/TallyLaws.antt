@@ -26,6 +26,11 @@ pub record Tallying (w : List ℕ) (from to most : ℕ) (ok : Bool) (n i : ℕ) 
   pub within : (ok and allLe most (slice i to w)) ≡ allLe most (slice from to w)
   pub total : ok ≡ true → n + sum (slice i to w) ≡ sum (slice from to w)
 
+-- the tally of no word
+pub tally-none : (most : ℕ) → TallyOf (record { ok = true; sum = 0 }) most []
+unfolding allLe sum
+tally-none most = record { within = refl; total = λ _. refl; small = omega arith }
+
 module _ (w : List ℕ) (from to most : ℕ) where
   -- no word is tallied yet
   pub tally-start : to ≤ length w → to ≤ from + samplesMost → most ≤ 63 → Tallying w from to most true 0 from

@@ -5,7 +5,7 @@ use native.Mathlib.Numerals.{add-one}
 use native.Mathlib.Omega.{arith}
 use mathlib.Core.Path.{_≡_, refl, _∙_, ap}
 use mathlib.Core.Bool.{Bool, true, false, cond, not}
-use mathlib.Core.List.{List}
+use mathlib.Core.List.{List, []}
 use borrow.Author.Tests.{ne-eqb, not-true}
 use lib.Dec.{eqb}
 use lib.ListN.{length, getD}
@@ -24,6 +24,16 @@ has-no id w e = rw e
 pub has-yes : (id : ℕ) (w : List ℕ) → (getD w (lineFor id lines .place) 0 ≡ 0 → ⊥) → has id w ≡ true
 unfolding has
 has-yes id w h = rw (ne-eqb _ _ h)
+
+-- a field that doesn't stand has no values, and one that stands has those behind its mark
+pub values-none : (id n : ℕ) (w : List ℕ) → getD w (lineFor id lines .place) 0 ≡ 0 → valuesOf id n w ≡ []
+unfolding valuesOf inUse
+values-none id n w e = rw e (slice-none (lineFor id lines .place + 1) (lineFor id lines .place + 1 + 0) w (omega arith))
+
+pub values-all : (id n : ℕ) (w : List ℕ) → (getD w (lineFor id lines .place) 0 ≡ 0 → ⊥)
+    → valuesOf id n w ≡ slice (lineFor id lines .place + 1) (lineFor id lines .place + 1 + n) w
+unfolding valuesOf inUse
+values-all id n w h = rw (ne-eqb (getD w (lineFor id lines .place) 0) 0 h)
 
 -- the words of id 1
 pub listed : (w : List ℕ) → 1 < countIn w → has 1 w ≡ true → valuesOf 1 (countIn w - 1) w ≡ slice (sizesAt + 1) (sizesAt + countIn w) w

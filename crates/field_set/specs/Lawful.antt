@@ -13,6 +13,7 @@ use Rattle.track.specs.Track.{none, cenc}
 use Rattle.field_table.specs.declared.lines.Line.{Line}
 use Rattle.field_table.specs.declared.lines.Measure.{Measure}
 use Rattle.field_set.specs.declared.lawful.Tally.{Tally}
+use Rattle.field_set.specs.declared.lawful.Tested.{Tested}
 use Rattle.field_set.specs.declared.rules.Stands.{Stands}
 use Rattle.field_table.specs.Lines.{lines, placeOf, lineFor, lineNumber, marksOf, wanted, bmdtAt, countAt, lineCount}
 
@@ -124,6 +125,11 @@ pub record TallyOf (r : Tally) (most : ℕ) (s : List ℕ) : Type 0 where
   pub within : r .ok ≡ allLe most s
   pub total : r .ok ≡ true → r .sum ≡ sum s
   pub small : r .sum ≤ samplesMost * 64
+
+-- what was found of words with n samples: whether something holds of them, and then the sum of the durations that they list
+pub record TestedAs (r : Tested) (holds : Bool) (n : ℕ) (w : List ℕ) : Type 0 where
+  pub right : r .ok ≡ holds
+  pub summed : r .ok ≡ true → r .durations ≡ sum (valuesOf 3 n w)
 
 -- words in which a field that doesn't stand has nothing stored
 pub record Tidy (w : List ℕ) : Type 0 where

@@ -125,6 +125,9 @@ lineNumber id [] = 0
 lineNumber id (l ∷ ls) = cond (eqb (l .id) id) 0 (suc (lineNumber id ls))
 
 -- the numbers of the lines that definitions and laws name, as `order` of the code has them
+abbrev pub durationsLine : ℕ
+durationsLine = 2
+
 abbrev pub offsetsLine : ℕ
 offsetsLine = 4
 

@@ -3,6 +3,7 @@ use Prim.Native.Nat.{ℕ}
 use mathlib.Core.Path.{_≡_}
 use mathlib.Core.Bool.{Bool, true, false, not}
 use mathlib.Core.List.{List}
+use borrow.Author.Tests.{not-true, not-false}
 use lib.Dec.{eqb}
 use lib.ListN.{getD}
 use Rattle.laws.proofs.GateLaws.{failed, held}
@@ -16,13 +17,11 @@ use Rattle.field_table.specs.declared.lines.Measure.{Measure}
 use Rattle.field_table.specs.Lines.{bmdtAt, countAt}
 use Rattle.field_set.specs.Lawful.{measureOf}
 use Rattle.field_rules.specs.Fields.{codingFor}
-use Rattle.effective.specs.Durations.{Timed}
-use Rattle.effective.specs.Follows.{nextTime}
-use Rattle.effective.proofs.DurationLaws.{lawful-timed}
+use Rattle.effective.specs.Expected.{nextTime}
 use Rattle.locmaf_write_block.specs.declared.cells.Basis.{Basis}
 use Rattle.locmaf_write_tuples.specs.Items.{nothing, itemsIf, numberItem}
-use Rattle.locmaf_write_block.specs.Changes.{basisOf, Writable}
-use Rattle.locmaf_write_block.specs.Fields.{bmdtStands, countStands, bmdtItems, countItems}
+use Rattle.locmaf_write_block.specs.Changes.{basisOf}
+use Rattle.locmaf_write_block.specs.Fields.{bmdtStands, countStands, bmdtIf, bmdtItems, countItems}
 
 module _ (t : Track) (delta : Bool) (r x : List ℕ) where
   -- the lengths, in a delta and in a full object
@@ -43,16 +42,20 @@ module _ (t : Track) (delta : Bool) (r x : List ℕ) where
   unfolding bmdtStands
   bmdt-delta h b e = rw (h, e)
 
-  -- a time can follow from the reference
-  pub timed : Writable t delta r x → delta ≡ true → Timed r
-  timed w d = lawful-timed t r (w .old-words) (w .old d)
-
   -- BMDT's tuple
-  module _ (F : List Row) where
-    pub bmdt-is : {b : Bool} {c : Coded} → b ≡ bmdtStands t delta r x → c ≡ codeOf F Plain 0 (getD x bmdtAt 0)
-        → itemsIf b (numberItem 10 c) ≡ bmdtItems F t delta r x
-    unfolding bmdtItems
-    bmdt-is e f = rw (e, f)
+  pub bmdt-is : (F : List Row) {b : Bool} → b ≡ bmdtStands t delta r x → bmdtIf F b x ≡ bmdtItems F t delta r x
+  unfolding bmdtItems
+  bmdt-is F e = rw e
+
+-- BMDT's, where code was told whether it stands
+module _ (F : List Row) (x : List ℕ) (b : Bool) where
+  pub no-bmdt : not b ≡ true → bmdtIf F b x ≡ nothing
+  unfolding bmdtIf itemsIf
+  no-bmdt h = rw (not-true b h)
+
+  pub bmdt-sent : not b ≡ false → {c : Coded} → c ≡ codeOf F Plain 0 (getD x bmdtAt 0) → itemsIf true (numberItem 10 c) ≡ bmdtIf F b x
+  unfolding bmdtIf
+  bmdt-sent h e = rw (not-false b h, e)
 
 -- the sample count's, where code found whether it stands
 module _ (delta : Bool) (r x : List ℕ) (F : List Row) {b : Bool} (e : b ≡ countStands delta r x) where

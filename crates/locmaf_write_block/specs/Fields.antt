@@ -14,7 +14,7 @@ use Rattle.track.specs.declared.Track.{Track}
 use Rattle.field_table.specs.declared.lines.Line.{Line}
 use Rattle.field_table.specs.Lines.{lines, spare, lineCount, bmdtAt, countAt, subsamplesLine, protectedLine}
 use Rattle.field_rules.specs.Fields.{codingFor}
-use Rattle.effective.specs.Follows.{nextTime}
+use Rattle.effective.specs.Expected.{nextTime}
 use Rattle.locmaf_write_block.specs.declared.cells.Change.{Change}
 use Rattle.locmaf_write_block.specs.declared.cells.Change.the-variants.{Omitted, Deleted, Sent}
 use Rattle.locmaf_write_tuples.specs.Items.{Items, nothing, _before_, itemsIf, numberItem, runItem, bytesOf, pairMost}
@@ -48,6 +48,9 @@ beforeBmdt = subsamplesLine
 abbrev pub beforeCount : ℕ
 beforeCount = protectedLine
 
+unfoldable pub bmdtIf : List Row → Bool → List ℕ → Items
+bmdtIf F stands x = itemsIf stands (numberItem 10 (codeOf F Plain 0 (getD x bmdtAt 0)))
+
 unfoldable pub countItems : List Row → Bool → List ℕ → List ℕ → Items
 countItems F delta r x = itemsIf (countStands delta r x) (numberItem 14 (codeOf F (codingFor delta) (getD r countAt 0) (getD x countAt 0)))
 
@@ -61,7 +64,7 @@ module _ (F : List Row) (t : Track) (delta : Bool) (r x : List ℕ) where
   between from to = linesItems (slice from to lines)
 
   unfoldable pub bmdtItems : Items
-  bmdtItems = itemsIf (bmdtStands t delta r x) (numberItem 10 (codeOf F Plain 0 (getD x bmdtAt 0)))
+  bmdtItems = bmdtIf F (bmdtStands t delta r x) x
 
   -- ids 1 to 15: the lines that a chunk can have, and ids 10 and 14 between them
   unfoldable pub fieldItems : Items

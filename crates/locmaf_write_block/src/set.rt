@@ -1,18 +1,22 @@
 // The set of moof fields of a chunk in an object: every line of the table but that of id 16, with BMDT and the sample count among them by their ids.
-// Letters: `t` the track, `r` the words of the reference's set, `x` the words of the new set, `b` what is written against what.
+// Letters: `t` the track, `r` the words of the reference's set, `x` the words of the new set, `b` what is written against what, `e` the BMDT that is expected.
 ghost use mathlib.Core.Path.{_≡_};
 ghost use mathlib.Core.Bool.{true};
-ghost use Prim.Native.Nat.{_+_, _-_, _*_, _≤_, _<_};
+ghost use mathlib.Core.List.{List};
+ghost use Prim.Native.Nat.{ℕ, _+_, _-_, _*_, _≤_, _<_};
 ghost use lib.ListN.{length};
 ghost use Rattle.wire.specs.Form.{rows};
 ghost use Rattle.laws.specs.Options.{isSome};
+ghost use Rattle.track.specs.declared.Track.{Track};
 ghost use Rattle.field_table.specs.Lines.{lines, setLen};
+ghost use Rattle.effective.specs.Expected.{nextTime, expectedBy};
 ghost use Rattle.locmaf_write_tuples.specs.Items.{pairMost, WeighedAs, RoomFor, WroteItems};
 ghost use Rattle.locmaf_write_block.specs.Changes.{chunkLines, basisOf, Writable, Based, lineMost};
-ghost use Rattle.locmaf_write_block.specs.Fields.{beforeBmdt, beforeCount, between, bmdtStands, bmdtItems, countStands, countItems, fieldItems, keptLen, KeptEach, KeptFields, setMost};
+ghost use Rattle.locmaf_write_block.specs.Fields.{beforeBmdt, beforeCount, between, bmdtStands, bmdtIf, countStands, countItems, fieldItems, keptLen, KeptEach, KeptFields, setMost};
 use crate::cells;
 use crate::cells::Basis;
 use constants::ids;
+use effective::expected::Expected;
 use field_rules::rules::coding_for;
 use field_set::lawful;
 use field_table::lines;
@@ -65,15 +69,16 @@ pub fn basis_of(t: Track, delta: bool, r: &[u64], x: &[u64]) -> Basis
 
 // ---- BMDT and the sample count
 
-// BMDT goes by its own rule: it is left out where it follows from the reference, and not where it is the reference's.
-fn bmdt_stands(t: Track, delta: bool, r: &[u64], x: &[u64]) -> bool
-    requires { ⌜ Writable t delta (now r) (now x) ⌝ }
-    ensures { λ b. ⌜ b ≡ bmdtStands t delta (now (r .entry)) (now (x .entry)) ⌝ }
+// BMDT goes by its own rule: it is left out where it is the one that is expected behind the reference, and not where it is the reference's.
+fn bmdt_stands(delta: bool, e: Expected, x: &[u64]) -> bool
+    requires { ⌜ length (now x) ≡ setLen ⌝ }
+    ensures { λ b. ⌜ ((t : Track) (r : List ℕ) → e ≡ expectedBy (nextTime t r)
+        → b ≡ bmdtStands t delta r (now (x .entry))) ⌝ }
 {
     if !delta {
         return true;
     }
-    !effective::follows::follows(t, r, x[lines::BMDT])
+    !effective::expected::follows(e, x[lines::BMDT])
 }
 
 fn count_stands(delta: bool, r: &[u64], x: &[u64]) -> bool
@@ -83,36 +88,33 @@ fn count_stands(delta: bool, r: &[u64], x: &[u64]) -> bool
     !delta | (x[lines::COUNT] != r[lines::COUNT])
 }
 
-// BMDT is absolute in a delta too.
-fn bmdt_size(form: Form, t: Track, delta: bool, r: &[u64], x: &[u64]) -> Weight
-    requires { ⌜ Writable t delta (now r) (now x) ⌝ }
-    ensures { λ w. ⌜ WeighedAs (rows form) (bmdtItems (rows form) t delta (now (r .entry)) (now (x .entry)))
-        pairMost w ⌝ }
+// BMDT's tuple, which is absolute in a delta too. A number that isn't sent isn't coded either.
+fn bmdt_size(form: Form, stands: bool, x: &[u64]) -> Weight
+    requires { ⌜ length (now x) ≡ setLen ⌝ }
+    ensures { λ w. ⌜ WeighedAs (rows form) (bmdtIf (rows form) stands (now (x .entry))) pairMost w ⌝ }
 {
+    if !stands {
+        return tuples::whole(0);
+    }
     let c = wire::zigzag::code(form, Coding::Plain, 0, x[lines::BMDT]);
-    tuples::number_size(form, bmdt_stands(t, delta, r, x), ids::BMDT, c)
+    tuples::number_size(form, true, ids::BMDT, c)
 }
 
-fn put_bmdt(
-    form: Form,
-    t: Track,
-    delta: bool,
-    r: &[u64],
-    x: &[u64],
-    out: &mut [u8],
-    at: usize,
-) -> usize
-    requires { ⌜ Writable t delta (now r) (now x) ⌝ }
-    requires { ⌜ isSome (bmdtItems (rows form) t delta (now r) (now x)) ≡ true ⌝ }
-    requires { ⌜ RoomFor (rows form) (bmdtItems (rows form) t delta (now r) (now x)) (now out) at ⌝ }
-    ensures { λ p. ⌜ WroteItems (rows form) (bmdtItems (rows form) t delta (now (r .entry)) (now (x .entry)))
+fn put_bmdt(form: Form, stands: bool, x: &[u64], out: &mut [u8], at: usize) -> usize
+    requires { ⌜ length (now x) ≡ setLen ⌝ }
+    requires { ⌜ isSome (bmdtIf (rows form) stands (now x)) ≡ true ⌝ }
+    requires { ⌜ RoomFor (rows form) (bmdtIf (rows form) stands (now x)) (now out) at ⌝ }
+    ensures { λ p. ⌜ WroteItems (rows form) (bmdtIf (rows form) stands (now (x .entry)))
         (now (out .entry)) at (now (out .exit)) p ⌝ }
 {
+    if !stands {
+        return at;
+    }
     let c = wire::zigzag::code(form, Coding::Plain, 0, x[lines::BMDT]);
-    tuples::put_number(form, bmdt_stands(t, delta, r, x), ids::BMDT, c, out, at)
+    tuples::put_number(form, true, ids::BMDT, c, out, at)
 }
 
-// The sample count's tuple. A number that isn't sent isn't coded either.
+// The sample count's, the same way.
 fn count_size(form: Form, delta: bool, r: &[u64], x: &[u64]) -> Weight
     requires { ⌜ (length (now r) ≡ setLen) × (length (now x) ≡ setLen) ⌝ }
     ensures { λ w. ⌜ WeighedAs (rows form) (countItems (rows form) delta (now (r .entry)) (now (x .entry)))
@@ -246,8 +248,16 @@ fn put_high(
 // ---- ids 1 to 15
 
 // A sum is the same in any order, so the lines are weighed in one walk, whatever stands between them in the object.
-pub fn set_size(form: Form, t: Track, b: Basis, r: &[u64], x: &[u64], kept: &mut [usize]) -> Weight
-    requires { ⌜ Based t b (now r) (now x) ⌝ }
+pub fn set_size(
+    form: Form,
+    t: Track,
+    b: Basis,
+    e: Expected,
+    r: &[u64],
+    x: &[u64],
+    kept: &mut [usize],
+) -> Weight
+    requires { ⌜ Based t b (now r) (now x) × (e ≡ expectedBy (nextTime t (now r))) ⌝ }
     requires { ⌜ length (now kept) ≡ keptLen ⌝ }
     ensures { λ w. ⌜ WeighedAs (rows form) (fieldItems (rows form) t (b .delta) (now (r .entry)) (now (x .entry)))
         setMost w
@@ -255,7 +265,7 @@ pub fn set_size(form: Form, t: Track, b: Basis, r: &[u64], x: &[u64], kept: &mut
 {
     let fields = lines_size(form, t, b, r, x, &mut *kept);
     kept[ALL] = fields.bytes;
-    let bmdt = bmdt_size(form, t, b.delta, r, x);
+    let bmdt = bmdt_size(form, bmdt_stands(b.delta, e, x), x);
     let count = count_size(form, b.delta, r, x);
     let numbers = tuples::both(bmdt, count);
     tuples::both(fields, numbers)
@@ -266,13 +276,14 @@ pub fn put_set(
     form: Form,
     t: Track,
     b: Basis,
+    e: Expected,
     r: &[u64],
     x: &[u64],
     kept: &[usize],
     out: &mut [u8],
     at: usize,
 ) -> usize
-    requires { ⌜ Based t b (now r) (now x) ⌝ }
+    requires { ⌜ Based t b (now r) (now x) × (e ≡ expectedBy (nextTime t (now r))) ⌝ }
     requires { ⌜ KeptFields (rows form) t (b .delta) (now r) (now x) (now kept) ⌝ }
     requires { ⌜ isSome (fieldItems (rows form) t (b .delta) (now r) (now x)) ≡ true ⌝ }
     requires { ⌜ RoomFor (rows form) (fieldItems (rows form) t (b .delta) (now r) (now x)) (now out) at ⌝ }
@@ -284,7 +295,7 @@ pub fn put_set(
     } else {
         put_lines(form, t, b, r, x, 0, BEFORE_BMDT, kept, out, at)
     };
-    let q = put_bmdt(form, t, b.delta, r, x, out, p);
+    let q = put_bmdt(form, bmdt_stands(b.delta, e, x), x, out, p);
     let u = put_middle(form, t, b, r, x, kept, out, q);
     let v = put_count(form, b.delta, r, x, out, u);
     put_high(form, t, b, r, x, kept, out, v)

@@ -62,25 +62,19 @@ struct Values {
 }
 
 // The values of an object with so many bytes of payload and so many events.
-fn values_of(
-    t: Track,
-    delta: bool,
-    payload: usize,
-    events: usize,
-    s: &[u64],
-    index: &[u64],
-) -> Values
+fn values_of(delta: bool, payload: usize, events: usize, s: &[u64], index: &[u64]) -> Values
     requires { ⌜ (length (now index) ≡ indexLen) × (length (now s) ≡ shareLen) × Timed (drop setAt (now s)) ⌝ }
     ensures { λ v. ⌜ ValuesTold t delta payload events (now (s .entry)) (now (index .entry)) v ⌝ }
 {
-    let bmdt = locmaf_read_times::bmdt::bmdt_of(t, index, &s[share::SET..]);
+    let b = locmaf_read_times::bmdt::bmdt_of(index, slots::lawful::expected_of(s));
     let told = locmaf_read_times::prft::prft_of(delta, index, s);
     let brands = part_of(index, ids::BRANDS as usize);
     let most = (payload <= maxima::PAYLOAD as usize)
         & ((brands.len <= maxima::BRAND_BYTES)
             & ((events <= maxima::EVENTS) & (index[places::EVENTS_LENGTH] <= maxima::EVENT_BYTES)));
-    let ok = (bmdt.0 <= maxima::NUMBER) & (told.ok & most);
     let prft = told.prft;
+    let bmdt = b.ticks;
+    let ok = (b.told & (bmdt.0 <= maxima::NUMBER)) & (told.ok & most);
     Values {
         ok,
         bmdt,
@@ -169,7 +163,7 @@ fn judge_values(t: Track, o: &[u8], p: Place, s: &[u64], index: &[u64], words: &
 {
     let k = index[places::EVENTS_COUNT] as usize;
     let payload = o.len() - p.end;
-    let v = values_of(t, p.delta, payload, k, s, index);
+    let v = values_of(p.delta, payload, k, s, index);
     let number = values_number(t, o, v, payload as u64, words, k);
     let prft = v.prft;
     let brands = v.brands;

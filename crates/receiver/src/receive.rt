@@ -80,7 +80,8 @@ fn write(
         need,
         &mut *output,
     );
-    reference::keep::keep(s, p.delta, prft, count, x);
+    reference::keep::keep(&mut *s, p.delta, prft, count, x);
+    reference::keep::renew(t, s);
     Answer {
         number: 0,
         front: n as u64,

@@ -10,6 +10,7 @@ ghost use Rattle.reference.specs.Kept.{replacedBy, keptWords};
 use field_table::lines;
 use prft_value::Prft;
 use share_words::share;
+use track::Track;
 use word_spans::words;
 
 // The words of a set into the share. A field that stands neither in the old set nor in the new one has nothing stored in either: its words stay.
@@ -30,6 +31,12 @@ fn copy_set(s: &mut [u64], x: &[u64])
         from = to;
         i += 1;
     }
+}
+
+pub fn renew(t: Track, s: &mut [u64]) {
+    let e = effective::expected::expected(t, &s[share::SET..]);
+    s[share::PAST] = e.past;
+    s[share::EXPECTED] = e.time;
 }
 
 // What an accepted object replaces of the reference.

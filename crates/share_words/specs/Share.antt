@@ -1,5 +1,5 @@
 -- The words of a slot's share. From word 0 on: the eight parameters, the count of accepted objects, the mark of the reference, the mark of
--- the current full object's `prft` with its four fields, and the set of moof fields.
+-- the current full object's `prft` with its four fields, the two words of the BMDT that is expected, and the set of moof fields.
 use Prim.Native.Nat.{ℕ, _+_, _-_, _*_}
 use mathlib.Core.List.{List, _++_}
 use lib.ListN.{take, replicate}
@@ -57,8 +57,15 @@ prftFlagsAt = 14
 abbrev pub prftEnd : ℕ
 prftEnd = 15
 
+-- what is expected behind the reference: its mark, and the BMDT
+abbrev pub pastAt : ℕ
+pastAt = 15
+
+abbrev pub expectedAt : ℕ
+expectedAt = 16
+
 abbrev pub setAt : ℕ
-setAt = 15
+setAt = 17
 
 abbrev pub shareLen : ℕ
 shareLen = setAt + setLen

@@ -1,25 +1,28 @@
 -- What the tests of a share's words come to. Assumes nothing.
-use Prim.Native.Nat.{ℕ, _-_}
+use Prim.Native.Nat.{ℕ, _+_, _-_}
 use native.Mathlib.Omega.{arith}
-use mathlib.Core.Path.{_≡_, sym, _∙_, ap}
+use mathlib.Core.Path.{_≡_, refl, sym, _∙_, ap}
 use mathlib.Core.Bool.{Bool, true, false, _&&_, _||_}
 use mathlib.Core.List.{List, [], _∷_, _++_}
 use borrow.Author.Tests.{eq-eqb, ne-eqb}
-use borrow.Rule.Slice.PartAt.{part-to-end}
 use lib.Dec.{eqb, leb}
-use lib.ListN.{length, getD, take, drop}
+use lib.ListN.{length, getD, take, drop, length-drop, length-take}
 use lib.Seq.{sets, sets-eq, slice}
 use Rattle.laws.specs.Tests.{_and_, allZero, allBits}
-use Rattle.laws.proofs.TestLaws.{and-true, and-false, bits-zero}
+use Rattle.laws.proofs.TestLaws.{and-false, bits-zero}
 use Rattle.laws.proofs.SliceLaws.{slice-to-end}
 use Rattle.track.specs.declared.Asked.{Asked}
 use Rattle.track.specs.declared.Track.{Track}
 use Rattle.track.specs.Track.{lawful as lawfulTrack, u32}
 use Rattle.field_set.specs.Lawful.{lawful as lawfulSet}
 use Rattle.told_sizes.specs.Told.{sizesAgree}
+use Rattle.effective.specs.declared.expected.Expected.{Expected}
+use Rattle.effective.specs.Durations.{durationsOf}
+use Rattle.effective.specs.Expected.{expectedBy, same}
+use Rattle.field_table.specs.Lines.{bmdtAt, setLen}
 use Rattle.slots.specs.declared.lawful.Side.{Side}
 use Rattle.share_words.specs.Share.{heldAt, prftAt, ntpAt, mediaTimeAt, versionAt, prftFlagsAt, prftEnd, setAt, trackAt, timescaleAt, acceptedAt, shareLen}
-use Rattle.slots.specs.Share.{u24, u62, askedOf, trackOf, paramWords, acceptedOk, prftOk, setOk, referenceOk, openOk, lawful}
+use Rattle.slots.specs.Share.{u24, u62, askedOf, trackOf, paramWords, expectedIn, acceptedOk, prftOk, expectedOk, setOk, referenceOk, openOk, lawful}
 
 -- the words from a place to the end, folded
 folded : (from : ℕ) (s : List ℕ) (b : ℕ) → length s ≡ shareLen → b ≡ allBits (slice from shareLen s) → eqb b 0 ≡ allZero (drop from s)
@@ -46,15 +49,30 @@ pub some-prft : (s : List ℕ) → (getD s prftAt 0 ≡ 0 → ⊥)
 unfolding prftOk
 some-prft s e = rw (ne-eqb _ _ e)
 
--- the set of the reference: not lawful, or lawful
-module _ (t : Track) (w : List ℕ) where
-  pub set-unlawful : lawfulSet t w ≡ false → false ≡ setOk t w
-  unfolding setOk
-  set-unlawful e = sym (and-false (sizesAgree t w) e)
+-- the set of the reference, as it is lent
+abbrev pub lent : List ℕ → List ℕ
+lent s = take (length s - setAt) (drop setAt s)
 
-  pub set-lawful : lawfulSet t w ≡ true → (r : Bool) → r ≡ sizesAgree t w → r ≡ setOk t w
+pub lent-long : (s : List ℕ) → length s ≡ shareLen → length (lent s) ≡ setLen
+lent-long s l = simp (length-take, length-drop) (omega (arith, l))
+
+and-never : (b : Bool) → (b and false) ≡ false
+unfolding _and_
+and-never true = refl
+and-never false = refl
+
+-- that set, and what is expected behind it
+module _ (t : Track) (s w : List ℕ) (e : w ≡ drop setAt s) where
+  -- it is not lawful
+  pub set-unlawful : lawfulSet t w ≡ false → false ≡ (expectedOk t s and setOk t (drop setAt s))
   unfolding setOk
-  set-lawful e r h = h ∙ sym (and-true (sizesAgree t w) e)
+  set-unlawful h = sym (ap (λ (b : Bool). expectedOk t s and b) (and-false _ (ap (lawfulSet t) (sym e) ∙ h)) ∙ and-never (expectedOk t s))
+
+  -- it is
+  pub set-lawful : lawfulSet t w ≡ true → (p q : Bool) → (kept to-keep : Expected) → kept ≡ expectedIn s → (d : ℕ) → d ≡ durationsOf t w
+      → to-keep ≡ expectedBy (getD w bmdtAt 0 + d) → p ≡ same kept to-keep → q ≡ sizesAgree t w → (p && q) ≡ (expectedOk t s and setOk t (drop setAt s))
+  unfolding setOk expectedOk _and_
+  set-lawful h p q kept to-keep ek d ed et ep eq = rw (ep, eq, ek, et, ed, e, ap (lawfulSet t) (sym e) ∙ h)
 
 module _ (t : Track) (s : List ℕ) (l : length s ≡ shareLen) where
   -- no reference is marked
@@ -63,10 +81,10 @@ module _ (t : Track) (s : List ℕ) (l : length s ≡ shareLen) where
   none-held b e q = rw (eq-eqb _ _ e) (folded prftAt s b l q)
 
   -- one is
-  pub one-held : (p q : Bool) → (getD s heldAt 0 ≡ 0 → ⊥) → p ≡ prftOk s → q ≡ setOk t (take (length s - setAt) (drop setAt s))
+  pub one-held : (p q : Bool) → (getD s heldAt 0 ≡ 0 → ⊥) → p ≡ prftOk s → q ≡ (expectedOk t s and setOk t (drop setAt s))
       → (eqb (getD s heldAt 0) 1 && (p && q)) ≡ referenceOk t s
   unfolding referenceOk _and_
-  one-held p q e hp hq = rw (ne-eqb _ _ e, hp, hq, part-to-end s setAt)
+  one-held p q e hp hq = rw (ne-eqb _ _ e, hp, hq)
 
 module _ (side : Side) (s : List ℕ) (l : length s ≡ shareLen) where
   -- a closed share

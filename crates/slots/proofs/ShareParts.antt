@@ -17,8 +17,8 @@ use Rattle.track.specs.declared.Track.{Track}
 use Rattle.track.specs.Track.{narrow, lawful as lawfulTrack}
 use Rattle.slots.specs.declared.lawful.Side.{Side}
 use Rattle.share_words.specs.Share.{trackAt, timescaleAt, trackDescriptionAt, trackDurationAt, trackSizeAt, trackFlagsAt, protectionAt, trackIvSizeAt}
-use Rattle.share_words.specs.Share.{acceptedAt, heldAt, prftAt, ntpAt, mediaTimeAt, versionAt, prftFlagsAt, prftEnd, setAt, shareLen, referenceLen, dropped}
-use Rattle.slots.specs.Share.{askedOf, trackOf, acceptedOk, prftOk, referenceOk, openOk, isOpen, lawful}
+use Rattle.share_words.specs.Share.{acceptedAt, heldAt, prftAt, ntpAt, mediaTimeAt, versionAt, prftFlagsAt, prftEnd, pastAt, expectedAt, setAt, shareLen, referenceLen, dropped}
+use Rattle.slots.specs.Share.{askedOf, trackOf, acceptedOk, prftOk, expectedOk, referenceOk, openOk, isOpen, lawful}
 use Rattle.slots.specs.Table.{out, onShare}
 use Rattle.slots.specs.Calls.{grouping}
 use Rattle.slots.proofs.CallLaws.{closed-zeros}
@@ -74,9 +74,13 @@ module _ (s s′ : List ℕ) (e : drop heldAt s ≡ drop heldAt s′) where
         sym (slice-drop heldAt (ntpAt - heldAt) (prftEnd - heldAt) s (omega arith)) ∙ ap (slice (ntpAt - heldAt) (prftEnd - heldAt)) e ∙ slice-drop heldAt (ntpAt - heldAt) (prftEnd - heldAt) s′ (omega arith) in
         rw (same-kept (prftAt - heldAt), same-kept (ntpAt - heldAt), same-kept (mediaTimeAt - heldAt), same-kept (versionAt - heldAt), same-kept (prftFlagsAt - heldAt), w)
 
+    same-expected : (t : Track) → expectedOk t s ≡ expectedOk t s′
+    unfolding expectedOk
+    same-expected t = rw (same-kept (pastAt - heldAt), same-kept (expectedAt - heldAt), same-set)
+
     same-reference : (t : Track) → referenceOk t s ≡ referenceOk t s′
     unfolding referenceOk
-    same-reference t = rw (same-kept 0, same-rest (prftAt - heldAt), same-set, same-prft)
+    same-reference t = rw (same-kept 0, same-rest (prftAt - heldAt), same-set, same-prft, same-expected t)
 
 -- a share with the reference of another that has the same parameters
 abbrev pub joined : List ℕ → List ℕ → List ℕ

@@ -13,10 +13,12 @@ use Rattle.track.specs.declared.Track.{Track}
 use Rattle.track.specs.Track.{narrow, u32, lawful as lawfulTrack}
 use Rattle.field_set.specs.Lawful.{lawful as lawfulSet}
 use Rattle.told_sizes.specs.Told.{sizesAgree}
+use Rattle.effective.specs.declared.expected.Expected.{Expected}
+use Rattle.effective.specs.Expected.{nextTime, expectedBy, same}
 use Rattle.slots.specs.declared.lawful.Side.{Side}
 use Rattle.slots.specs.declared.lawful.Side.the-variants.{Encoder, Receiver}
 use Rattle.share_words.specs.Share.{trackAt, timescaleAt, trackDescriptionAt, trackDurationAt, trackSizeAt, trackFlagsAt, protectionAt, trackIvSizeAt}
-use Rattle.share_words.specs.Share.{acceptedAt, heldAt, prftAt, ntpAt, mediaTimeAt, versionAt, prftFlagsAt, prftEnd, setAt, shareLen}
+use Rattle.share_words.specs.Share.{acceptedAt, heldAt, prftAt, ntpAt, mediaTimeAt, versionAt, prftFlagsAt, prftEnd, pastAt, expectedAt, setAt, shareLen}
 
 abbrev pub u24 : ℕ
 u24 = 0xff_ffff
@@ -72,11 +74,20 @@ prftOk s =
 unfoldable pub setOk : Track → List ℕ → Bool
 setOk t w = lawfulSet t w and sizesAgree t w
 
--- the reference: none, and then nothing is stored of it; or a lawful set with a lawful `prft` (D11)
+-- the BMDT that is expected, as the words have it
+abbrev pub expectedIn : List ℕ → Expected
+expectedIn s = record { past = getD s pastAt 0; time = getD s expectedAt 0 }
+
+-- 02, order 7: "Store the expected BMDT in each share, encoder's and receiver's: the sum it replaces wherever a reference is held ..; a sum past 2^64-1 is kept as a
+-- mark from which no BMDT is derived. A share where it differs is unlawful, 18." (D144)
+unfoldable pub expectedOk : Track → List ℕ → Bool
+expectedOk t s = same (expectedIn s) (expectedBy (nextTime t (drop setAt s)))
+
+-- the reference: none, and then nothing is stored of it, nor is anything expected; or a lawful set with a lawful `prft`, and what is expected behind it (D11)
 unfoldable pub referenceOk : Track → List ℕ → Bool
 referenceOk t s =
     cond (eqb (getD s heldAt 0) 0) (allZero (drop prftAt s))
-    (eqb (getD s heldAt 0) 1 and prftOk s and setOk t (drop setAt s))
+    (eqb (getD s heldAt 0) 1 and prftOk s and expectedOk t s and setOk t (drop setAt s))
 
 -- the words of an open share
 unfoldable pub openOk : Side → List ℕ → Bool

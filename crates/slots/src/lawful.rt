@@ -5,11 +5,14 @@ ghost use mathlib.Core.Bool.{true};
 ghost use Prim.Native.Nat.{_≤_, _-_};
 ghost use mathlib.Core.List.{_++_};
 ghost use lib.ListN.{length, getD, drop};
-ghost use Rattle.share_words.specs.Share.{shareLen, trackAt, acceptedAt};
-ghost use Rattle.slots.specs.Share.{askedOf, trackOf, paramWords, acceptedOk, prftOk, setOk, referenceOk, lawful};
+ghost use Rattle.laws.specs.Tests.{_and_};
+ghost use Rattle.share_words.specs.Share.{shareLen, setAt, trackAt, acceptedAt};
+ghost use Rattle.slots.specs.Share.{askedOf, trackOf, expectedIn, paramWords, acceptedOk, prftOk, expectedOk, setOk, referenceOk, lawful};
 ghost use Rattle.track.specs.Track.{lawful as lawfulTrack};
-ghost use Rattle.field_table.specs.Lines.{setLen};
 use constants::maxima;
+use effective::expected;
+use effective::expected::Expected;
+use field_table::lines;
 use share_words::share;
 use track::Asked;
 use track::Track;
@@ -50,6 +53,17 @@ pub fn track_of(s: &[u64]) -> Track
     track::narrowed(asked_of(s[share::TRACK], s))
 }
 
+// The BMDT that is expected, as the words have it.
+pub fn expected_of(s: &[u64]) -> Expected
+    requires { ⌜ length (now s) ≡ shareLen ⌝ }
+    ensures { λ e. ⌜ e ≡ expectedIn (now (s .entry)) ⌝ }
+{
+    Expected {
+        past: s[share::PAST],
+        time: s[share::EXPECTED],
+    }
+}
+
 fn accepted_ok(side: Side, n: u64) -> bool
     ensures { λ r. ⌜ r ≡ acceptedOk side n ⌝ }
 {
@@ -76,15 +90,20 @@ fn prft_ok(s: &[u64]) -> bool
                     & ((s[share::NTP] <= maxima::NUMBER) & (media <= maxima::NUMBER)))))
 }
 
-// Whether the words are those of a set that a share can hold.
-fn set_ok(t: Track, w: &[u64]) -> bool
-    requires { ⌜ (length (now w) ≡ setLen) × (t .«iv_size» ≤ 16) ⌝ }
-    ensures { λ r. ⌜ r ≡ setOk t (now (w .entry)) ⌝ }
+// Whether the set is one that a share can hold, and what is expected behind it is what the share has. The durations that it lists were added up when its words
+// were looked at.
+fn set_ok(t: Track, s: &[u64]) -> bool
+    requires { ⌜ (length (now s) ≡ shareLen) × (t .«iv_size» ≤ 16) ⌝ }
+    ensures { λ r. ⌜ r ≡ (expectedOk t (now (s .entry)) and setOk t (drop setAt (now (s .entry)))) ⌝ }
 {
-    if !field_set::lawful::is_lawful(t, w) {
+    let w = &s[share::SET..];
+    let k = field_set::lawful::test_set(t, w);
+    if !k.ok {
         return false;
     }
-    told_sizes::told::sizes_agree(t, w)
+    let d = effective::durations::durations_by(t, w, k.durations);
+    let e = expected::expected_by(w[lines::BMDT], d);
+    expected::is_same(expected_of(s), e) & told_sizes::told::sizes_agree(t, w)
 }
 
 // Whether a reference that the share marks as held is lawful, or nothing is stored where none is.
@@ -96,7 +115,7 @@ fn reference_ok(t: Track, s: &[u64]) -> bool
     if held == 0 {
         return scan::bits(s, share::PRFT, share::SHARE) == 0;
     }
-    (held == 1) & (prft_ok(s) & set_ok(t, &s[share::SET..]))
+    (held == 1) & (prft_ok(s) & set_ok(t, s))
 }
 
 // Whether the words are those of a lawful share.

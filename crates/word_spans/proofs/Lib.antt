@@ -1,2 +1,3 @@
 pub mod ScanLaws
+pub mod TotalLaws
 pub mod CopyLoop

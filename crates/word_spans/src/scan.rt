@@ -1,10 +1,11 @@
 // Many words looked at as one, without a branch for each.
 // Letters: `w` the words of a set.
 ghost use mathlib.Core.Path.{_≡_};
-ghost use Prim.Native.Nat.{_+_, _≤_};
+ghost use Prim.Native.Nat.{_+_, _^_, _≤_};
 ghost use lib.ListN.{length};
 ghost use lib.Seq.{slice};
 ghost use Rattle.laws.specs.Tests.{allBits};
+ghost use Rattle.word_spans.specs.Totals.{TotalOf};
 
 // The bits that are set in some of the four words from a place on, of the sixteen, and of the sixty-four: a run is taken in the longest such steps
 // that it has left, so that loops have few turns.
@@ -52,4 +53,27 @@ pub fn bits(w: &[u64], from: usize, to: usize) -> u64
         i += 1;
     }
     all
+}
+
+// What some words come to: the bits that are set in some of them, and their sum, where each has 32 bits.
+pub struct Total {
+    pub bits: u64,
+    pub sum: u64,
+}
+
+// The words from a place up to another, in one walk.
+pub fn totalled(w: &[u64], from: usize, to: usize) -> Total
+    requires { ⌜ (to ≤ length (now w)) × (to ≤ from + 2 ^ 32) ⌝ }
+    ensures { λ r. ⌜ TotalOf r (slice from to (now (w .entry))) ⌝ }
+{
+    let mut bits = 0;
+    let mut sum = 0;
+    let mut i = from;
+    while i < to {
+        let v = w[i];
+        bits = bits | v;
+        sum += v % 0x1_0000_0000;
+        i += 1;
+    }
+    Total { bits, sum }
 }

@@ -1,6 +1,4 @@
 -- `slots::lawful::reference_ok` meets its contract, by what its tests come to. Assumes nothing.
-use native.Mathlib.Omega.{arith}
-use lib.ListN.{length-drop, length-take}
 use denote.Ref.{now}
 use Rattle.slots.proofs.ShareLaws.{none-held, one-held}
 use borrow.Author.Needs.{needs}
@@ -19,20 +17,11 @@ returns c = let b = c .before .before .before .before in none-held (b .args .t) 
 prft-ok-requires : tie.Need-prft-ok-requires
 prft-ok-requires c κs = search needs
 
-sub-set-ok : tie.Need-sub-set-ok
-sub-set-ok c = search needs
-
-part-set-ok-start : tie.Need-part-set-ok-start
-part-set-ok-start c = search needs
-
-part-set-ok-end : tie.Need-part-set-ok-end
-part-set-ok-end c = search needs
-
 set-ok-requires : tie.Need-set-ok-requires
-set-ok-requires c κs = (simp (length-take, length-drop) (omega (arith, c .before .before .before .before .before .pre .0)), c .before .before .before .before .before .pre .1)
+set-ok-requires c κs = search needs
 
 returns-2 : tie.Need-returns-2
-returns-2 c = let b = c .before .before .before .before .before .before in one-held (b .args .t) (now (b .args .s)) (b .pre .0) _ _ (c .before .before .before .if1 .left) (c .before .before .prft-ok .ensures) (c .set-ok .ensures)
+returns-2 c = let b = c .before .before .before .before .before in one-held (b .args .t) (now (b .args .s)) (b .pre .0) _ _ (c .before .before .if1 .left) (c .before .prft-ok .ensures) (c .set-ok .ensures)
 
 pub reference-ok-spec : {M : Type 1} → statement M
 reference-ok-spec =
@@ -42,8 +31,5 @@ reference-ok-spec =
     bits-requires
     returns
     prft-ok-requires
-    sub-set-ok
-    part-set-ok-start
-    part-set-ok-end
     set-ok-requires
     returns-2)

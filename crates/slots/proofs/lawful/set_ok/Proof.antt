@@ -1,22 +1,76 @@
 -- `slots::lawful::set_ok` meets its contract, by what its tests come to. Assumes nothing.
+use native.Mathlib.Omega.{arith}
+use mathlib.Core.Path.{_≡_, refl}
+use lib.ListN.{length, length-drop, length-take}
+use denote.Ref.{now}
 use borrow.Author.Needs.{needs}
+use borrow.Rule.Slice.PartAt.{part-to-end}
 use Rattle.laws.proofs.GateLaws.{failed, held}
+use Rattle.field_table.specs.Lines.{setLen}
+use Rattle.share_words.specs.Share.{setAt, shareLen}
 use Rattle.told_sizes.proofs.SumLaws.{lawful-summable}
-use Rattle.slots.proofs.ShareLaws.{set-unlawful, set-lawful}
+use Rattle.effective.proofs.DurationLaws.{lawful-timed}
+use Rattle.slots.proofs.ShareLaws.{lent, lent-long, set-unlawful, set-lawful}
 use Rattle.slots.proofs.lawful.set_ok.Statement.{statement}
 use Rattle.slots.proofs.lawful.set_ok.Tie as tie
 
-is-lawful-requires : tie.Need-is-lawful-requires
-is-lawful-requires c κs = search needs
+sub-w : tie.Need-sub-w
+sub-w c = search needs
+
+part-w-start : tie.Need-part-w-start
+part-w-start c = search needs
+
+part-w-end : tie.Need-part-w-end
+part-w-end c = search needs
+
+test-set-requires : tie.Need-test-set-requires
+test-set-requires c κs = let b = c .before .before in (lent-long (now (b .args .s)) (b .pre .0), b .pre .1)
 
 returns : tie.Need-returns
-returns c = set-unlawful _ _ (failed (c .before .is-lawful .ensures) (c .if1 .taken))
+returns c =
+    let s = now (c .before .before .before .before .before .args .s) in
+    set-unlawful _ s _ (part-to-end s setAt) (failed (c .before .before .test-set .ensures .right) (c .if1 .taken))
+
+durations-by-requires : tie.Need-durations-by-requires
+durations-by-requires c κs =
+    let k = c .before .before .test-set .ensures in
+    (lawful-timed _ _ (lent-long (now (c .before .before .before .before .before .args .s)) (c .before .before .before .before .before .pre .0)) (held (k .right) (c .if1 .left)), k .summed (held refl (c .if1 .left)))
+
+shared-slice-read-expected-by : tie.Need-shared-slice-read-expected-by
+shared-slice-read-expected-by c = let l = lent-long (now (c .before .before .before .before .before .before .before .args .s)) (c .before .before .before .before .before .before .before .pre .0) in search needs
+
+expected-by-requires : tie.Need-expected-by-requires
+expected-by-requires c κs = tt
+
+expected-of-requires : tie.Need-expected-of-requires
+expected-of-requires c κs = search needs
+
+is-same-requires : tie.Need-is-same-requires
+is-same-requires c κs = tt
 
 sizes-agree-requires : tie.Need-sizes-agree-requires
-sizes-agree-requires c κs = lawful-summable _ _ (c .before .before .before .pre .0) (held (c .before .is-lawful .ensures) (c .if1 .left))
+sizes-agree-requires c κs =
+    lawful-summable _ _ (lent-long (now (c .before .before .before .before .before .before .before .before .before .before .args .s)) (c .before .before .before .before .before .before .before .before .before .before .pre .0)) (held (c .before .before .before .before .before .before .before .test-set .ensures .right) (c .before .before .before .before .before .if1 .left))
 
 returns-2 : tie.Need-returns-2
-returns-2 c = set-lawful _ _ (held (c .before .before .is-lawful .ensures) (c .before .if1 .left)) _ (c .sizes-agree .ensures)
+returns-2 c =
+    let s = now (c .before .before .before .before .before .before .before .before .before .before .before .args .s) in
+    set-lawful _ s _ (part-to-end s setAt) (held (c .before .before .before .before .before .before .before .before .test-set .ensures .right) (c .before .before .before .before .before .before .if1 .left)) _ _ _ _ (c .before .before .expected-of .ensures)
+    _ (c .before .before .before .before .before .durations-by .ensures) (c .before .before .before .expected-by .ensures) (c .before .is-same .ensures) (c .sizes-agree .ensures)
 
 pub set-ok-spec : {M : Type 1} → statement M
-set-ok-spec = tie.close (tie.spec is-lawful-requires returns sizes-agree-requires returns-2)
+set-ok-spec =
+    tie.close
+    (tie.spec
+    sub-w
+    part-w-start
+    part-w-end
+    test-set-requires
+    returns
+    durations-by-requires
+    shared-slice-read-expected-by
+    expected-by-requires
+    expected-of-requires
+    is-same-requires
+    sizes-agree-requires
+    returns-2)
