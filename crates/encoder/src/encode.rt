@@ -57,7 +57,7 @@ fn write(
     let payload = k.payload;
     let sequence = s[share::ACCEPTED];
     reference::keep::keep(&mut *s, a.delta, prft, sequence, x);
-    reference::keep::renew(t, s);
+    reference::keep::renew(t, a.delta, s);
     Answer {
         number: 0,
         front: n as u64,

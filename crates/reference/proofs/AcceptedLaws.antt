@@ -8,37 +8,40 @@ use mathlib.Core.List.{List, [], _∷_, _++_, append-assoc}
 use borrow.Author.Tests.{eq-eqb, le-leb, not-true}
 use lib.Dec.{eqb, leb}
 use lib.ListN.{length, getD, take, drop, length-append, List·getD-append}
-use lib.Seq.{slice, length-take-le, length-slice, getD-take, getD-drop, getD-append-add, drop-append-add}
+use lib.Seq.{slice, slice-cons, take-at, length-take-le, length-slice, getD-take, getD-drop, getD-append-add, drop-append-add}
 use Rattle.laws.specs.Tests.{allZero}
 use Rattle.laws.proofs.TestLaws.{both}
-use Rattle.laws.proofs.SliceLaws.{drop-slice, slice-between}
+use Rattle.laws.proofs.SliceLaws.{drop-slice, slice-none, slice-between}
 use Rattle.track.specs.Track.{narrow, u32, lawful as lawfulTrack}
 use Rattle.track.specs.declared.Track.{Track}
 use Rattle.field_table.specs.Lines.{setLen}
 use Rattle.slots.specs.declared.lawful.Side.{Side}
 use Rattle.share_words.specs.Share.{trackAt, timescaleAt, trackDescriptionAt, trackDurationAt, trackSizeAt, trackFlagsAt, protectionAt, trackIvSizeAt}
-use Rattle.share_words.specs.Share.{acceptedAt, heldAt, prftAt, ntpAt, mediaTimeAt, versionAt, prftFlagsAt, prftEnd, setAt, shareLen}
-use Rattle.slots.specs.Share.{u24, u62, asked, askedOf, trackOf, isOpen, acceptedOk, prftOk, setOk, referenceOk, openOk, lawful}
+use Rattle.share_words.specs.Share.{acceptedAt, heldAt, prftAt, ntpAt, mediaTimeAt, versionAt, prftFlagsAt, prftEnd, pastAt, expectedAt, setAt, shareLen}
+use Rattle.slots.specs.Share.{u24, u62, asked, askedOf, trackOf, expectedIn, isOpen, acceptedOk, prftOk, expectedOk, setOk, referenceOk, openOk, lawful}
 use Rattle.prft_value.specs.declared.Prft.{Prft}
-use Rattle.reference.specs.Kept.{prftWords, referenceWords, keptWords}
+use Rattle.effective.specs.declared.expected.Expected.{Expected}
+use Rattle.effective.specs.Expected.{nextTime, expectedBy, same}
+use Rattle.effective.proofs.ExpectedLaws.{same-self}
+use Rattle.reference.specs.Kept.{prftWords, expectedWords, expectedFor, referenceWords, keptWith, keptWords, storedWords, renewed}
 use Rattle.reference.proofs.OpenLaws.{Opened}
 use Rattle.prft_value.specs.Prft.{InRange}
 
 -- ---- the words one after another
 
--- the parameters f, the count n, the mark, the words p of the `prft`, and the set w
-module _ (f : List ℕ) (n : ℕ) (p w : List ℕ) (lf : length f ≡ acceptedAt) (lp : length p ≡ prftEnd - prftAt) where
+-- the parameters f, the count n, the mark, the words p of the `prft`, those of what is expected, and the set w
+module _ (f : List ℕ) (n : ℕ) (p : List ℕ) (e : Expected) (w : List ℕ) (lf : length f ≡ acceptedAt) (lp : length p ≡ prftEnd - prftAt) where
   abbrev all : List ℕ
-  all = f ++ (n ∷ referenceWords p w)
+  all = f ++ (n ∷ referenceWords p (expectedWords e) w)
 
   all-long : length w ≡ setLen → length all ≡ shareLen
-  all-long lw = omega (arith, length-append f (n ∷ referenceWords p w), length-append p w)
+  all-long lw = omega (arith, length-append f (n ∷ referenceWords p (expectedWords e) w), length-append p (expectedWords e ++ w))
 
   -- a word behind the parameters
-  word-at : (k m : ℕ) → acceptedAt + k ≡ m → getD all m 0 ≡ getD (n ∷ referenceWords p w) k 0
-  word-at k m e =
+  word-at : (k m : ℕ) → acceptedAt + k ≡ m → getD all m 0 ≡ getD (n ∷ referenceWords p (expectedWords e) w) k 0
+  word-at k m h =
       let q : m ≡ length f + k = omega arith in
-      ap (λ (i : ℕ). getD all i 0) q ∙ getD-append-add f (n ∷ referenceWords p w) k 0
+      ap (λ (i : ℕ). getD all i 0) q ∙ getD-append-add f (n ∷ referenceWords p (expectedWords e) w) k 0
 
   count-at : getD all acceptedAt 0 ≡ n
   count-at = word-at 0 acceptedAt refl
@@ -51,15 +54,39 @@ module _ (f : List ℕ) (n : ℕ) (p w : List ℕ) (lf : length f ≡ acceptedAt
       let pre : List ℕ = f ++ (n ∷ 1 ∷ []) in
       let a : prftAt ≡ length pre = omega (arith, length-append f (n ∷ 1 ∷ [])) in
       let b : prftEnd ≡ length pre + length p = omega (arith, length-append f (n ∷ 1 ∷ [])) in
-      ap (slice prftAt prftEnd) (sym (append-assoc f (n ∷ 1 ∷ []) (p ++ w)))
-      ∙ ap₂ (λ (i j : ℕ). slice i j (pre ++ (p ++ w))) a b
-      ∙ slice-between pre p w
+      ap (slice prftAt prftEnd) (sym (append-assoc f (n ∷ 1 ∷ []) (p ++ (expectedWords e ++ w))))
+      ∙ ap₂ (λ (i j : ℕ). slice i j (pre ++ (p ++ (expectedWords e ++ w)))) a b
+      ∙ slice-between pre p (expectedWords e ++ w)
+
+  -- all before what is expected, and all from there on
+  front : List ℕ
+  front = f ++ (n ∷ 1 ∷ p)
+
+  front-is : length front ≡ pastAt
+  unfolding front
+  front-is = omega (arith, length-append f (n ∷ 1 ∷ p))
+
+  parts : all ≡ front ++ (expectedWords e ++ w)
+  unfolding front
+  parts = sym (append-assoc f (n ∷ 1 ∷ p) (expectedWords e ++ w))
+
+  front-at : take pastAt all ≡ front
+  front-at = ap (take pastAt) parts ∙ take-at front (expectedWords e ++ w) pastAt front-is
+
+  from-past : (k m : ℕ) → pastAt + k ≡ m → drop m all ≡ drop k (expectedWords e ++ w)
+  from-past k m h =
+      let q : m ≡ length front + k = omega (arith, front-is) in
+      ap (drop m) parts ∙ ap (λ (i : ℕ). drop i (front ++ (expectedWords e ++ w))) q ∙ drop-append-add front (expectedWords e ++ w) k
 
   set-at : drop setAt all ≡ w
-  set-at =
-      let pre : List ℕ = f ++ (n ∷ 1 ∷ p) in
-      let a : setAt ≡ length pre + 0 = omega (arith, length-append f (n ∷ 1 ∷ p)) in
-      ap (drop setAt) (sym (append-assoc f (n ∷ 1 ∷ p) w)) ∙ ap (λ (i : ℕ). drop i (pre ++ w)) a ∙ drop-append-add pre w 0
+  set-at = from-past (setAt - pastAt) setAt refl
+
+  expected-at : expectedIn all ≡ e
+  expected-at =
+      let q = from-past 0 pastAt refl in
+      let a : getD all pastAt 0 ≡ e .past = sym (getD-drop pastAt all 0 0) ∙ ap (λ (l : List ℕ). getD l 0 0) q in
+      let b : getD all expectedAt 0 ≡ e .time = sym (getD-drop pastAt all 1 0) ∙ ap (λ (l : List ℕ). getD l 1 0) q in
+      λ j. record { past = a j; time = b j }
 
 -- ---- the `prft` that is kept
 
@@ -128,11 +155,18 @@ module _ (s : List ℕ) (l : length s ≡ shareLen) where
   five-ok true p a b = sym (prft-in s) ∙ a refl
   five-ok false p a b = words-ranged p (b refl)
 
+  -- the two words of what is expected
+  two-words : slice pastAt setAt s ≡ expectedWords (expectedIn s)
+  two-words =
+      slice-cons pastAt setAt s 0 (omega arith) (omega arith)
+      ∙ ap (λ (l : List ℕ). getD s pastAt 0 ∷ l)
+      (slice-cons expectedAt setAt s 0 (omega arith) (omega arith) ∙ ap (λ (l : List ℕ). getD s expectedAt 0 ∷ l) (slice-none setAt setAt s (omega arith)))
+
   module _ (delta : Bool) (n : ℕ) (p : Prft) (w : List ℕ) where
     -- it keeps its length
     pub accepted-long : length w ≡ setLen → length (keptWords delta n p w s) ≡ shareLen
     unfolding keptWords fiveOf
-    accepted-long lw = all-long (take acceptedAt s) n (fiveOf delta p) w front-long (five-long delta p) lw
+    accepted-long lw = all-long (take acceptedAt s) n (fiveOf delta p) (expectedBy (nextTime (trackOf s) w)) w front-long (five-long delta p) lw
 
     -- and its parameters
     accepted-kept : (k : ℕ) → k < acceptedAt → getD (keptWords delta n p w s) k 0 ≡ getD s k 0
@@ -151,24 +185,31 @@ module _ (s : List ℕ) (l : length s ≡ shareLen) where
     unfolding keptWords fiveOf
     accepted-prft =
         prft-in (keptWords delta n p w s)
-        ∙ ap prftIn (five-at (take acceptedAt s) n (fiveOf delta p) w front-long (five-long delta p))
+        ∙ ap prftIn (five-at (take acceptedAt s) n (fiveOf delta p) (expectedBy (nextTime (trackOf s) w)) w front-long (five-long delta p))
 
     accepted-set : drop setAt (keptWords delta n p w s) ≡ w
     unfolding keptWords fiveOf
-    accepted-set = set-at (take acceptedAt s) n (fiveOf delta p) w front-long (five-long delta p)
+    accepted-set = set-at (take acceptedAt s) n (fiveOf delta p) (expectedBy (nextTime (trackOf s) w)) w front-long (five-long delta p)
 
     accepted-count : getD (keptWords delta n p w s) acceptedAt 0 ≡ n
     unfolding keptWords fiveOf
-    accepted-count = count-at (take acceptedAt s) n (fiveOf delta p) w front-long (five-long delta p)
+    accepted-count = count-at (take acceptedAt s) n (fiveOf delta p) (expectedBy (nextTime (trackOf s) w)) w front-long (five-long delta p)
 
     accepted-mark : getD (keptWords delta n p w s) heldAt 0 ≡ 1
     unfolding keptWords fiveOf
-    accepted-mark = mark-at (take acceptedAt s) n (fiveOf delta p) w front-long (five-long delta p)
+    accepted-mark = mark-at (take acceptedAt s) n (fiveOf delta p) (expectedBy (nextTime (trackOf s) w)) w front-long (five-long delta p)
 
-    accepted-reference : (t : Track) → prftIn (fiveOf delta p) ≡ true → setOk t w ≡ true → referenceOk t (keptWords delta n p w s) ≡ true
+    accepted-expected : expectedOk (trackOf s) (keptWords delta n p w s) ≡ true
+    unfolding keptWords fiveOf expectedOk
+    accepted-expected =
+        let e = expectedBy (nextTime (trackOf s) w) in
+        let a : expectedIn (keptWords delta n p w s) ≡ e = expected-at (take acceptedAt s) n (fiveOf delta p) e w front-long (five-long delta p) in
+        (λ j. same (a j) (expectedBy (nextTime (trackOf s) (accepted-set j)))) ∙ same-self e
+
+    accepted-reference : prftIn (fiveOf delta p) ≡ true → setOk (trackOf s) w ≡ true → referenceOk (trackOf s) (keptWords delta n p w s) ≡ true
     unfolding referenceOk
-    accepted-reference t a b =
-        rw accepted-mark (both _ _ refl (both _ _ (accepted-prft ∙ a) (ap (setOk t) accepted-set ∙ b)))
+    accepted-reference a b =
+        rw accepted-mark (both _ _ refl (both _ _ (accepted-prft ∙ a) (both _ _ accepted-expected (ap (setOk (trackOf s)) accepted-set ∙ b))))
 
     -- it is lawful where the new set is, the count, and the `prft` that is kept
     pub accepted-lawful : (side : Side) → isOpen s ≡ true → Opened side s → acceptedOk side n ≡ true → (delta ≡ true → prftOk s ≡ true)
@@ -180,5 +221,24 @@ module _ (s : List ℕ) (l : length s ≡ shareLen) where
         let count : acceptedOk side (getD (keptWords delta n p w s) acceptedAt 0) ≡ true = ap (acceptedOk side) accepted-count ∙ m in
         let kept : referenceOk (trackOf (keptWords delta n p w s)) (keptWords delta n p w s) ≡ true =
         ap (λ x. referenceOk (narrow x) (keptWords delta n p w s)) accepted-asked
-        ∙ accepted-reference (trackOf s) (five-ok delta p a b) c in
+        ∙ accepted-reference (five-ok delta p a b) c in
         rw z (both _ _ (ap lawfulTrack accepted-asked ∙ h .track) (both _ _ count kept))
+
+    -- the share before what is expected is renewed, and after it
+    stored-with : storedWords delta n p w s ≡ take acceptedAt s ++ (n ∷ referenceWords (fiveOf delta p) (expectedWords (expectedIn s)) w)
+    unfolding storedWords fiveOf
+    stored-with = ap (λ (l : List ℕ). keptWith l delta n p w s) two-words
+
+    pub stored-long : length w ≡ setLen → length (storedWords delta n p w s) ≡ shareLen
+    stored-long lw = ap length stored-with ∙ all-long (take acceptedAt s) n (fiveOf delta p) (expectedIn s) w front-long (five-long delta p) lw
+
+    pub stored-set : drop setAt (storedWords delta n p w s) ≡ w
+    stored-set = ap (drop setAt) stored-with ∙ set-at (take acceptedAt s) n (fiveOf delta p) (expectedIn s) w front-long (five-long delta p)
+
+    pub renewed-kept : (t : Track) → t ≡ trackOf s → renewed t (storedWords delta n p w s) ≡ keptWords delta n p w s
+    unfolding renewed keptWords fiveOf front
+    renewed-kept t e =
+        let a : take pastAt (storedWords delta n p w s) ≡ take acceptedAt s ++ (n ∷ 1 ∷ fiveOf delta p) =
+        ap (take pastAt) stored-with ∙ front-at (take acceptedAt s) n (fiveOf delta p) (expectedIn s) w front-long (five-long delta p) in
+        (λ j. a j ++ (expectedFor (e j) (stored-set j) ++ stored-set j))
+        ∙ append-assoc (take acceptedAt s) (n ∷ 1 ∷ fiveOf delta p) (expectedFor (trackOf s) w ++ w)

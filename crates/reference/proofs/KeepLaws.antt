@@ -8,16 +8,19 @@ use mathlib.Core.List.{List, [], _∷_, _++_, append-assoc, append-nil}
 use borrow.Author.Tests.{eqb-true, not-true, not-false}
 use lib.Dec.{eqb}
 use lib.ListN.{length, getD, take, drop, replicate, length-append, length-drop, drop-of-length-le, take-append-drop}
-use lib.Seq.{slice, sets, sets-eq, take-at, length-sets, length-take-le, length-slice, take-all, take-take, take-append-add, drop-append-add, drop-drop, getD-drop, slice-empty, paste, paste-zero, take-paste, drop-paste, length-paste}
+use lib.Seq.{slice, sets, sets-eq, take-at, length-sets, length-take-le, length-slice, take-all, take-take, take-append-add, drop-append-add, drop-drop, getD-drop, paste, paste-zero, take-paste, drop-paste, length-paste}
 use Rattle.laws.specs.Tests.{allZero}
 use Rattle.laws.proofs.SliceLaws.{slice-lent, slice-join, slice-to-end, slice-drop}
 use Rattle.laws.proofs.TestLaws.{zeros-are}
 use Rattle.prft_value.specs.declared.Prft.{Prft}
+use Rattle.track.specs.declared.Track.{Track}
+use Rattle.effective.specs.declared.expected.Expected.{Expected}
+use Rattle.effective.specs.Expected.{nextTime, expectedBy}
 use Rattle.field_table.specs.Lines.{lines, bmdtAt, sizesAt, setLen, lineCount, placeOf}
 use Rattle.field_set.specs.Lawful.{Tidy}
 use Rattle.field_set.proofs.TidyLaws.{place-inside}
-use Rattle.share_words.specs.Share.{acceptedAt, prftAt, prftEnd, setAt, shareLen}
-use Rattle.reference.specs.Kept.{prftWords, keptWords}
+use Rattle.share_words.specs.Share.{acceptedAt, prftAt, prftEnd, pastAt, setAt, shareLen}
+use Rattle.reference.specs.Kept.{prftWords, expectedWords, storedWords, renewed}
 
 -- ---- the loop of `copy_set`: of the set, what stands before a place is the new one's, and the rest the old one's
 
@@ -223,7 +226,7 @@ rest-stays s vs i e h k =
 pub record Kept (delta : Bool) (p : Prft) (q : ℕ) (x s₀ s : List ℕ) : Type 0 where
   pub long : length s ≡ length s₀
   pub rest : drop setAt s ≡ drop setAt s₀
-  pub words : take setAt s ++ x ≡ keptWords delta q p x s₀
+  pub words : take setAt s ++ x ≡ storedWords delta q p x s₀
 
 -- the mark of a `prft`
 pub marked : (p : Prft) (m : ℕ) → p .stands ≡ true → m ≡ 1 → m ≡ cond (p .stands) 1 0
@@ -234,20 +237,21 @@ unmarked p m h e = rw h e
 
 module _ (delta : Bool) (p : Prft) (q : ℕ) (x s₀ : List ℕ) (l : length s₀ ≡ shareLen) where
   -- a delta object leaves the `prft`
-  delta-words : take setAt (sets s₀ acceptedAt (q ∷ 1 ∷ [])) ++ x ≡ keptWords true q p x s₀
-  unfolding keptWords
+  delta-words : take setAt (sets s₀ acceptedAt (q ∷ 1 ∷ [])) ++ x ≡ storedWords true q p x s₀
+  unfolding storedWords
   delta-words =
-      ap (λ (z : List ℕ). z ++ x) (stored s₀ (q ∷ 1 ∷ []) acceptedAt prftAt setAt refl (omega arith) (omega arith))
-      ∙ append-assoc (take acceptedAt s₀) (q ∷ 1 ∷ slice prftAt prftEnd s₀) x
+      ap (λ (z : List ℕ). z ++ x)
+      (stored s₀ (q ∷ 1 ∷ []) acceptedAt prftAt setAt refl (omega arith) (omega arith)
+      ∙ ap (λ (z : List ℕ). take acceptedAt s₀ ++ (q ∷ 1 ∷ z)) (slice-join prftAt prftEnd setAt s₀ (omega arith) (omega arith) (omega arith)))
+      ∙ append-assoc (take acceptedAt s₀) (q ∷ 1 ∷ (slice prftAt prftEnd s₀ ++ slice pastAt setAt s₀)) x
+      ∙ ap (λ (z : List ℕ). take acceptedAt s₀ ++ (q ∷ 1 ∷ z)) (append-assoc (slice prftAt prftEnd s₀) (slice pastAt setAt s₀) x)
 
   -- a full object replaces it
-  full-words : take setAt (sets s₀ acceptedAt (q ∷ 1 ∷ prftWords p)) ++ x ≡ keptWords false q p x s₀
-  unfolding keptWords prftWords
+  full-words : take setAt (sets s₀ acceptedAt (q ∷ 1 ∷ prftWords p)) ++ x ≡ storedWords false q p x s₀
+  unfolding storedWords prftWords
   full-words =
-      ap (λ (z : List ℕ). z ++ x)
-      (stored s₀ (q ∷ 1 ∷ prftWords p) acceptedAt setAt setAt refl (omega arith) (omega arith)
-      ∙ ap (λ (z : List ℕ). take acceptedAt s₀ ++ (q ∷ 1 ∷ prftWords p ++ z)) (slice-empty setAt s₀))
-      ∙ append-assoc (take acceptedAt s₀) (q ∷ 1 ∷ prftWords p) x
+      ap (λ (z : List ℕ). z ++ x) (stored s₀ (q ∷ 1 ∷ prftWords p) acceptedAt prftEnd setAt refl (omega arith) (omega arith))
+      ∙ append-assoc (take acceptedAt s₀) (q ∷ 1 ∷ (prftWords p ++ slice pastAt setAt s₀)) x
 
   pub kept-delta : not delta ≡ false → (s : List ℕ) → s ≡ sets s₀ acceptedAt (q ∷ 1 ∷ []) → Kept delta p q x s₀ s
   kept-delta d s e =
@@ -255,7 +259,7 @@ module _ (delta : Bool) (p : Prft) (q : ℕ) (x s₀ : List ℕ) (l : length s�
         long = ap length e ∙ length-sets s₀ acceptedAt (q ∷ 1 ∷ []);
         rest = ap (drop setAt) e ∙ rest-stays s₀ (q ∷ 1 ∷ []) acceptedAt setAt (omega arith) (omega arith);
         words =
-            ap (λ (z : List ℕ). take setAt z ++ x) e ∙ delta-words ∙ ap (λ (b : Bool). keptWords b q p x s₀) (sym (not-false delta d));
+            ap (λ (z : List ℕ). take setAt z ++ x) e ∙ delta-words ∙ ap (λ (b : Bool). storedWords b q p x s₀) (sym (not-false delta d));
       }
 
   pub kept-full : not delta ≡ true → (m : ℕ) → m ≡ cond (p .stands) 1 0 → (s : List ℕ)
@@ -267,8 +271,17 @@ module _ (delta : Bool) (p : Prft) (q : ℕ) (x s₀ : List ℕ) (l : length s�
       record {
         long = ap length f ∙ length-sets s₀ acceptedAt (q ∷ 1 ∷ prftWords p);
         rest = ap (drop setAt) f ∙ rest-stays s₀ (q ∷ 1 ∷ prftWords p) acceptedAt setAt (omega arith) (omega arith);
-        words = ap (λ (z : List ℕ). take setAt z ++ x) f ∙ full-words ∙ ap (λ (b : Bool). keptWords b q p x s₀) (sym (not-true delta d));
+        words = ap (λ (z : List ℕ). take setAt z ++ x) f ∙ full-words ∙ ap (λ (b : Bool). storedWords b q p x s₀) (sym (not-true delta d));
       }
+
+-- what is expected is stored in its two words
+pub two-stored : (t : Track) (s : List ℕ) (e : Expected) → length s ≡ shareLen → e ≡ expectedBy (nextTime t (drop setAt s))
+    → sets s pastAt (e .past ∷ e .time ∷ []) ≡ renewed t s
+unfolding renewed
+two-stored t s e l h =
+    sets-eq (e .past ∷ e .time ∷ []) s pastAt (omega arith)
+    ∙ append-assoc (take pastAt s) (e .past ∷ e .time ∷ []) (drop setAt s)
+    ∙ ap (λ (f : Expected). take pastAt s ++ (expectedWords f ++ drop setAt s)) h
 
 -- and with the set, still as many
 pub copied-long : (x s₀ s : List ℕ) → length s₀ ≡ shareLen → length x ≡ setLen → length s ≡ length s₀ → length (take setAt s ++ x) ≡ length s₀

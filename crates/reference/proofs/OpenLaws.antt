@@ -7,17 +7,19 @@ use mathlib.Core.List.{List}
 use borrow.Author.Tests.{not-true}
 use lib.Dec.{eqb}
 use lib.ListN.{length, getD, take, drop, length-drop, take-append-drop}
-use lib.Seq.{drop-drop}
+use lib.Seq.{drop-drop, getD-drop}
 use Rattle.laws.specs.Tests.{_and_, allZero}
-use Rattle.laws.proofs.TestLaws.{left, right, allZero-append}
+use Rattle.laws.proofs.TestLaws.{left, right, le-at, zeros-le, allZero-append}
 use Rattle.track.specs.declared.Track.{Track}
 use Rattle.track.specs.Track.{lawful as lawfulTrack}
 use Rattle.field_table.specs.Lines.{setLen}
 use Rattle.field_set.specs.Lawful.{Tidy, lawful as lawfulSet}
 use Rattle.field_set.proofs.TidyLaws.{lawful-tidy, zeros-tidy}
+use Rattle.effective.specs.Expected.{nextTime, expectedBy}
+use Rattle.effective.proofs.ExpectedLaws.{kept-sum, same-is, zeros-next}
 use Rattle.slots.specs.declared.lawful.Side.{Side}
-use Rattle.share_words.specs.Share.{trackAt, acceptedAt, heldAt, prftAt, setAt, shareLen}
-use Rattle.slots.specs.Share.{askedOf, trackOf, isOpen, acceptedOk, prftOk, setOk, referenceOk, openOk, lawful}
+use Rattle.share_words.specs.Share.{trackAt, acceptedAt, heldAt, prftAt, pastAt, expectedAt, setAt, shareLen}
+use Rattle.slots.specs.Share.{askedOf, trackOf, expectedIn, isOpen, acceptedOk, prftOk, expectedOk, setOk, referenceOk, openOk, lawful}
 
 -- an open share, taken apart
 pub record Opened (side : Side) (s : List ℕ) : Type 0 where
@@ -37,8 +39,8 @@ pub held-facts : (t : Track) (s : List ℕ) → referenceOk t s ≡ true → eqb
     → (prftOk s ≡ true) × (lawfulSet t (drop setAt s) ≡ true)
 unfolding referenceOk setOk
 held-facts t s h z =
-    let ok : (eqb (getD s heldAt 0) 1 and prftOk s and setOk t (drop setAt s)) ≡ true = rw z at h in
-    (left _ _ (right _ _ ok), left _ _ (right _ _ (right _ _ ok)))
+    let ok : (eqb (getD s heldAt 0) 1 and prftOk s and expectedOk t s and setOk t (drop setAt s)) ≡ true = rw z at h in
+    (left _ _ (right _ _ ok), left _ _ (right _ _ (right _ _ (right _ _ ok))))
 
 -- the words of the reference's set
 pub reference-long : (s : List ℕ) → length s ≡ shareLen → length (drop setAt s) ≡ setLen
@@ -52,6 +54,10 @@ lent s = take (length s - setAt) (drop setAt s)
 rest-zero : (n : ℕ) (l : List ℕ) → allZero l ≡ true → allZero (drop n l) ≡ true
 rest-zero n l e = right _ _ (sym (allZero-append (take n l) (drop n l)) ∙ ap allZero (take-append-drop n l) ∙ e)
 
+-- where nothing is stored of a reference, nothing is of its set
+set-zero : (s : List ℕ) → allZero (drop prftAt s) ≡ true → allZero (drop setAt s) ≡ true
+set-zero s z = ap allZero (sym (drop-drop (setAt - prftAt) prftAt s)) ∙ rest-zero (setAt - prftAt) (drop prftAt s) z
+
 -- a field that doesn't stand in the reference, if there is one, has nothing stored
 pub share-tidy : (side : Side) (s : List ℕ) → length s ≡ shareLen → lawful side s ≡ true → isOpen s ≡ true → Tidy (drop setAt s)
 unfolding referenceOk
@@ -61,7 +67,26 @@ share-tidy side s l h o = go (eqb (getD s heldAt 0) 0) refl
     r = opened-facts side s h o .reference
 
     go : (b : Bool) → eqb (getD s heldAt 0) 0 ≡ b → Tidy (drop setAt s)
+    go true q = zeros-tidy (drop setAt s) (reference-long s l) (set-zero s (rw q at r))
+    go false q = lawful-tidy (trackOf s) (drop setAt s) (reference-long s l) (held-facts (trackOf s) s r q .1)
+
+-- what is expected behind the words of the share, whether a reference is held or not
+pub expected-there : (side : Side) (s : List ℕ) → length s ≡ shareLen → lawful side s ≡ true → isOpen s ≡ true
+    → expectedIn s ≡ expectedBy (nextTime (trackOf s) (drop setAt s))
+unfolding referenceOk expectedOk
+expected-there side s l h o = go (eqb (getD s heldAt 0) 0) refl
+  where
+    r : referenceOk (trackOf s) s ≡ true
+    r = opened-facts side s h o .reference
+
+    go : (b : Bool) → eqb (getD s heldAt 0) 0 ≡ b → expectedIn s ≡ expectedBy (nextTime (trackOf s) (drop setAt s))
     go true q =
         let z : allZero (drop prftAt s) ≡ true = rw q at r in
-        zeros-tidy (drop setAt s) (reference-long s l) (ap allZero (sym (drop-drop (setAt - prftAt) prftAt s)) ∙ rest-zero (setAt - prftAt) (drop prftAt s) z)
-    go false q = lawful-tidy (trackOf s) (drop setAt s) (reference-long s l) (held-facts (trackOf s) s r q .1)
+        let past : getD s pastAt 0 ≡ 0 = sym (getD-drop prftAt s (pastAt - prftAt) 0) ∙ omega (arith, le-at 0 (drop prftAt s) (pastAt - prftAt) (zeros-le 0 _ z)) in
+        let time : getD s expectedAt 0 ≡ 0 = sym (getD-drop prftAt s (expectedAt - prftAt) 0) ∙ omega (arith, le-at 0 (drop prftAt s) (expectedAt - prftAt) (zeros-le 0 _ z)) in
+        (λ j. record { past = past j; time = time j })
+        ∙ kept-sum 0 (omega arith)
+        ∙ ap expectedBy (sym (zeros-next (trackOf s) (drop setAt s) (set-zero s z)))
+    go false q =
+        let ok : (eqb (getD s heldAt 0) 1 and prftOk s and expectedOk (trackOf s) s and setOk (trackOf s) (drop setAt s)) ≡ true = rw q at r in
+        same-is _ _ (left _ _ (right _ _ (right _ _ ok)))

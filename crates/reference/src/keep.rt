@@ -1,12 +1,14 @@
 // The reference into the share.
-// Letters: `s` the words of a share, `x` the words of the new set.
+// Letters: `t` the track, `s` the words of a share, `x` the words of the new set.
 ghost use mathlib.Core.Path.{_≡_};
 ghost use mathlib.Core.List.{_++_};
 ghost use lib.ListN.{length, take, drop};
 ghost use Rattle.field_table.specs.Lines.{setLen};
 ghost use Rattle.field_set.specs.Lawful.{Tidy};
 ghost use Rattle.share_words.specs.Share.{setAt, shareLen};
-ghost use Rattle.reference.specs.Kept.{replacedBy, keptWords};
+ghost use Rattle.effective.specs.Durations.{Timed};
+ghost use Rattle.reference.specs.Kept.{replacedBy, storedWords, renewed};
+use effective::expected;
 use field_table::lines;
 use prft_value::Prft;
 use share_words::share;
@@ -33,33 +35,29 @@ fn copy_set(s: &mut [u64], x: &[u64])
     }
 }
 
-pub fn renew(t: Track, s: &mut [u64]) {
-    let e = effective::expected::expected(t, &s[share::SET..]);
-    s[share::PAST] = e.past;
-    s[share::EXPECTED] = e.time;
-}
-
 // What an accepted object replaces of the reference.
 pub struct Replaced {
     pub set: bool,
     pub prft: bool,
+    pub expected: bool,
 }
 
-// The set always: a delta is read against the object before it, and not against the last full one. The prft with a full object alone.
+// The set always, and what is expected behind it: a delta is read against the object before it, and not against the last full one. The prft with a full object alone.
 fn replaced_by(delta: bool) -> Replaced
     ensures { λ r. ⌜ r ≡ replacedBy delta ⌝ }
 {
     Replaced {
         set: true,
         prft: !delta,
+        expected: true,
     }
 }
 
-// The reference after an accepted object.
+// The reference after an accepted object, but for what is expected behind it.
 pub fn keep(s: &mut [u64], delta: bool, prft: Prft, sequence: u64, x: &[u64])
     requires { ⌜ (length (now s) ≡ shareLen) × (length (now x) ≡ setLen) ⌝ }
     requires { ⌜ Tidy (drop setAt (now s)) × Tidy (now x) ⌝ }
-    ensures { λ r. ⌜ now (s .exit) ≡ keptWords delta sequence prft (now (x .entry)) (now (s .entry)) ⌝ }
+    ensures { λ r. ⌜ now (s .exit) ≡ storedWords delta sequence prft (now (x .entry)) (now (s .entry)) ⌝ }
 {
     let new = replaced_by(delta);
     s[share::ACCEPTED] = sequence;
@@ -73,5 +71,18 @@ pub fn keep(s: &mut [u64], delta: bool, prft: Prft, sequence: u64, x: &[u64])
     }
     if new.set {
         copy_set(s, x);
+    }
+}
+
+// What is expected behind the reference, once the share holds it: its own BMDT and durations count, and none of the one before.
+pub fn renew(t: Track, delta: bool, s: &mut [u64])
+    requires { ⌜ (length (now s) ≡ shareLen) × Timed (drop setAt (now s)) ⌝ }
+    ensures { λ r. ⌜ now (s .exit) ≡ renewed t (now (s .entry)) ⌝ }
+{
+    let new = replaced_by(delta);
+    if new.expected {
+        let e = expected::expected_behind(t, &s[share::SET..]);
+        s[share::PAST] = e.past;
+        s[share::EXPECTED] = e.time;
     }
 }

@@ -1,0 +1,61 @@
+-- `reference::keep::renew` meets its contract: two stores of what the words of the set come to. Assumes nothing.
+use mathlib.Core.Path.{sym, _∙_, ap}
+use mathlib.Core.Bool.{false≢true}
+use denote.Ref.{now}
+use borrow.Author.Needs.{needs}
+use borrow.Rule.Slice.PartAt.{part-to-end}
+use Rattle.share_words.specs.Share.{setAt}
+use Rattle.effective.specs.Expected.{nextTime, expectedBy}
+use Rattle.reference.specs.declared.keep.Replaced.{Replaced}
+use Rattle.reference.proofs.KeepLaws.{two-stored}
+use Rattle.reference.proofs.keep.renew.Statement.{statement}
+use Rattle.reference.proofs.keep.renew.Tie as tie
+
+replaced-by-requires : tie.Need-replaced-by-requires
+replaced-by-requires c κs = search needs
+
+sub-expected-behind : tie.Need-sub-expected-behind
+sub-expected-behind c = search needs
+
+part-expected-behind-start : tie.Need-part-expected-behind-start
+part-expected-behind-start c = search needs
+
+part-expected-behind-end : tie.Need-part-expected-behind-end
+part-expected-behind-end c = search needs
+
+expected-behind-requires : tie.Need-expected-behind-requires
+expected-behind-requires c κs = let b = c .before .before .before .before .before in rw (part-to-end (now (b .args .s)) setAt) (b .pre .1)
+
+slice-write-s : tie.Need-slice-write-s
+slice-write-s c = search needs
+
+slice-write-s-2 : tie.Need-slice-write-s-2
+slice-write-s-2 c = search needs
+
+same-length : tie.Need-same-length
+same-length c = search needs
+
+returns : tie.Need-returns
+returns c =
+    let b = c .before .before .before .before .before .before in
+    let s = now (b .args .s) in
+    two-stored (b .args .t) s _ (b .pre .0) (c .expected-behind .ensures ∙ ap (λ w. expectedBy (nextTime (b .args .t) w)) (part-to-end s setAt))
+
+-- no object leaves it as it was
+returns-2 : tie.Need-returns-2
+returns-2 c = absurd (false≢true (sym (c .if1 .left) ∙ ap (λ (r : Replaced). r .expected) (c .before .replaced-by .ensures)))
+
+pub renew-spec : {M : Type 1} → statement M
+renew-spec =
+    tie.close
+    (tie.spec
+    replaced-by-requires
+    sub-expected-behind
+    part-expected-behind-start
+    part-expected-behind-end
+    expected-behind-requires
+    slice-write-s
+    slice-write-s-2
+    same-length
+    returns
+    returns-2)
