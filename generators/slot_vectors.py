@@ -1,17 +1,19 @@
 #!/usr/bin/env python3
 """Prints what the program slot_vectors has to write: its output is crates/slot_vectors/stdout. It takes half a minute.
 
-Written from document 01's text, with the layout of docs/ARCHITECTURE.md and the list "Which rules a lawful share keeps" of
+Written from the text of documents 01 and 02, with the layout of docs/ARCHITECTURE.md and the list "Which rules a lawful share keeps" of
 docs/DECISIONS.md, and not from the code:
 - "Order: 18 for length, 1, 18 for the share, 2 or 3, 4", and a refusal changes nothing;
-- "A share is lawful if its numbers keep this page's rules and every place not in use is 0".
+- "A share is lawful if its numbers keep this page's rules and every place not in use is 0";
+- "Store the expected BMDT in each share, encoder's and receiver's: the sum it replaces wherever a reference is held, else 0; a sum past 2^64-1
+  is kept as a mark from which no BMDT is derived. A share where it differs is unlawful, 18." (document 02, order 7)
 """
 
 NONE, CENC, CBCS = 0, 1, 2
 U5, U8, U16, U24, U32, U62, U64 = (2 ** bits - 1 for bits in (5, 8, 16, 24, 32, 62, 64))
 
 # The words of a share, the last 981 of them a set's
-ACCEPTED, HELD, PRFT, PRFT_END, SET = 8, 9, 10, 15, 15
+DURATION, ACCEPTED, HELD, PRFT, PRFT_END, PAST, EXPECTED, SET = 3, 8, 9, 10, 15, 15, 16, 17
 SHARE = SET + 981
 
 # The words of a set: BMDT, the sample count, and a region for each other id: mark at, room, values in use, largest value
@@ -103,6 +105,20 @@ def lawful_set(words, trex_size, protection, iv_size):
     return (16 not in ids or field(words, 16, 1) == [iv_size]) and sizes_agree(words, ids, trex_size)
 
 
+def durations(words, trex_duration):
+    """The sum of the effective durations: each sample's own, or one for all, or trex's."""
+    if words[REGIONS[3][0]]:
+        return sum(field(words, 3, words[COUNT]))
+    return words[COUNT] * (field(words, 4, 1)[0] if words[REGIONS[4][0]] else trex_duration)
+
+
+def expected(share):
+    """The mark of a sum past 2^64-1, and the sum where there is no mark."""
+    words = share[SET:]
+    time = words[BMDT] + durations(words, share[DURATION])
+    return [0, time] if time <= U64 else [1, 0]
+
+
 def lawful(side, share):
     if share[0] == 0:
         return not any(share)
@@ -111,7 +127,8 @@ def lawful(side, share):
     if share[HELD] == 0:
         return not any(share[PRFT:])
     trex_size, protection, iv_size = share[4], share[6], share[7]
-    return share[HELD] == 1 and lawful_prft(*share[PRFT:PRFT_END]) and lawful_set(share[SET:], trex_size, protection, iv_size)
+    return (share[HELD] == 1 and lawful_prft(*share[PRFT:PRFT_END]) and share[PAST:SET] == expected(share)
+            and lawful_set(share[SET:], trex_size, protection, iv_size))
 
 
 # The calls, each with what it makes of a share
@@ -208,6 +225,7 @@ def held(samples, ids, accepted=0, protection=NONE, iv_size=0, prft=None, counts
         mark, _, values, _ = REGIONS[i]
         numbers = others.get("id%d" % i) or (counts if i == 11 else [iv_size] if i == 16 else [value] * lengths[values])
         share[SET + mark:SET + mark + 1 + len(numbers)] = [1] + list(numbers)
+    share[PAST:SET] = expected(share)
     return share
 
 
@@ -230,7 +248,7 @@ SHARES = {
         held(3, [6, 9, 11, 13, 15], 3, CENC, 16, counts=[1, 2, 1], id6=[6], id13=[3, 1, 1, 3], id15=[3, 2, 2, 3]),
         held(0, [16], 4, CENC, 8, prft=0),
         held(4, [1, 3, 5, 11, 13, 15], 5, CBCS, counts=[3, 3, 3, 0], value=0),
-        held(3, [6, 9, 11, 13, 15], 6, CENC, 16, counts=[0, 0, 0], value=0),
+        held(3, [4, 6, 9, 11, 13, 15], 6, CENC, 16, counts=[0, 0, 0], value=0),
     ],
 }
 
@@ -248,22 +266,34 @@ def damaged(side, table, slot, place, value):
     return answer
 
 
-def sweep(side, table, value):
+def moved(side, table, slot, place, value):
+    """As damaged, where the expected BMDT moves with the word. Alone a BMDT or a duration that changes is 18 for its sum: only so are their bounds
+    seen."""
+    time = SHARE * slot + EXPECTED
+    kept = table[time]
+    table[time] = (kept + value - table[SHARE * slot + place]) % 2 ** 64
+    answer = damaged(side, table, slot, place, value)
+    table[time] = kept
+    return answer
+
+
+def sweep(side, table, letter, way, value):
     """A line for each share: 18 at first, and every other number at the word from which on it is given."""
     for slot in range(8):
         told, before = "", 18
         for place in range(SHARE):
-            answer = damaged(side, table, slot, place, value)
+            answer = way(side, table, slot, place, value)
             if answer != before:
                 told += " %d=%d" % (place, answer)
             before = answer
-        line(side, slot, " v%d%s" % (value, told))
+        line(side, slot, " %s%d%s" % (letter, value, told))
 
 
 def damage(side):
     table = sum(SHARES[side], [])
     for value in VALUES:
-        sweep(side, table, value)
+        sweep(side, table, "v", damaged, value)
+        sweep(side, table, "m", moved, value)
     for slot in range(8):
         turns(side, table, slot, "bggcgobg")
 

@@ -38,7 +38,7 @@ use Rattle.locmaf_write_block.specs.declared.cells.Change.{Change}
 use Rattle.locmaf_write_block.specs.declared.cells.Change.the-variants.{Omitted, Deleted, Sent}
 use Rattle.locmaf_write_tuples.specs.Items.{Items, nothing, _before_, itemsIf, numberItem, onMeasured, runItem, wideBytes, bytesOf, pairMost}
 use Rattle.locmaf_write_block.specs.Changes.{chunkLines, onChange, news, olds, changeOf, sentItems, lineItems, lineMost}
-use Rattle.locmaf_write_block.specs.Fields.{isDeleted, goneOf, beforeBmdt, beforeCount, linesItems, bmdtItems, countItems, fieldItems, deletionItems, goneMost}
+use Rattle.locmaf_write_block.specs.Fields.{isDeleted, goneOf, beforeBmdt, beforeCount, linesItems, bmdtIf, bmdtItems, countItems, fieldItems, deletionItems, goneMost}
 use Rattle.locmaf_write_prft.specs.Prft.{timesItems, unlessItems, versionItems, flagsItems}
 use Rattle.locmaf_write_block.proofs.WideLaws.{wide-length}
 use Rattle.locmaf_write_tuples.proofs.TupleLaws.{run-most as numbers-most}
@@ -213,7 +213,7 @@ module _ (F : List Row) (eight : longest F ≤ 8) where
       high = let k = sums in (omega (arith, k), tt)
 
       pub fields-most : Most F fieldsMost (fieldItems F t delta r x)
-      unfolding fieldItems bmdtItems countItems lines
+      unfolding fieldItems bmdtIf bmdtItems countItems lines
       fields-most =
           before-most lowMost afterLow _ _ (lines-most (slice 0 beforeBmdt lines) low)
           (before-most pairMost (middleMost + afterMiddle) _ _ (if-most pairMost _ _ (number-most 10 _))

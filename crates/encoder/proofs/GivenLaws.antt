@@ -18,8 +18,10 @@ use Rattle.field_set.specs.Lawful.{lawful}
 use Rattle.field_rules.proofs.SetLaws.{words-start}
 use Rattle.slots.specs.declared.lawful.Side.the-variants.{Encoder}
 use Rattle.share_words.specs.Share.{setAt}
-use Rattle.slots.specs.Share.{askedOf, trackOf}
-use Rattle.reference.proofs.OpenLaws.{Opened, opened-facts, held-facts, lent, reference-long}
+use Rattle.slots.specs.Share.{askedOf, trackOf, expectedIn}
+use Rattle.effective.specs.declared.expected.Expected.{Expected}
+use Rattle.effective.specs.Expected.{nextTime, expectedBy}
+use Rattle.reference.proofs.OpenLaws.{Opened, opened-facts, held-facts, expected-there, lent, reference-long}
 use Rattle.cmaf_read_shape.specs.Parts.{bodyOf, endOf}
 use Rattle.cmaf_read_shape.proofs.PartLaws.{body-in}
 use Rattle.cmaf_read_shape.proofs.TopLaws.{top-in, styp-inside}
@@ -107,6 +109,13 @@ module _ {F : List Row} {t : Track} {s c : List ℕ} {k : Chunk} {ws x : List �
   -- the share
   facts : Opened Encoder s
   facts = opened-facts Encoder s (h .on-share .lawful-share) (h .on-share .opened)
+
+  -- what the share has as expected is what is expected behind the set that is lent
+  pub expected-is : {e : Expected} → e ≡ expectedIn s → e ≡ expectedBy (nextTime t (lent s))
+  expected-is q =
+      q
+      ∙ expected-there Encoder s (h .on-share .share) (h .on-share .lawful-share) (h .on-share .opened)
+      ∙ (λ j. expectedBy (nextTime (sym (h .on-share .track-is) j) (sym (part-to-end s setAt) j)))
 
   -- the sets can be written: in a delta there is a reference
   pub writable : (delta : Bool) → Held delta s → Writable t delta (lent s) x

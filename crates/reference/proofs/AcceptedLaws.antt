@@ -1,7 +1,7 @@
 -- The words of a share after an accepted object: their number, and that they are lawful. Assumes nothing.
 use Prim.Native.Nat.{ℕ, _+_, _-_, _≤_, _<_}
 use native.Mathlib.Omega.{arith}
-use mathlib.Core.Path.{_≡_, refl, sym, _∙_, ap, ap₂}
+use mathlib.Core.Path.{_≡_, refl, sym, _∙_, ap, ap₂, subst}
 use mathlib.Core.Logic.{_⊎_, inl, inr}
 use mathlib.Core.Bool.{Bool, true, false, cond, _&&_, _||_}
 use mathlib.Core.List.{List, [], _∷_, _++_, append-assoc}
@@ -21,6 +21,7 @@ use Rattle.share_words.specs.Share.{acceptedAt, heldAt, prftAt, ntpAt, mediaTim
 use Rattle.slots.specs.Share.{u24, u62, asked, askedOf, trackOf, expectedIn, isOpen, acceptedOk, prftOk, expectedOk, setOk, referenceOk, openOk, lawful}
 use Rattle.prft_value.specs.declared.Prft.{Prft}
 use Rattle.effective.specs.declared.expected.Expected.{Expected}
+use Rattle.effective.specs.Durations.{Timed}
 use Rattle.effective.specs.Expected.{nextTime, expectedBy, same}
 use Rattle.effective.proofs.ExpectedLaws.{same-self}
 use Rattle.reference.specs.Kept.{prftWords, expectedWords, expectedFor, referenceWords, keptWith, keptWords, storedWords, renewed}
@@ -229,16 +230,24 @@ module _ (s : List ℕ) (l : length s ≡ shareLen) where
     unfolding storedWords fiveOf
     stored-with = ap (λ (l : List ℕ). keptWith l delta n p w s) two-words
 
-    pub stored-long : length w ≡ setLen → length (storedWords delta n p w s) ≡ shareLen
-    stored-long lw = ap length stored-with ∙ all-long (take acceptedAt s) n (fiveOf delta p) (expectedIn s) w front-long (five-long delta p) lw
-
-    pub stored-set : drop setAt (storedWords delta n p w s) ≡ w
+    stored-set : drop setAt (storedWords delta n p w s) ≡ w
     stored-set = ap (drop setAt) stored-with ∙ set-at (take acceptedAt s) n (fiveOf delta p) (expectedIn s) w front-long (five-long delta p)
 
-    pub renewed-kept : (t : Track) → t ≡ trackOf s → renewed t (storedWords delta n p w s) ≡ keptWords delta n p w s
-    unfolding renewed keptWords fiveOf front
-    renewed-kept t e =
-        let a : take pastAt (storedWords delta n p w s) ≡ take acceptedAt s ++ (n ∷ 1 ∷ fiveOf delta p) =
-        ap (take pastAt) stored-with ∙ front-at (take acceptedAt s) n (fiveOf delta p) (expectedIn s) w front-long (five-long delta p) in
-        (λ j. a j ++ (expectedFor (e j) (stored-set j) ++ stored-set j))
-        ∙ append-assoc (take acceptedAt s) (n ∷ 1 ∷ fiveOf delta p) (expectedFor (trackOf s) w ++ w)
+    module _ (kept : List ℕ) (e : kept ≡ storedWords delta n p w s) where
+      -- it can be renewed
+      pub renewable : length w ≡ setLen → Timed w → (length kept ≡ shareLen) × Timed (drop setAt kept)
+      renewable lw h = (
+        ap length (e ∙ stored-with) ∙ all-long (take acceptedAt s) n (fiveOf delta p) (expectedIn s) w front-long (five-long delta p) lw,
+        subst Timed (sym (ap (drop setAt) e ∙ stored-set)) h,
+      )
+
+      -- and then all is kept
+      pub all-kept : (t : Track) → t ≡ trackOf s → (after : List ℕ) → after ≡ renewed t kept → after ≡ keptWords delta n p w s
+      unfolding renewed keptWords fiveOf front
+      all-kept t q after h =
+          let a : take pastAt kept ≡ take acceptedAt s ++ (n ∷ 1 ∷ fiveOf delta p) =
+          ap (take pastAt) (e ∙ stored-with) ∙ front-at (take acceptedAt s) n (fiveOf delta p) (expectedIn s) w front-long (five-long delta p) in
+          let b : drop setAt kept ≡ w = ap (drop setAt) e ∙ stored-set in
+          h
+          ∙ (λ j. a j ++ (expectedFor (q j) (b j) ++ b j))
+          ∙ append-assoc (take acceptedAt s) (n ∷ 1 ∷ fiveOf delta p) (expectedFor (trackOf s) w ++ w)

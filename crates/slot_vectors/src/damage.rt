@@ -5,6 +5,7 @@ use crate::calls::turns;
 use crate::text::item;
 use crate::text::start;
 use printing::marked;
+use share_words::share::EXPECTED;
 use share_words::share::SHARE;
 use share_words::share::TABLE;
 use slots::lawful::Side;
@@ -48,18 +49,37 @@ fn damaged(side: Side, t: &mut [u64; WORDS], at: usize, v: u64) -> u64 {
     99
 }
 
-// The answers where each word in turn is v, a line for each share: 18 at first, and every other number at the word from which on it is given.
-fn sweep(side: Side, t: &mut [u64; WORDS], v: u64) {
+// The same, where the BMDT that is expected moves with the word. Alone a BMDT or a duration that changes is 18 for its sum: only so are their bounds
+// seen.
+fn moved(side: Side, t: &mut [u64; WORDS], at: usize, v: u64) -> u64 {
+    if at < TABLE {
+        let time = at / SHARE * SHARE + EXPECTED;
+        let old = t[time];
+        t[time] = std::num::wrapping_add_u64(old, std::num::wrapping_sub_u64(v, t[at]));
+        let r = damaged(side, t, at, v);
+        t[time] = old;
+        return r;
+    }
+    99
+}
+
+// The answers where each word in turn is v, a line for each share: 18 at first, and every other number at the word from which on it is given. By the
+// letter m what is expected moves with the word.
+fn sweep(side: Side, t: &mut [u64; WORDS], letter: u8, v: u64) {
     let mut was = 18;
     let mut at = 0;
     while at < TABLE {
         let i = (at % SHARE) as u64;
         if i == 0 {
             start(side, (at / SHARE) as u64);
-            item(b'v', v);
+            item(letter, v);
             was = 18;
         }
-        let r = damaged(side, t, at, v);
+        let r = if letter == b'm' {
+            moved(side, t, at, v)
+        } else {
+            damaged(side, t, at, v)
+        };
         if r != was {
             marked(b' ', i);
             marked(b'=', r);
@@ -69,13 +89,14 @@ fn sweep(side: Side, t: &mut [u64; WORDS], v: u64) {
     }
 }
 
-// Every value at every word; then calls on every slot.
+// Every value at every word, alone and with what is expected; then calls on every slot.
 pub fn print(side: Side) {
     let mut t = [0u64; WORDS];
     crate::shares::table(side, &mut t);
     let mut k = 0;
     while k < 23 {
-        sweep(side, &mut t, VALUES[k]);
+        sweep(side, &mut t, b'v', VALUES[k]);
+        sweep(side, &mut t, b'm', VALUES[k]);
         k += 1;
     }
     let mut slot: u64 = 0;

@@ -3,17 +3,19 @@
 ghost use Prim.Native.Nat.{_≤_};
 ghost use Rattle.share_words.specs.Share.{shareLen};
 use crate::calls::WORDS;
+use share_words::share::EXPECTED;
 use share_words::share::HELD;
 use share_words::share::SET;
 use share_words::share::SHARE;
 use share_words::share::TRACK;
 use slots::lawful::Side;
 
-const RUNS: usize = 161;
+const RUNS: usize = 175;
 
 // Runs of words. In the decimal digits of a run stand a value, how many words it is put into, the first of them, what that is counted from (0 the
-// share's first word, 1 the mark of the reference, 2 the set), and the number of the share, from 8 on in the receiver's table: 42_006_399_2_07 puts
-// 42 into six words of share 7, from word 399 of its set on.
+// share's first word, 1 the mark of the reference, 2 the set, 3 the BMDT that is expected), and the number of the share, from 8 on in the receiver's
+// table: 42_006_399_2_07 puts 42 into six words of share 7, from word 399 of its set on. What is expected is added up by hand: of no share is it
+// past 2^64-1, so that its mark is 0.
 const SHARES: [u64; RUNS] = [
     // The encoder's, without a reference.
     9_006_000_0_01,
@@ -22,6 +24,7 @@ const SHARES: [u64; RUNS] = [
     1_001_006_0_02,
     8_001_007_0_02,
     1_001_000_1_02,
+    14_001_000_3_02,
     5_001_000_2_02,
     1_001_001_2_02,
     1_002_269_2_02,
@@ -34,6 +37,7 @@ const SHARES: [u64; RUNS] = [
     1_003_000_1_03,
     4_294_967_296_001_003_1_03,
     1_002_004_1_03,
+    13_001_000_3_03,
     5_001_000_2_03,
     8_001_001_2_03,
     1_002_002_2_03,
@@ -44,6 +48,7 @@ const SHARES: [u64; RUNS] = [
     9_006_000_0_04,
     1_004_000_1_04,
     1_001_005_1_04,
+    13_001_000_3_04,
     5_001_000_2_04,
     8_001_001_2_04,
     1_002_066_2_04,
@@ -56,6 +61,7 @@ const SHARES: [u64; RUNS] = [
     1_001_006_0_05,
     8_001_007_0_05,
     1_001_000_1_05,
+    41_001_000_3_05,
     5_001_000_2_05,
     4_001_001_2_05,
     1_001_002_2_05,
@@ -72,6 +78,7 @@ const SHARES: [u64; RUNS] = [
     1_001_006_0_06,
     16_001_007_0_06,
     1_001_000_1_06,
+    69_001_000_3_06,
     5_001_000_2_06,
     64_001_001_2_06,
     1_001_002_2_06,
@@ -86,6 +93,7 @@ const SHARES: [u64; RUNS] = [
     9_006_000_0_07,
     2_001_006_0_07,
     1_001_000_1_07,
+    77_001_000_3_07,
     5_001_000_2_07,
     8_001_001_2_07,
     1_001_002_2_07,
@@ -103,6 +111,7 @@ const SHARES: [u64; RUNS] = [
     4_294_967_295_001_008_0_09,
     1_004_000_1_09,
     1_001_005_1_09,
+    5_001_000_3_09,
     5_001_000_2_09,
     1_002_066_2_09,
     1_002_133_2_09,
@@ -113,6 +122,7 @@ const SHARES: [u64; RUNS] = [
     9_006_000_0_10,
     1_001_008_0_10,
     1_001_000_1_10,
+    6_001_000_3_10,
     5_001_000_2_10,
     1_001_001_2_10,
     1_002_068_2_10,
@@ -125,6 +135,7 @@ const SHARES: [u64; RUNS] = [
     1_003_000_1_11,
     4_294_967_296_001_003_1_11,
     1_002_004_1_11,
+    23_001_000_3_11,
     5_001_000_2_11,
     2_001_001_2_11,
     1_003_398_2_11,
@@ -138,6 +149,7 @@ const SHARES: [u64; RUNS] = [
     16_001_007_0_12,
     3_001_008_0_12,
     1_001_000_1_12,
+    32_001_000_3_12,
     5_001_000_2_12,
     3_001_001_2_12,
     1_001_200_2_12,
@@ -161,6 +173,7 @@ const SHARES: [u64; RUNS] = [
     4_001_008_0_13,
     1_004_000_1_13,
     1_001_005_1_13,
+    5_001_000_3_13,
     5_001_000_2_13,
     1_001_979_2_13,
     8_001_980_2_13,
@@ -169,6 +182,7 @@ const SHARES: [u64; RUNS] = [
     2_001_006_0_14,
     5_001_008_0_14,
     1_001_000_1_14,
+    5_001_000_3_14,
     5_001_000_2_14,
     4_001_001_2_14,
     1_001_002_2_14,
@@ -178,14 +192,16 @@ const SHARES: [u64; RUNS] = [
     3_003_399_2_14,
     1_001_465_2_14,
     1_001_722_2_14,
-    // cenc with ids 6, 9, 11, 13, 15, whose lists are all 0.
+    // cenc with ids 4, 6, 9, 11, 13, 15, whose values are all 0.
     9_006_000_0_15,
     1_001_006_0_15,
     16_001_007_0_15,
     6_001_008_0_15,
     1_001_000_1_15,
+    5_001_000_3_15,
     5_001_000_2_15,
     3_001_001_2_15,
+    1_001_133_2_15,
     1_001_200_2_15,
     1_001_269_2_15,
     1_001_398_2_15,
@@ -200,7 +216,8 @@ fn counted_from(which: u64) -> usize
     match which {
         0 => TRACK,
         1 => HELD,
-        _ => SET,
+        2 => SET,
+        _ => EXPECTED,
     }
 }
 

@@ -1,8 +1,11 @@
--- `encoder::encode::write` meets its contract: the front is written, and the reference kept. Assumes nothing.
+-- `encoder::encode::write` meets its contract: the front is written, and the reference kept with what is expected behind it. Assumes nothing.
 use mathlib.Core.Path.{refl}
+use denote.Ref.{now}
 use Rattle.field_set.proofs.TidyLaws.{lawful-tidy}
 use Rattle.slots.specs.declared.lawful.Side.the-variants.{Encoder}
+use Rattle.effective.proofs.DurationLaws.{lawful-timed}
 use Rattle.reference.proofs.OpenLaws.{share-tidy}
+use Rattle.reference.proofs.AcceptedLaws.{renewable, all-kept}
 use borrow.Author.Needs.{needs}
 use Rattle.encoder.proofs.encode.write.Statement.{statement}
 use Rattle.encoder.proofs.encode.write.Tie as tie
@@ -21,6 +24,13 @@ keep-requires c κs =
     let a = e .on-share in
     ((a .share, e .set-long), (share-tidy Encoder _ (a .share) (a .lawful-share) (a .opened), lawful-tidy _ _ (e .set-long) (e .lawful-set)))
 
+renew-requires : tie.Need-renew-requires
+renew-requires c κs =
+    let b = c .before .before .before .before .before .before .before .before .before .before .before .before .before .before .before .before .before .before .before in
+    let e = b .pre .0 in
+    let q = c .before .before .before .keep .ensures in
+    renewable (now (b .args .s)) (e .on-share .share) _ _ _ (now (b .args .x)) _ q (e .set-long) (lawful-timed _ _ (e .set-long) (e .lawful-set))
+
 same-length : tie.Need-same-length
 same-length c = search needs
 
@@ -29,10 +39,13 @@ same-length-2 c = search needs
 
 returns : tie.Need-returns
 returns c =
+    let d = c .before .before .before .before .before .before in
+    let b = d .before .before .before .before .before .before .before .before .before .before .before .before .before .before .before .before in
+    let a = b .pre .0 .on-share in
     record {
       answer = refl;
-      written = c .before .before .before .before .before .before .before .before .before .put-front .ensures;
-      kept = c .before .before .keep .ensures;
+      written = d .before .before .before .before .before .before .before .put-front .ensures;
+      kept = all-kept (now (b .args .s)) (a .share) _ _ _ (now (b .args .x)) _ (d .keep .ensures) _ (a .track-is) _ (c .before .before .renew .ensures);
     }
 
 pub write-spec : {M : Type 1} → statement M
@@ -42,6 +55,7 @@ write-spec =
     put-front-requires
     slice-read-sequence
     keep-requires
+    renew-requires
     same-length
     same-length-2
     returns)

@@ -7,7 +7,7 @@ use Rattle.locmaf_write_tuples.specs.Items.{pairMost}
 use Rattle.locmaf_write_block.specs.Fields.{goneMost}
 use Rattle.locmaf_write_block.proofs.LinesLaws.{keep-gone}
 use Rattle.encoder.specs.Planned.{brandsAt}
-use Rattle.encoder.proofs.GivenLaws.{basis-own, writable, kept-share, brands-inside, recorded}
+use Rattle.encoder.proofs.GivenLaws.{basis-own, writable, expected-is, kept-share, brands-inside, recorded}
 use Rattle.encoder.proofs.BrandLaws.{names-length}
 use Rattle.encoder.proofs.BlockLaws.{block-weighed}
 use borrow.Author.Needs.{needs}
@@ -26,32 +26,35 @@ part-r-end c = let b = c .before .before .before .before in let z = b .pre .0 .1
 basis-of-requires : tie.Need-basis-of-requires
 basis-of-requires c κs = let b = c .before .before .before .before .before .before in writable (b .pre .0 .1) _ (b .pre .1 .0)
 
+expected-of-requires : tie.Need-expected-of-requires
+expected-of-requires c κs = c .before .before .before .before .before .before .before .pre .0 .1 .on-share .share
+
 set-size-requires : tie.Need-set-size-requires
 set-size-requires c κs =
-    let b = c .before .before .before .before .before .before .before .before in
-    (basis-own (writable (b .pre .0 .1) _ (b .pre .1 .0)) (c .before .basis-of .ensures), b .pre .1 .1)
+    let b = c .before .before .before .before .before .before .before .before .before in
+    ((basis-own (writable (b .pre .0 .1) _ (b .pre .1 .0)) (c .before .before .basis-of .ensures), expected-is (b .pre .0 .1) (c .before .expected-of .ensures)), b .pre .1 .1)
 
 times-size-requires : tie.Need-times-size-requires
-times-size-requires c κs = c .before .before .before .before .before .before .before .before .before .before .before .pre .0 .1 .on-share .share
+times-size-requires c κs = c .before .before .before .before .before .before .before .before .before .before .before .before .pre .0 .1 .on-share .share
 
 version-size-requires : tie.Need-version-size-requires
-version-size-requires c κs = c .before .before .before .before .before .before .before .before .before .before .before .before .pre .0 .1 .on-share .share
+version-size-requires c κs = c .before .before .before .before .before .before .before .before .before .before .before .before .before .pre .0 .1 .on-share .share
 
 brands-size-requires : tie.Need-brands-size-requires
-brands-size-requires c κs = c .before .before .before .before .before .before .before .before .before .before .before .before .before .pre .0 .1 .brand-bytes
+brands-size-requires c κs = c .before .before .before .before .before .before .before .before .before .before .before .before .before .before .pre .0 .1 .brand-bytes
 
 flags-size-requires : tie.Need-flags-size-requires
-flags-size-requires c κs = c .before .before .before .before .before .before .before .before .before .before .before .before .before .before .pre .0 .1 .on-share .share
+flags-size-requires c κs = c .before .before .before .before .before .before .before .before .before .before .before .before .before .before .before .pre .0 .1 .on-share .share
 
-shared-slice-read-t26 : tie.Need-shared-slice-read-t26
-shared-slice-read-t26 c = let z = c .before .before .before .before .before .before .before .before .before .before .before .before .before .before .before .before .pre .0 .1 .set-long in search needs
+shared-slice-read-t27 : tie.Need-shared-slice-read-t27
+shared-slice-read-t27 c = let z = c .before .before .before .before .before .before .before .before .before .before .before .before .before .before .before .before .before .pre .0 .1 .set-long in search needs
 
 events-size-requires : tie.Need-events-size-requires
-events-size-requires c κs = let e = recorded (c .before .before .before .before .before .before .before .before .before .before .before .before .before .before .before .before .pre .0 .1) in (e .words, e .short)
+events-size-requires c κs = let e = recorded (c .before .before .before .before .before .before .before .before .before .before .before .before .before .before .before .before .before .pre .0 .1) in (e .words, e .short)
 
 deletions-size-requires : tie.Need-deletions-size-requires
 deletions-size-requires c κs =
-    let b = c .before .before .before .before .before .before .before .before .before .before .before .before .before .before .before .before .before in
+    let b = c .before .before .before .before .before .before .before .before .before .before .before .before .before .before .before .before .before .before in
     let w = writable (b .pre .0 .1) _ (b .pre .1 .0) in
     (w .old-words, w .new-words)
 
@@ -61,17 +64,17 @@ slice-write-kept c = omega (arith, c .before .before .before .before .before .be
 -- the parts are short: the brands and the events as they are for the chunk that they were read from
 brands-small : (c : tie.After-brands-size) → c .brands-size .result .bytes ≤ pairMost + brandBytesMost
 brands-small c =
-    let b = c .before .before .before .before .before .before .before .before .before .before .before .before .before .before in
+    let b = c .before .before .before .before .before .before .before .before .before .before .before .before .before .before .before in
     let o = b .pre .0 .0 in
     let h = b .pre .0 .1 in
     let p = b .args .k .brands in
     c .brands-size .ensures (brandsAt o p) (names-length o p (h .brand-bytes) (brands-inside h)) .small
 
 events-small : (c : tie.After-events-size) → c .events-size .result .bytes ≤ pairMost + eventBytesMost
-events-small c = c .events-size .ensures _ (recorded (c .before .before .before .before .before .before .before .before .before .before .before .before .before .before .before .before .before .pre .0 .1)) .small
+events-small c = c .events-size .ensures _ (recorded (c .before .before .before .before .before .before .before .before .before .before .before .before .before .before .before .before .before .before .pre .0 .1)) .small
 
 gone-small : (c : tie.After-deletions-size) → c .deletions-size .result .bytes ≤ goneMost
-gone-small c = c .deletions-size .ensures (c .before .before .before .before .before .before .before .before .before .before .before .before .before .before .before .before .before .before .args .t) .small
+gone-small c = c .deletions-size .ensures (c .before .before .before .before .before .before .before .before .before .before .before .before .before .before .before .before .before .before .before .args .t) .small
 
 -- all after the brands, and all after the times
 abbrev lastMost : ℕ
@@ -125,17 +128,17 @@ returns c =
     let g = c .before .before .before .before .before .before in
     let e = g .before in
     let f = e .before .before .before .before .before .before .before .before in
-    let b = f .before .before .basis-of .ensures in (
+    let b = f .before .before .before .basis-of .ensures in (
       λ o h.
           block-weighed h _ b (f .set-size .ensures .0) (e .before .before .before .before .before .times-size .ensures) (e .before .before .before .before .version-size .ensures)
           (e .before .before .before .brands-size .ensures _ (names-length o _ (h .brand-bytes) (brands-inside h))) (e .before .before .flags-size .ensures)
           (e .events-size .ensures o (recorded h)) (g .deletions-size .ensures _) _ _ _ _ _ _ (c .before .before .before .before .before .both .ensures) (c .before .before .before .before .both2 .ensures)
           (c .before .before .before .both3 .ensures) (c .before .before .both4 .ensures) (c .before .both5 .ensures) (c .both6 .ensures),
-      kept-share (c .before .before .before .before .before .before .before .before .before .before .before .before .before .before .before .before .before .before .before .before .before .before .before .before .args .s .now) b (keep-gone _ _ _ _ _ (f .set-size .ensures .1) (g .deletions-size .ensures _)),
+      kept-share (c .before .before .before .before .before .before .before .before .before .before .before .before .before .before .before .before .before .before .before .before .before .before .before .before .before .args .s .now) b (keep-gone _ _ _ _ _ (f .set-size .ensures .1) (g .deletions-size .ensures _)),
     )
 
 same-length : tie.Need-same-length
-same-length c = returns c .1 .fields .lines .long ∙ sym (c .before .before .before .before .before .before .before .before .before .before .before .before .before .before .before .before .before .before .before .before .before .before .before .before .pre .1 .1)
+same-length c = returns c .1 .fields .lines .long ∙ sym (c .before .before .before .before .before .before .before .before .before .before .before .before .before .before .before .before .before .before .before .before .before .before .before .before .before .pre .1 .1)
 
 pub block-size-spec : {M : Type 1} → statement M
 block-size-spec =
@@ -145,12 +148,13 @@ block-size-spec =
     part-r-start
     part-r-end
     basis-of-requires
+    expected-of-requires
     set-size-requires
     times-size-requires
     version-size-requires
     brands-size-requires
     flags-size-requires
-    shared-slice-read-t26
+    shared-slice-read-t27
     events-size-requires
     deletions-size-requires
     slice-write-kept

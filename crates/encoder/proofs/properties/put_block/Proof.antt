@@ -1,6 +1,6 @@
 -- `encoder::properties::put_block` meets its contract: its parts written one after another. Assumes nothing.
 use Rattle.locmaf_write_tuples.proofs.PutLaws.{left-first}
-use Rattle.encoder.proofs.GivenLaws.{basis-own, writable, kept-lent, brands-inside, recorded}
+use Rattle.encoder.proofs.GivenLaws.{basis-own, writable, expected-is, kept-lent, brands-inside, recorded}
 use Rattle.encoder.proofs.BlockLaws.{before-set, before-outside, before-gone}
 use borrow.Author.Needs.{needs}
 use Rattle.encoder.proofs.properties.put_block.Statement.{statement}
@@ -21,31 +21,34 @@ shared-slice-read-t21 c = let z = c .before .before .before .before .before .bef
 basis-of-requires : tie.Need-basis-of-requires
 basis-of-requires c κs = let b = c .before .before .before .before .before .before .before .before in writable (b .pre .0) _ (b .pre .1 .0)
 
+expected-of-requires : tie.Need-expected-of-requires
+expected-of-requires c κs = c .before .before .before .before .before .before .before .before .before .pre .0 .on-share .share
+
 put-set-requires : tie.Need-put-set-requires
 put-set-requires c κs =
-    let d = c .before in
+    let d = c .before .before in
     let b = d .before .before .before .before .before .before .before .before .before in
     let h = before-set (b .pre .0) (b .args .delta) (d .basis-of .ensures) (b .args .out .now) _ (b .pre .1 .1 .1) in
     let k = kept-lent (b .args .s .now) (d .basis-of .ensures) (b .pre .1 .1 .0) in
-    (basis-own (writable (b .pre .0) _ (b .pre .1 .0)) (d .basis-of .ensures), (k .fields, left-first _ _ _ _ _ _ _ _ h))
+    ((basis-own (writable (b .pre .0) _ (b .pre .1 .0)) (d .basis-of .ensures), expected-is (b .pre .0) (c .before .expected-of .ensures)), (k .fields, left-first _ _ _ _ _ _ _ _ h))
 
 put-outside-requires : tie.Need-put-outside-requires
 put-outside-requires c κs =
     let b₁ = c .before .before .before in
-    let d = b₁ .before .before in
+    let d = b₁ .before .before .before in
     let b = d .before .before .before .before .before .before .before .before .before in
     let e = b .pre .0 in
     let h = before-outside e (b .args .delta) (d .basis-of .ensures) (b .args .out .now) _ (b .pre .1 .1 .1) (b₁ .put-set .ensures) in
     (e .on-share .share, ((e .brand-bytes, brands-inside e), (recorded e, left-first _ _ _ _ _ _ _ _ h)))
 
 shared-slice-read-put-deletions : tie.Need-shared-slice-read-put-deletions
-shared-slice-read-put-deletions c = let z = c .before .before .before .before .before .before .before .before .before .before .before .before .before .before .before .before .before .before .pre .1 .1 .0 .fields .lines .long in search needs
+shared-slice-read-put-deletions c = let z = c .before .before .before .before .before .before .before .before .before .before .before .before .before .before .before .before .before .before .before .pre .1 .1 .0 .fields .lines .long in search needs
 
 put-deletions-requires : tie.Need-put-deletions-requires
 put-deletions-requires c κs =
     let b₂ = c .before .before .before .before in
     let b₁ = b₂ .before .before .before .before in
-    let d = b₁ .before .before in
+    let d = b₁ .before .before .before in
     let b = d .before .before .before .before .before .before .before .before .before in
     let h = before-gone (b .pre .0) (b .args .delta) (d .basis-of .ensures) (b .args .out .now) _ (b .pre .1 .1 .1)
     (b₁ .put-set .ensures) (b₂ .put-outside .ensures) in
@@ -60,7 +63,7 @@ returns c =
     let b₃ = c .before .before in
     let b₂ = b₃ .before .before .before .before .before in
     let b₁ = b₂ .before .before .before .before in
-    let d = b₁ .before .before in
+    let d = b₁ .before .before .before in
     let b = d .before .before .before .before .before .before .before .before .before in
     let h = before-gone (b .pre .0) (b .args .delta) (d .basis-of .ensures) (b .args .out .now) _ (b .pre .1 .1 .1)
     (b₁ .put-set .ensures) (b₂ .put-outside .ensures) in
@@ -75,6 +78,7 @@ put-block-spec =
     part-r-end
     shared-slice-read-t21
     basis-of-requires
+    expected-of-requires
     put-set-requires
     put-outside-requires
     shared-slice-read-put-deletions

@@ -31,6 +31,15 @@ array-read-sweep c = search needs
 sweep-requires : tie.Need-sweep-requires Inv-loop μ-loop Inv-loop2 μ-loop2
 sweep-requires c κs = search needs
 
+mul-sweep-2 : tie.Need-mul-sweep-2 Inv-loop μ-loop Inv-loop2 μ-loop2
+mul-sweep-2 c = search needs
+
+array-read-sweep-2 : tie.Need-array-read-sweep-2 Inv-loop μ-loop Inv-loop2 μ-loop2
+array-read-sweep-2 c = search needs
+
+sweep-requires-2 : tie.Need-sweep-requires-2 Inv-loop μ-loop Inv-loop2 μ-loop2
+sweep-requires-2 c κs = search needs
+
 add-k : tie.Need-add-k Inv-loop μ-loop Inv-loop2 μ-loop2
 add-k c = search needs
 
@@ -71,6 +80,9 @@ print-spec =
     mul-sweep
     array-read-sweep
     sweep-requires
+    mul-sweep-2
+    array-read-sweep-2
+    sweep-requires-2
     add-k
     loop-less
     loop-again

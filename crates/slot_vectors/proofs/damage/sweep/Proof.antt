@@ -6,10 +6,10 @@ use Rattle.slot_vectors.proofs.damage.sweep.Statement.{statement}
 use Rattle.slot_vectors.proofs.damage.sweep.Tie as tie
 
 abbrev Inv-loop : tie.InvT-loop
-Inv-loop side t₀ v was₀ at₀ t was at = at ≤ tableLen
+Inv-loop side t₀ letter v was₀ at₀ t was at = at ≤ tableLen
 
 abbrev μ-loop : tie.MeasureT-loop
-μ-loop side t₀ v was₀ at₀ t was at = tableLen - at
+μ-loop side t₀ letter v was₀ at₀ t was at = tableLen - at
 
 loop-holds : tie.Need-loop-holds Inv-loop μ-loop
 loop-holds c = search needs
@@ -19,6 +19,9 @@ start-requires c κs = search needs
 
 item-requires : tie.Need-item-requires Inv-loop μ-loop
 item-requires c κs = search needs
+
+moved-requires : tie.Need-moved-requires Inv-loop μ-loop
+moved-requires c κs = search needs
 
 damaged-requires : tie.Need-damaged-requires Inv-loop μ-loop
 damaged-requires c κs = search needs
@@ -50,6 +53,7 @@ sweep-spec =
     loop-holds
     start-requires
     item-requires
+    moved-requires
     damaged-requires
     marked-requires
     marked-requires-2
