@@ -1,5 +1,5 @@
 -- Laws of the effective durations: the ways to their sum, and how large it is. Assumes nothing.
-use Prim.Native.Nat.{ℕ, _+_, _*_, _^_, _≤_, _<_, _-_, zero-le}
+use Prim.Native.Nat.{ℕ, _+_, _*_, _≤_}
 use native.Mathlib.Nat.{mul-le-mul-right}
 use native.Mathlib.Omega.{arith}
 use mathlib.Core.Path.{_≡_, refl}
@@ -7,17 +7,16 @@ use mathlib.Core.Bool.{Bool, true, false}
 use mathlib.Core.List.{List}
 use borrow.Author.Tests.{not-true}
 use lib.Dec.{eqb}
-use lib.ListN.{length, getD, replicate, length-replicate}
+use lib.ListN.{length, getD}
 use lib.Seq.{slice}
 use Rattle.constants.specs.Maxima.{samplesMost}
-use Rattle.laws.specs.Tests.{sum, allLe}
-use Rattle.laws.proofs.TestLaws.{sum-next, allZero-zeros, zeros-le}
+use Rattle.laws.specs.Tests.{sum}
+use Rattle.laws.proofs.TestLaws.{sum-next}
 use Rattle.track.specs.declared.Track.{Track}
-use Rattle.field_table.specs.Lines.{lines, lineFor, bmdtAt, setLen, durationsAt, durationAt, offsetsAt}
+use Rattle.field_table.specs.Lines.{lines, lineFor, setLen, durationsAt, durationAt, offsetsAt}
 use Rattle.field_set.specs.Lawful.{has, valuesOf, inUse, valueAt, countIn, lawful}
 use Rattle.effective.specs.Durations.{durationsOf, Timed}
 use Rattle.told_sizes.proofs.SumLaws.{part-most, bounded}
-use Rattle.laws.proofs.ListLaws.{drop-replicate, take-replicate}
 use Rattle.field_set.proofs.LawfulLaws.{lawful-facts, lawful-region}
 
 -- the words of id 3
@@ -70,7 +69,7 @@ module _ (t : Track) (r : List ℕ) where
       go false true p q = omega (arith, durations-default p q, product-most (countIn r) (getD r (durationAt + 1) 0) (h .few) (duration-small h))
       go false false p q = omega (arith, durations-trex p q, product-most (countIn r) (t .duration) (h .few) f)
 
--- a lawful set, and a set of zeros
+-- those of a lawful set keep their bounds
 pub lawful-timed : (t : Track) (r : List ℕ) → length r ≡ setLen → lawful t r ≡ true → Timed r
 unfolding lines lineFor
 lawful-timed t r n e =
@@ -79,17 +78,4 @@ lawful-timed t r n e =
       few = lawful-facts t r e .count;
       durations = bounded _ _ r (lawful-region t r 2 e (omega arith)) (omega (arith, n));
       duration = bounded _ _ r (lawful-region t r 3 e (omega arith)) (omega (arith, n));
-    }
-
-zeros-bounded : (b f t n : ℕ) → t ≤ n → allLe b (slice f t (replicate n 0)) ≡ true
-zeros-bounded b f t n h = rw (take-replicate t n 0 h, drop-replicate f t 0) (zeros-le b (replicate (t - f) 0) (allZero-zeros (t - f)))
-
-pub zeros-timed : Timed (replicate setLen 0)
-unfolding lines lineFor
-zeros-timed =
-    record {
-      words = length-replicate {A = ℕ} setLen 0;
-      few = zero-le;
-      durations = zeros-bounded 0xffff_ffff (durationsAt + 1) durationAt setLen (omega arith);
-      duration = zeros-bounded 0xffff_ffff (durationAt + 1) offsetsAt setLen (omega arith);
     }

@@ -5,7 +5,7 @@ use mathlib.Core.Path.{_≡_, refl, sym, _∙_, ap}
 use mathlib.Core.Bool.{Bool, true, false, _&&_}
 use mathlib.Core.List.{List}
 use mathlib.Core.Option.{Option, none, some}
-use borrow.Author.Tests.{leb-true}
+use borrow.Author.Tests.{leb-true, lt-leb}
 use lib.Dec.{leb}
 use lib.ListN.{length, getD, replicate, length-replicate, length-drop, set as store}
 use Rattle.constants.specs.Maxima.{brandBytesMost, eventsMost, eventBytesMost, payloadMost, numberMost}
@@ -33,8 +33,11 @@ use Rattle.field_rules.proofs.SetLaws.{words-bmdt}
 use Rattle.locmaf_read_set.proofs.NewSetLaws.{taken-facts, new-lawful, new-long}
 use Rattle.locmaf_read_head.specs.declared.head.Place.{Place}
 use Rattle.locmaf_read_times.specs.declared.prft.Told.{Told}
-use Rattle.locmaf_read_times.specs.Bmdt.{bmdtOf}
-use Rattle.effective.specs.Durations.{Timed}
+use Rattle.locmaf_read_times.specs.declared.bmdt.Bmdt.{Bmdt}
+use Rattle.locmaf_read_times.specs.Bmdt.{bmdtOf, BmdtAs}
+use Rattle.slots.specs.declared.lawful.Side.the-variants.{Receiver}
+use Rattle.slots.specs.Share.{expectedIn}
+use Rattle.effective.specs.Expected.{nextTime, expectedBy}
 use Rattle.locmaf_read_times.specs.Prft.{prftOf}
 use Rattle.locmaf_read_events.specs.Events.{EventsRead, eventsOk}
 use Rattle.locmaf_read_events.specs.Values.{allFit, boxes}
@@ -50,8 +53,8 @@ use Rattle.receiver.specs.Receive.{track, reference, bmdt, prft, events,
 use Rattle.receiver.specs.declared.judge.Values.{Values}
 use Rattle.receiver.specs.Judge.{partIn, sumsIn, Judgeable, Split, TestedAs, JudgedAs}
 use Rattle.locmaf_read_times.proofs.PrftFacts.{prft-says, prft-headed}
-use Rattle.reference.proofs.OpenLaws.{reference-long}
-use Rattle.receiver.proofs.ShareFacts.{iv-most, delta-lawful, reference-timed, kept-small}
+use Rattle.reference.proofs.OpenLaws.{reference-long, expected-there}
+use Rattle.receiver.proofs.ShareFacts.{iv-most, delta-lawful, kept-small}
 use Rattle.receiver.proofs.SaidLaws.{raw-bytes}
 use Rattle.receiver.proofs.BrandLaws.{BrandsTold, brands-told, brands-fours}
 
@@ -61,9 +64,23 @@ pub first-held : (a b c : Bool) → a ≡ true → c ≡ b → c ≡ (a and b)
 unfolding _and_
 first-held a b c e h = rw e h
 
--- a test of what is told, among others
-pub told-ok : (a b : Bool) {r u : Told} → r ≡ u → (a && (r .ok && b)) ≡ (a && (u .ok && b))
-told-ok a b e = ap (λ (z : Told). a && (z .ok && b)) e
+-- ---- BMDT, as code has it
+
+module _ {b : Bmdt} {n : ℕ} (h : BmdtAs b n) where
+  -- it is told and small just where it is small
+  pub bmdt-small : (b .told && leb (b .ticks .0) numberMost) ≡ leb n numberMost
+  bmdt-small = go (b .told) refl
+    where
+      go : (f : Bool) → b .told ≡ f → (f && leb (b .ticks .0) numberMost) ≡ leb n numberMost
+      go true q = ap (λ (k : ℕ). leb k numberMost) (h .is q)
+      go false q = sym (lt-leb n numberMost (omega (arith, h .past q)))
+
+  pub bmdt-told : leb n numberMost ≡ true → b .ticks .0 ≡ n
+  bmdt-told e = go (b .told) refl
+    where
+      go : (f : Bool) → b .told ≡ f → b .ticks .0 ≡ n
+      go true q = h .is q
+      go false q = absurd (omega (arith, h .past q, leb-true n numberMost e))
 
 -- ---- the rules of the values
 
@@ -129,8 +146,9 @@ module _ (F : List Row) (o s : List ℕ) where
 -- ---- what is lent
 
 module _ {F : List Row} {o s : List ℕ} {t : Track} {p : Place} (j : Judgeable F o s t p) where
-  pub lent-timed : Timed (reference F o s)
-  lent-timed = reference-timed s (j .share) (j .lawful) (j .opened)
+  -- what the share has as expected is what is expected behind the reference
+  pub lent-expected : expectedIn s ≡ expectedBy (nextTime t (reference F o s))
+  lent-expected = rw (j .track) (expected-there Receiver s (j .share) (j .lawful) (j .opened))
 
   pub end-inside : p .end ≤ length o
   end-inside =
@@ -154,7 +172,7 @@ module _ {F : List Row} {o s : List ℕ} {t : Track} {p : Place} (j : Judgeable 
 pub record Worked (F : List Row) (o s : List ℕ) (t : Track) (p : Place) (index ev : List ℕ) (b : ℕ) (r : Told) (q : Part) : Type 0 where
   pub head : Judgeable F o s t p
   pub split : Split F o index ev
-  pub start : b ≡ bmdtOf t (scalarIn index 10) (reference F o s)
+  pub start : leb (bmdtOf t (scalarIn index 10) (reference F o s)) numberMost ≡ true → b ≡ bmdtOf t (scalarIn index 10) (reference F o s)
   pub told : r ≡ prftOf (p .delta) (scalarIn index) s
   pub named : q ≡ partIn index 23
 
@@ -172,9 +190,14 @@ module _ {F : List Row} {o s : List ℕ} {t : Track} {p : Place} {index ev : Lis
   scalar-said : (id : ℕ) → id % 2 ≡ 0 → scalarIn index id ≡ saying F o id
   scalar-said id e = scalar-says F o index id e ∙ ap (λ (f : Says). f id) (w .split .says)
 
-  bmdt-is : b ≡ bmdt F o s
+  bmdt-said : bmdtOf t (scalarIn index 10) (reference F o s) ≡ bmdt F o s
   unfolding bmdt
-  bmdt-is = rw (scalar-said 10 refl, w .head .track) at (w .start)
+  bmdt-said = rw (scalar-said 10 refl, w .head .track)
+
+  bmdt-is : plainOk F o s ≡ true → b ≡ bmdt F o s
+  bmdt-is ok =
+      let small : leb (bmdt F o s) numberMost ≡ true = and-left (leb (bmdt F o s) numberMost) _ ok in
+      w .start (ap (λ (n : ℕ). leb n numberMost) bmdt-said ∙ small) ∙ bmdt-said
 
   prft-is : r ≡ prft F o s
   unfolding prft
@@ -196,10 +219,10 @@ module _ {F : List Row} {o s : List ℕ} {t : Track} {p : Place} {index ev : Lis
       ∙ said-size F o (blockEnd F o) index (replicate eventsLen 0) ev (w .head .inside) (saying F o 25) (w .split .list)
 
   -- the code's test of all but the events
-  pub plain-is : (leb b numberMost
+  pub plain-is : (leb (bmdtOf t (scalarIn index 10) (reference F o s)) numberMost
       && (r .ok && (leb (length o - p .end) payloadMost && (leb (q .len) brandBytesMost && (leb (getD index (manyAt 25) 0) eventsMost && leb (getD index (numberAt 25) 0) eventBytesMost)))))
       ≡ plainOk F o s
-  plain-is = rw (bmdt-is, prft-is, payload-long (w .head), brands-are .long, events-many, events-size)
+  plain-is = rw (bmdt-said, prft-is, payload-long (w .head), brands-are .long, events-many, events-size)
 
   -- it holds
   module _ (ok : plainOk F o s ≡ true) where
@@ -226,7 +249,7 @@ module _ {F : List Row} {o s : List ℕ} {t : Track} {p : Place} {index ev : Lis
           read .answered
           ∙ told .tests
           ∙ ap (λ (u : Track). allFit u b (events F o s)) (w .head .track)
-          ∙ ap (λ (n : ℕ). allFit (track F o s) n (events F o s)) bmdt-is
+          ∙ ap (λ (n : ℕ). allFit (track F o s) n (events F o s)) (bmdt-is ok)
           ∙ sym (values-fit F o s ok)
 
       boxes-are : eventsOf o ws (getD index (manyAt 25) 0) ≡ boxes (track F o s) (bmdt F o s) (events F o s)
@@ -235,7 +258,7 @@ module _ {F : List Row} {o s : List ℕ} {t : Track} {p : Place} {index ev : Lis
           ap (λ (v : List ℕ). eventsOf o v (getD index (manyAt 25) 0)) (read .stored)
           ∙ told .built
           ∙ ap (λ (u : Track). boxes u b (events F o s)) (w .head .track)
-          ∙ ap (λ (n : ℕ). boxes (track F o s) n (events F o s)) bmdt-is
+          ∙ ap (λ (n : ℕ). boxes (track F o s) n (events F o s)) (bmdt-is ok)
 
   -- ---- the words of the new set
 
@@ -262,17 +285,17 @@ module _ {F : List Row} {o s : List ℕ} {t : Track} {p : Place} {index ev : Lis
     stored-long : length (store x 0 b) ≡ setLen
     stored-long = ap length stored ∙ new-words b
 
-    stored-set : store x 0 b ≡ newSet F o s
-    unfolding newSet
-    stored-set =
-        stored
-        ∙ ap (λ (u : Track). newWords u (isDelta F o) (reference F o s) (saying F o) b) (w .head .track)
-        ∙ ap (newWords (track F o s) (isDelta F o) (reference F o s) (saying F o)) bmdt-is
-
     module _ (ok : plainOk F o s ≡ true) where
+      stored-set : store x 0 b ≡ newSet F o s
+      unfolding newSet
+      stored-set =
+          stored
+          ∙ ap (λ (u : Track). newWords u (isDelta F o) (reference F o s) (saying F o) b) (w .head .track)
+          ∙ ap (newWords (track F o s) (isDelta F o) (reference F o s) (saying F o)) (bmdt-is ok)
+
       stored-lawful : lawfulSet t (store x 0 b) ≡ true
       stored-lawful =
-          let m : b ≤ numberMost = omega (arith, plain-facts F o s ok .start, bmdt-is) in
+          let m : b ≤ numberMost = omega (arith, plain-facts F o s ok .start, bmdt-is ok) in
           ap (lawfulSet t) stored
           ∙ new-lawful t (isDelta F o) (reference F o s) (saying F o) (g .hold) b m (iv-small (w .head)) long (delta-good (w .head)) raw
 

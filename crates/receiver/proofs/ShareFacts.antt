@@ -6,23 +6,19 @@ use mathlib.Core.Bool.{Bool, true, false, cond, not, _&&_, _||_}
 use mathlib.Core.List.{List}
 use borrow.Author.Tests.{leb-true, not-true}
 use lib.Dec.{eqb, leb}
-use lib.ListN.{length, getD, take, drop, replicate, length-drop}
-use lib.Seq.{slice, getD-drop, getD-take, drop-drop}
+use lib.ListN.{length, getD, take, drop}
+use lib.Seq.{slice, getD-drop, getD-take}
 use Rattle.laws.specs.Tests.{allZero}
-use Rattle.laws.proofs.ListLaws.{drop-replicate}
 use Rattle.laws.proofs.TestLaws.{and-left, and-right, zeros-are}
 use Rattle.wire.specs.declared.form.Row.{Row}
 use Rattle.track.proofs.TrackLaws.{ranges}
-use Rattle.field_table.specs.Lines.{setLen}
 use Rattle.field_set.specs.Lawful.{lawful as lawfulSet}
 use Rattle.slots.specs.declared.lawful.Side.the-variants.{Receiver}
 use Rattle.share_words.specs.Share.{shareLen, heldAt, prftAt, ntpAt, versionAt, prftFlagsAt, mediaTimeAt, prftEnd, setAt}
 use Rattle.slots.specs.Share.{u24, u62, askedOf, trackOf, prftOk, referenceOk, isOpen, lawful}
 use Rattle.locmaf_read_index.proofs.AnswerLaws.{blank-zeros}
 use Rattle.track.specs.Track.{u32}
-use Rattle.effective.specs.Durations.{Timed}
-use Rattle.effective.proofs.DurationLaws.{lawful-timed, zeros-timed}
-use Rattle.reference.proofs.OpenLaws.{Opened, opened-facts, held-facts, reference-long}
+use Rattle.reference.proofs.OpenLaws.{Opened, opened-facts, held-facts}
 use Rattle.receiver.specs.Object.{isDelta}
 use Rattle.receiver.specs.Receive.{heldOk}
 
@@ -37,12 +33,6 @@ zero-at xs i e = ap (λ (l : List ℕ). getD l i 0) (zeros-are xs e) ∙ blank-z
 
 module _ (s : List ℕ) (l : length s ≡ shareLen) where
   -- where the words from the `prft` on are zeros
-  zeros-behind : allZero (drop prftAt s) ≡ true → drop setAt s ≡ replicate setLen 0
-  zeros-behind e =
-      let n : length (drop prftAt s) ≡ shareLen - prftAt = omega (arith, length-drop prftAt s) in
-      let z : drop prftAt s ≡ replicate (shareLen - prftAt) 0 = zeros-are (drop prftAt s) e ∙ ap (λ (k : ℕ). replicate k 0) n in
-      sym (drop-drop (setAt - prftAt) prftAt s) ∙ ap (drop (setAt - prftAt)) z ∙ drop-replicate (setAt - prftAt) (shareLen - prftAt) 0
-
   zero-behind : (i : ℕ) → allZero (drop prftAt s) ≡ true → getD s (prftAt + i) 0 ≡ 0
   zero-behind i e = sym (getD-drop prftAt s i 0) ∙ zero-at (drop prftAt s) i e
 
@@ -71,14 +61,6 @@ module _ (s : List ℕ) (l : length s ≡ shareLen) where
     -- a delta is read against a lawful set
     pub delta-lawful : (F : List Row) (ob : List ℕ) → heldOk F ob s ≡ true → isDelta F ob ≡ true → lawfulSet (trackOf s) (drop setAt s) ≡ true
     delta-lawful F ob k d = one-held (delta-held F ob s k d) .1
-
-    -- a time that follows from the reference has 64 bits
-    pub reference-timed : Timed (drop setAt s)
-    reference-timed = go (eqb (getD s heldAt 0) 0) refl
-      where
-        go : (b : Bool) → eqb (getD s heldAt 0) 0 ≡ b → Timed (drop setAt s)
-        go true q = rw (zeros-behind (none-held q)) zeros-timed
-        go false q = lawful-timed (trackOf s) (drop setAt s) (reference-long s l) (one-held q .1)
 
     -- the version and the flags that are kept fit their box
     pub kept-small : (getD s versionAt 0 ≤ 1) × (getD s prftFlagsAt 0 ≤ 0xffffff)

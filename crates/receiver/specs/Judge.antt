@@ -44,13 +44,13 @@ partIn index id =
     cond (eqb (getD index (standsAt id) 0) 0) (record { at = 0; len = 0 })
     (record { at = getD index (standsAt id) 0 - 1; len = getD index (numberAt id) 0 })
 
--- what the values of an object are by its index, and whether they are within their maxima, but for those of single events
+-- what the values of an object are by its index, and whether they are within their maxima, but for those of single events; a BMDT past its maximum may not be there
 pub record ValuesTold (t : Track) (delta : Bool) (payload events : ℕ) (s index : List ℕ) (v : Values) : Type 0 where
-  pub start : v .bmdt .0 ≡ bmdtOf t (scalarIn index 10) (drop setAt s)
+  pub start : leb (bmdtOf t (scalarIn index 10) (drop setAt s)) numberMost ≡ true → v .bmdt .0 ≡ bmdtOf t (scalarIn index 10) (drop setAt s)
   pub time : v .prft ≡ prftOf delta (scalarIn index) s .prft
   pub named : v .brands ≡ partIn index 23
   pub tested : v .ok
-      ≡ (leb (v .bmdt .0) numberMost
+      ≡ (leb (bmdtOf t (scalarIn index 10) (drop setAt s)) numberMost
       && (prftOf delta (scalarIn index) s .ok
       && (leb payload payloadMost
       && (leb (v .brands .len) brandBytesMost && (leb events eventsMost && leb (getD index (numberAt 25) 0) eventBytesMost)))))

@@ -12,9 +12,10 @@ ghost use Rattle.field_table.specs.Lines.{setLen};
 ghost use Rattle.event_value.specs.Events.{eventsLen};
 ghost use Rattle.locmaf_read_index.specs.Places.{indexLen};
 ghost use Rattle.told_sizes.specs.Sums.{Summable};
-ghost use Rattle.effective.specs.Durations.{Timed};
+ghost use Rattle.effective.specs.Expected.{nextTime, expectedBy};
+ghost use Rattle.track.specs.declared.Track.{Track};
 ghost use Rattle.share_words.specs.Share.{shareLen, setAt};
-ghost use Rattle.slots.specs.Share.{trackOf};
+ghost use Rattle.slots.specs.Share.{trackOf, expectedIn};
 ghost use Rattle.receiver.specs.Judge.{partIn, noneJudged, Judgeable, SplitAs, SetRead, BlockReadAs};
 ghost use Rattle.receiver.specs.Judge.{ValuesTold, sumsIn, Testable, TestedAs, AllJudged, ValuesJudged};
 use byte_parts::Part;
@@ -63,8 +64,9 @@ struct Values {
 
 // The values of an object with so many bytes of payload and so many events.
 fn values_of(delta: bool, payload: usize, events: usize, s: &[u64], index: &[u64]) -> Values
-    requires { ⌜ (length (now index) ≡ indexLen) × (length (now s) ≡ shareLen) × Timed (drop setAt (now s)) ⌝ }
-    ensures { λ v. ⌜ ValuesTold t delta payload events (now (s .entry)) (now (index .entry)) v ⌝ }
+    requires { ⌜ (length (now index) ≡ indexLen) × (length (now s) ≡ shareLen) ⌝ }
+    ensures { λ v. ⌜ ((t : Track) → expectedIn (now (s .entry)) ≡ expectedBy (nextTime t (drop setAt (now (s .entry))))
+        → ValuesTold t delta payload events (now (s .entry)) (now (index .entry)) v) ⌝ }
 {
     let b = locmaf_read_times::bmdt::bmdt_of(index, slots::lawful::expected_of(s));
     let told = locmaf_read_times::prft::prft_of(delta, index, s);

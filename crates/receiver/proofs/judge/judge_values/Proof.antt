@@ -11,7 +11,7 @@ use Rattle.locmaf_read_said.specs.Said.{scalarIn}
 use Rattle.locmaf_read_times.specs.Prft.{prftOf}
 use Rattle.locmaf_read_times.specs.declared.prft.Told.{Told}
 use Rattle.receiver.specs.Judge.{SetRead}
-use Rattle.receiver.proofs.JudgeLaws.{Worked, Gathered, plainOk, lent-timed, end-inside, plain-is, events-lent, payload-most, some-words, stored-summable, values-judged}
+use Rattle.receiver.proofs.JudgeLaws.{Worked, Gathered, plainOk, lent-expected, end-inside, plain-is, events-lent, payload-most, some-words, stored-summable, values-judged}
 use Rattle.receiver.proofs.judge.judge_values.Statement.{statement}
 use Rattle.receiver.proofs.judge.judge_values.Tie as tie
 
@@ -34,7 +34,7 @@ worked : (g : tie.After-values-of) (F : List Row) → Read (start g) F
     let v = g .values-of .result in
     Worked F (a .o .now) (a .s .now) (a .t) (a .p) (a .index .now) (take eventsLen (a .words .now)) (v .bmdt .0) (told g) (v .brands)
 worked g F v =
-    let e = g .values-of .ensures in
+    let e = g .values-of .ensures _ (lent-expected (v .head)) in
     record {
       head = v .head;
       split = v .split;
@@ -53,7 +53,7 @@ gathered g F v =
 
 -- its test is the rules'
 within : (g : tie.After-values-of) (F : List Row) → Read (start g) F → let a = start g .args in g .values-of .result .ok ≡ plainOk F (a .o .now) (a .s .now)
-within g F v = g .values-of .ensures .tested ∙ plain-is (worked g F v)
+within g F v = g .values-of .ensures _ (lent-expected (v .head)) .tested ∙ plain-is (worked g F v)
 
 shared-slice-read-k : tie.Need-shared-slice-read-k
 shared-slice-read-k c = search needs
@@ -64,7 +64,7 @@ sub-payload c = end-inside (c .before .before .before .before .before .before .p
 values-of-requires : tie.Need-values-of-requires
 values-of-requires c κs =
     let v = c .before .before .before .before .before .before .pre .0 .1 in
-    (v .split .telling .words, v .head .share, lent-timed (v .head))
+    (v .split .telling .words, v .head .share)
 
 values-number-requires : tie.Need-values-number-requires
 values-number-requires c κs =

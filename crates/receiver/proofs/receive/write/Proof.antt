@@ -2,7 +2,9 @@
 use denote.Ref.{now}
 use Rattle.field_set.proofs.TidyLaws.{lawful-tidy}
 use Rattle.slots.specs.declared.lawful.Side.the-variants.{Receiver}
+use Rattle.effective.proofs.DurationLaws.{lawful-timed}
 use Rattle.reference.proofs.OpenLaws.{share-tidy}
+use Rattle.reference.proofs.AcceptedLaws.{renewable, all-kept}
 use Rattle.receiver.proofs.JudgeLaws.{end-inside}
 use Rattle.receiver.proofs.AcceptLaws.{count-small, sequence-is, writable, need-is, done-is}
 use borrow.Author.Needs.{needs}
@@ -34,6 +36,13 @@ keep-requires c κs =
     let r = v .ready in
     ((a .share, r .writable .set .long), (share-tidy Receiver _ (a .share) (a .lawful) (a .opened), lawful-tidy _ _ (r .writable .set .long) (r .good)))
 
+renew-requires : tie.Need-renew-requires
+renew-requires c κs =
+    let b = c .before .before .before .before .before .before .before .before .before .before .before .before .before .before .before .before .before in
+    let v = b .pre .1 .acceptable in
+    let l = v .ready .writable .set .long in
+    renewable (now (b .args .s)) (v .head .share) _ _ _ (now (b .args .x)) _ (c .before .before .before .keep .ensures) l (lawful-timed _ _ l (v .ready .good))
+
 same-length : tie.Need-same-length
 same-length c = search needs
 
@@ -42,12 +51,13 @@ same-length-2 c = search needs
 
 returns : tie.Need-returns
 returns c =
-    let w = c .before .before .before .before .before .before in
-    let output = now (w .before .before .before .before .before .before .before .before .before .before .args .output) in
+    let d = c .before .before .before .before .before .before in
+    let w = d .before .before .before .before in
+    let a = w .before .before .before .before .before .before .before .before .before .before .args in
     λ F v.
     let h = v .acceptable .head in
-    done-is _ _ _ _ _ h _ _ _ (v .acceptable .ready) (v .named) output _ _ _ _ (sequence-is _ _ _ _ _ h) (w .put-front .ensures)
-    (c .before .before .keep .ensures)
+    done-is _ _ _ _ _ h _ _ _ (v .acceptable .ready) (v .named) (now (a .output)) _ _ _ _ (sequence-is _ _ _ _ _ h) (w .put-front .ensures)
+    (all-kept (now (a .s)) (h .share) _ _ _ (now (a .x)) _ (d .keep .ensures) _ (h .track) _ (c .before .before .renew .ensures))
 
 pub write-spec : {M : Type 1} → statement M
 write-spec =
@@ -58,6 +68,7 @@ write-spec =
     add-count
     put-front-requires
     keep-requires
+    renew-requires
     same-length
     same-length-2
     returns)
