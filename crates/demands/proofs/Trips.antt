@@ -143,7 +143,7 @@ module _ (p : Send) (s s′ room : List ℕ) (pair : Paired s s′) (low : allLe
       rw (back .kind, back .time, back .set)
       (sym
       (kept-reference (isDelta p s) (getD s acceptedAt 0) n (prft c) (fields t c) s s′ (pair .beside .encoder-long) (pair .beside .receiver-long)
-      (pair .reference)))
+      (pair .beside .parameters) (pair .reference)))
 
   held-too : isDelta p s ≡ true → eqb (getD s′ heldAt 0) 0 ≡ false
   unfolding heldOk

@@ -44,7 +44,7 @@ use Rattle.cmaf_read_chunk.specs.Accepted.{brandsOf, bmdt, boxes, prft, brands,
 use Rattle.cmaf_read_boxes.specs.Right.{boxesOk}
 use Rattle.locmaf_write_tuples.specs.Items.{_before_, itemsIf, numberItem, runItem}
 use Rattle.locmaf_write_block.specs.Changes.{same, changeOf, sentItems, lineItems}
-use Rattle.locmaf_write_block.specs.Fields.{goneOf, bmdtStands, countStands, linesItems, bmdtItems, countItems, fieldItems, deletionItems}
+use Rattle.locmaf_write_block.specs.Fields.{goneOf, bmdtStands, countStands, linesItems, bmdtIf, bmdtItems, countItems, fieldItems, deletionItems}
 use Rattle.locmaf_write_prft.specs.Prft.{timesItems, unlessItems, versionItems, flagsItems}
 use Rattle.encoder.specs.Object.{brandItems, eventItems, blockItems, givesDelta, fitsOk}
 use Rattle.meaning.specs.Meaning.{meaningOf}
@@ -71,7 +71,7 @@ unfolding example within byLength de _and_ allLe sum byValue limit zigzag wireOf
     firstFlags isColumn hasColumn cell sizeAt eachFrom columnOf sizesOf sencOk sencCount sencFilled entriesIn entriesOf subsamples saizOk saizCount saioOk oldValues regionOf
     regionsOf setWords heldIf allSame heldFor chunkSet listBytes clocksOk allOnly outerOk offsetOk flagsOk offsetsOk sizesOk unprotectedOk rulesOk brandsOf bmdt boxes prft
     brands payload events fields boxesOk countsOk maximaOk lateRungs acceptRungs _before_ itemsIf numberItem runItem same changeOf sentItems lineItems goneOf bmdtStands
-    countStands linesItems bmdtItems countItems fieldItems deletionItems timesItems unlessItems versionItems flagsItems brandItems eventItems blockItems meaningOf
+    countStands linesItems bmdtIf bmdtItems countItems fieldItems deletionItems timesItems unlessItems versionItems flagsItems brandItems eventItems blockItems meaningOf
 computed = (
   record {
     bytes = λ x h. h;

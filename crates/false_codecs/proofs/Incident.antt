@@ -18,7 +18,7 @@ use Rattle.field_set.specs.Lawful.{inUse, has, valuesOf, sameIvSize, lawful as 
 use Rattle.field_table.specs.Lines.{lineFor, lineNumber, absentValue, wanted, lines, marksOf, every}
 use Rattle.told_sizes.specs.Told.{mayHave, sizesAgree, samplesAgree, toldSum}
 use Rattle.share_words.specs.Share.{shareLen, heldAt, dropped}
-use Rattle.slots.specs.Share.{askedOf, openOk, lawful as lawfulShare, setOk, referenceOk, prftOk, opened, isOpen}
+use Rattle.slots.specs.Share.{askedOf, openOk, lawful as lawfulShare, setOk, referenceOk, prftOk, expectedOk, opened, isOpen}
 use Rattle.locmaf_read_block.specs.Entries.{entry, body, entriesAt, says, readable, content, member, lawful as lawfulEntries, known}
 use Rattle.locmaf_read_block.specs.Front.{wholly, taken}
 use Rattle.locmaf_read_block.specs.Numbers.{numbersRun, numberFront, numbersF}
@@ -37,6 +37,7 @@ use Rattle.field_rules.specs.Words.{regionsOf, regionOf, setWords}
 use Rattle.locmaf_read_said.specs.Deletions.{moofField, deletionsOk}
 use Rattle.locmaf_read_set.specs.Read.{countReached, stands, subsamples, countFrom, setRungs, brandsFit, came, cameOf, fieldRungs, countOf}
 use Rattle.effective.specs.Durations.{durationsOf}
+use Rattle.effective.specs.Expected.{expectedBy}
 use Rattle.locmaf_read_times.specs.Bmdt.{bmdtOf}
 use Rattle.locmaf_read_head.specs.Ids.{idsOk}
 use Rattle.locmaf_read_times.specs.Prft.{prftOf}
@@ -89,7 +90,7 @@ record Computed : Type 0 where
 computed : Computed
 unfolding flagsAt be de gate ladder sum allZero allLe _and_ byFirst readF reached ranged unzigzag wideOf lawful inUse has valuesOf sameIvSize lawfulSet regionsOk
     marksOf regionOk saizOk setRules lineFor lineNumber absentValue wanted lines every mayHave sizesAgree samplesAgree toldSum openOk lawfulShare dropped setOk
-    referenceOk prftOk opened isOpen entry body entriesAt says readable content member lawfulEntries wholly taken known numbersRun numberFront numbersF number
+    referenceOk prftOk expectedOk expectedBy opened isOpen entry body entriesAt says readable content member lawfulEntries wholly taken known numbersRun numberFront numbersF number
     tupleFront tupleF bodyF tuplesF kindOf tuplesRun fullBox box protection trunFlags emsgBoxes stypBox moofWhole tfhdBox plain sizeOf prftBox mfhdBox trunRows
     tfhdFlags trunBox tfdtBox trunRow front moofBox sentList packed sentOne carried oldValues cellOf sayingOf among regionsOf regionOf setWords moofField deletionsOk
     countReached stands subsamples countFrom setRungs brandsFit came cameOf fieldRungs countOf durationsOf bmdtOf idsOk prftOf samplesOk sizesOk protectedOk allFit

@@ -16,7 +16,7 @@ use Rattle.track.specs.declared.Asked.{Asked}
 use Rattle.track.specs.Track.{u32}
 use Rattle.slots.specs.declared.lawful.Side.the-variants.{Receiver}
 use Rattle.share_words.specs.Share.{acceptedAt, heldAt}
-use Rattle.slots.specs.Share.{askedOf, isOpen, prftOk, referenceOk, openOk, lawful}
+use Rattle.slots.specs.Share.{askedOf, isOpen, prftOk, expectedOk, referenceOk, openOk, lawful}
 use Rattle.cmaf_write_front.specs.Front.{front}
 use Rattle.locmaf_read_said.specs.Said.{Says}
 use Rattle.field_rules.specs.Fields.{numbers}
@@ -48,7 +48,7 @@ parted (a ∷ b ∷ c ∷ d ∷ e ∷ f ∷ g ∷ h ∷ []) l = absurd (omega ar
 -- an open share is lawful whatever its count of 32 bits is
 pub lawful-near : (a : Asked) (n m : ℕ) (r : List ℕ) → eqb (a .track) 0 ≡ false → n ≤ u32 → m ≤ u32
     → lawful Receiver (made a n r) ≡ lawful Receiver (made a m r)
-unfolding lawful openOk referenceOk prftOk
+unfolding lawful openOk referenceOk prftOk expectedOk
 lawful-near a n m r e h k = rw (e, le-leb n u32 h, le-leb m u32 k)
 
 -- ---- an object on two shares that differ in their counts

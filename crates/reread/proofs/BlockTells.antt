@@ -34,7 +34,7 @@ use Rattle.cmaf_read_chunk.specs.Accepted.{brands, fields}
 use Rattle.locmaf_write_block.specs.declared.cells.Change.the-variants.{Omitted, Deleted}
 use Rattle.locmaf_write_tuples.specs.Items.{listOf}
 use Rattle.locmaf_write_block.specs.Changes.{changeOf, lineItems}
-use Rattle.locmaf_write_block.specs.Fields.{linesItems, bmdtItems, countItems, fieldItems, deletionItems}
+use Rattle.locmaf_write_block.specs.Fields.{linesItems, bmdtIf, bmdtItems, countItems, fieldItems, deletionItems}
 use Rattle.locmaf_write_prft.specs.Prft.{timesItems, unlessItems, versionItems, flagsItems}
 use Rattle.encoder.specs.Object.{brandItems, eventItems, blockItems}
 use Rattle.cmaf_read_facts.specs.Given.{F}
@@ -96,7 +96,7 @@ module _ {s c : List ℕ} {delta : Bool} (k : Known s c delta) where
   -- ---- the parts
 
   fields-tell : Tells f 1 17 (fieldItems F (trackOf s) delta (drop setAt s) (fields (trackOf s) c))
-  unfolding fieldItems linesItems lines bmdtItems countItems blockSays moofField numeric known wireOf _and_
+  unfolding fieldItems linesItems lines bmdtIf bmdtItems countItems blockSays moofField numeric known wireOf _and_
   fields-tell =
       (line 0 refl then line 1 refl then line 2 refl then line 3 refl then line 4 refl
       then line 5 refl then line 6 refl then line 7 refl then line 8 refl then done)
