@@ -12,7 +12,7 @@ use Rattle.laws.specs.Options.{isSome}
 use Rattle.constants.specs.Maxima.{brandBytesMost, eventBytesMost}
 use Rattle.track.specs.declared.Track.{Track}
 use Rattle.slots.specs.Share.{trackOf}
-use Rattle.reference.proofs.OpenLaws.{lent}
+use Rattle.slots.proofs.ShareLaws.{lent}
 use Rattle.cmaf_read_chunk.specs.declared.read.Chunk.{Chunk}
 use Rattle.cmaf_read_chunk.specs.Accepted.{events}
 use Rattle.locmaf_write_tuples.specs.declared.tuples.Weight.{Weight}

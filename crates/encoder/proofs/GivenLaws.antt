@@ -21,7 +21,8 @@ use Rattle.share_words.specs.Share.{setAt}
 use Rattle.slots.specs.Share.{askedOf, trackOf, expectedIn}
 use Rattle.effective.specs.declared.expected.Expected.{Expected}
 use Rattle.effective.specs.Expected.{nextTime, expectedBy}
-use Rattle.reference.proofs.OpenLaws.{Opened, opened-facts, held-facts, expected-there, lent, reference-long}
+use Rattle.reference.proofs.OpenLaws.{Opened, opened-facts, held-facts, expected-there, reference-long}
+use Rattle.slots.proofs.ShareLaws.{lent}
 use Rattle.cmaf_read_shape.specs.Parts.{bodyOf, endOf}
 use Rattle.cmaf_read_shape.proofs.PartLaws.{body-in}
 use Rattle.cmaf_read_shape.proofs.TopLaws.{top-in, styp-inside}

@@ -43,7 +43,7 @@ use Rattle.locmaf_read_head.specs.Ids.{idsOk}
 use Rattle.locmaf_read_times.specs.Prft.{prftOf}
 use Rattle.effective.specs.Sums.{samplesOk, sizesOk, protectedOk}
 use Rattle.locmaf_read_events.specs.Values.{allFit, listed, fits, boxed}
-use Rattle.reference.specs.Kept.{prftWords, keptWords}
+use Rattle.reference.specs.Kept.{prftWords, expectedAfter, keptWords}
 use Rattle.receiver.specs.Object.{tuples, lengthAt, reads, isDelta, blockReads, headerId, blockEnd, entries, payload, headerReads, headRungs, blockAt, blockLength}
 use Rattle.receiver.specs.Receive.{receiving, newSet, sumsOk, splitRungs, heldOk, idsRight, valuesOk, accepted, bmdt, sequence, valueRungs, receiveRungs, events, chunk, prft}
 use Rattle.answers.specs.Refusals.{afterRefusal}
@@ -94,7 +94,7 @@ unfolding flagsAt be de gate ladder sum allZero allLe _and_ byFirst readF reache
     tupleFront tupleF bodyF tuplesF kindOf tuplesRun fullBox box protection trunFlags emsgBoxes stypBox moofWhole tfhdBox plain sizeOf prftBox mfhdBox trunRows
     tfhdFlags trunBox tfdtBox trunRow front moofBox sentList packed sentOne carried oldValues cellOf sayingOf among regionsOf regionOf setWords moofField deletionsOk
     countReached stands subsamples countFrom setRungs brandsFit came cameOf fieldRungs countOf durationsOf bmdtOf idsOk prftOf samplesOk sizesOk protectedOk allFit
-    listed fits boxed prftWords keptWords tuples lengthAt reads isDelta blockReads headerId blockEnd entries payload headerReads headRungs blockAt blockLength receiving
+    listed fits boxed prftWords keptWords expectedAfter tuples lengthAt reads isDelta blockReads headerId blockEnd entries payload headerReads headRungs blockAt blockLength receiving
     newSet sumsOk splitRungs heldOk idsRight valuesOk afterRefusal accepted bmdt sequence valueRungs receiveRungs events chunk prft
 computed = record { long = refl; full = refl; done = refl; stands = refl; lacks = refl; shows = refl; right = refl }
 

@@ -11,14 +11,14 @@ use Rattle.laws.specs.Ladder.{Rung, _else_, ladder, Hold}
 use Rattle.laws.proofs.LadderLaws.{climbs-both}
 use Rattle.wire.specs.declared.form.Row.{Row}
 use Rattle.track.specs.declared.Asked.{Asked}
-use Rattle.track.specs.Track.{narrow, u32, lawful as lawfulTrack}
+use Rattle.track.specs.Track.{u32, lawful as lawfulTrack}
 use Rattle.slots.specs.declared.lawful.Side.the-variants.{Receiver}
 use Rattle.share_words.specs.Share.{heldAt, prftAt, prftEnd, referenceLen, dropped}
 use Rattle.slots.specs.Share.{isOpen, lawful, opened}
 use Rattle.slots.specs.Table.{Out, out, onShare}
 use Rattle.slots.specs.Calls.{openRungs, openedRungs, opening, grouping}
 use Rattle.answers.specs.Took.{Took}
-use Rattle.reference.specs.Kept.{prftWords, expectedFor, referenceWords, keptWords}
+use Rattle.reference.specs.Kept.{prftWords, expectedWords, expectedAfter, referenceWords, keptWords}
 use Rattle.receiver.specs.Object.{isDelta}
 use Rattle.receiver.specs.Receive.{bmdt, prft, newSet, sequence, chunk, accepted, refusing, done, receiveRungs, receiving}
 use Rattle.answers.specs.Refusals.{afterRefusal}
@@ -79,11 +79,11 @@ module _ (a : Asked) (d n m : ℕ) (r : List ℕ) (small : m ≤ u32) (apart : n
     -- what is kept from the mark of the reference on
     abbrev kept : List ℕ
     kept =
-        referenceWords (cond (isDelta F o) (slice (prftAt - heldAt) (prftEnd - heldAt) r) (prftWords (prft F o (made a n r) .prft))) (expectedFor (narrow a) (newSet F o (made a n r)))
+        referenceWords (cond (isDelta F o) (slice (prftAt - heldAt) (prftEnd - heldAt) r) (prftWords (prft F o (made a n r) .prft))) (expectedWords (expectedAfter (newSet F o (made a n r)) (made a n r)))
         (newSet F o (made a n r))
 
     accepted-near : Near a d (accepted F o (made a n r)) (accepted F o (made a m r))
-    unfolding accepted keptWords newSet bmdt
+    unfolding accepted keptWords expectedAfter newSet bmdt
     accepted-near =
         record {
           count = sequence F o (made a n r);
@@ -94,7 +94,7 @@ module _ (a : Asked) (d n m : ℕ) (r : List ℕ) (small : m ≤ u32) (apart : n
               sym
               (λ j.
               made a (sequence F o (made a m r))
-              (referenceWords (cond (isDelta F o) (slice (prftAt - heldAt) (prftEnd - heldAt) r) (prftWords (time-same F o a n m r j .prft))) (expectedFor (narrow a) (newSet F o (made a n r)))
+              (referenceWords (cond (isDelta F o) (slice (prftAt - heldAt) (prftEnd - heldAt) r) (prftWords (time-same F o a n m r j .prft))) (expectedWords (expectedAfter (newSet F o (made a n r)) (made a n r)))
               (newSet F o (made a n r))));
           small = sequence-few F o (made a m r);
           apart = counts-on F o;

@@ -36,7 +36,8 @@ use Rattle.locmaf_read_times.proofs.BmdtLaws.{bmdt-sent}
 use Rattle.locmaf_read_times.proofs.PrftFacts.{full-alone}
 use Rattle.answers.specs.Took.{Took, refused}
 use Rattle.slots.proofs.ShareParts.{same-track}
-use Rattle.reference.specs.Kept.{prftWords, expectedFor, referenceWords, keptWords}
+use Rattle.reference.specs.Kept.{prftWords, expectedWords, expectedAfter, referenceWords, keptWords}
+use Rattle.effective.specs.Expected.{nextTime, expectedBy}
 use Rattle.receiver.specs.Object.{isDelta, headRungs, tuples, reads, entries, saying, payload}
 use Rattle.receiver.specs.Receive.{reference, bmdt, prft, events, newSet, heldOk, idsRight, splitRungs, valueRungs, sequence, accepted, refusing, done, receiveRungs, receiving}
 use Rattle.receiver.specs.Laws.{FullForgets, AnyOrder}
@@ -101,8 +102,8 @@ none-is (some zs) e = absurd (false≢true (sym e))
 -- what it leaves doesn't go by what was kept
 kept-full : (delta : Bool) (s s′ : List ℕ) {n n′ : ℕ} {p p′ : Prft} {w w′ : List ℕ} → delta ≡ false
     → take acceptedAt s ≡ take acceptedAt s′ → n ≡ n′ → p ≡ p′ → w ≡ w′ → keptWords delta n p w s ≡ keptWords delta n′ p′ w′ s′
-unfolding keptWords
-kept-full delta s s′ d e a b c = rw d (λ j. e j ++ (a j ∷ referenceWords (prftWords (b j)) (expectedFor (same-track s s′ e j) (c j)) (c j)))
+unfolding keptWords expectedAfter
+kept-full delta s s′ d e a b c = rw d (λ j. e j ++ (a j ∷ referenceWords (prftWords (b j)) (expectedWords (expectedBy (nextTime (same-track s s′ e j) (c j)))) (c j)))
 
 words-forgot : (t t′ : Track) (delta : Bool) (r r′ : List ℕ) (said : Says) (b b′ : ℕ) → delta ≡ false → t ≡ t′ → b ≡ b′
     → newWords t delta r said b ≡ newWords t′ delta r′ said b′

@@ -17,7 +17,8 @@ use Rattle.slots.specs.Share.{trackOf}
 use Rattle.locmaf_read_said.specs.Said.{Says, saysIn}
 use Rattle.locmaf_read_set.specs.Read.{newWords, fieldRungs, setRungs, ReadAs}
 use Rattle.locmaf_read_head.specs.declared.head.Place.{Place}
-use Rattle.reference.proofs.OpenLaws.{reference-long, lent}
+use Rattle.slots.proofs.ShareLaws.{lent}
+use Rattle.reference.proofs.OpenLaws.{reference-long}
 use Rattle.receiver.specs.declared.judge.Judged.{Judged}
 use Rattle.receiver.specs.Object.{isDelta, saying}
 use Rattle.receiver.specs.Receive.{track, reference, splitRungs, valueRungs, judgeRungs}

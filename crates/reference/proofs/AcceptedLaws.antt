@@ -24,7 +24,7 @@ use Rattle.effective.specs.declared.expected.Expected.{Expected}
 use Rattle.effective.specs.Durations.{Timed}
 use Rattle.effective.specs.Expected.{nextTime, expectedBy, same}
 use Rattle.effective.proofs.ExpectedLaws.{same-self}
-use Rattle.reference.specs.Kept.{prftWords, expectedWords, expectedFor, referenceWords, keptWith, keptWords, storedWords, renewed}
+use Rattle.reference.specs.Kept.{prftWords, expectedWords, expectedAfter, referenceWords, keptWith, keptWords, storedWords, renewed}
 use Rattle.reference.proofs.OpenLaws.{Opened}
 use Rattle.prft_value.specs.Prft.{InRange}
 
@@ -167,7 +167,7 @@ module _ (s : List ℕ) (l : length s ≡ shareLen) where
     -- it keeps its length
     pub accepted-long : length w ≡ setLen → length (keptWords delta n p w s) ≡ shareLen
     unfolding keptWords fiveOf
-    accepted-long lw = all-long (take acceptedAt s) n (fiveOf delta p) (expectedBy (nextTime (trackOf s) w)) w front-long (five-long delta p) lw
+    accepted-long lw = all-long (take acceptedAt s) n (fiveOf delta p) (expectedAfter w s) w front-long (five-long delta p) lw
 
     -- and its parameters
     accepted-kept : (k : ℕ) → k < acceptedAt → getD (keptWords delta n p w s) k 0 ≡ getD s k 0
@@ -186,26 +186,25 @@ module _ (s : List ℕ) (l : length s ≡ shareLen) where
     unfolding keptWords fiveOf
     accepted-prft =
         prft-in (keptWords delta n p w s)
-        ∙ ap prftIn (five-at (take acceptedAt s) n (fiveOf delta p) (expectedBy (nextTime (trackOf s) w)) w front-long (five-long delta p))
+        ∙ ap prftIn (five-at (take acceptedAt s) n (fiveOf delta p) (expectedAfter w s) w front-long (five-long delta p))
 
     accepted-set : drop setAt (keptWords delta n p w s) ≡ w
     unfolding keptWords fiveOf
-    accepted-set = set-at (take acceptedAt s) n (fiveOf delta p) (expectedBy (nextTime (trackOf s) w)) w front-long (five-long delta p)
+    accepted-set = set-at (take acceptedAt s) n (fiveOf delta p) (expectedAfter w s) w front-long (five-long delta p)
 
     accepted-count : getD (keptWords delta n p w s) acceptedAt 0 ≡ n
     unfolding keptWords fiveOf
-    accepted-count = count-at (take acceptedAt s) n (fiveOf delta p) (expectedBy (nextTime (trackOf s) w)) w front-long (five-long delta p)
+    accepted-count = count-at (take acceptedAt s) n (fiveOf delta p) (expectedAfter w s) w front-long (five-long delta p)
 
     accepted-mark : getD (keptWords delta n p w s) heldAt 0 ≡ 1
     unfolding keptWords fiveOf
-    accepted-mark = mark-at (take acceptedAt s) n (fiveOf delta p) (expectedBy (nextTime (trackOf s) w)) w front-long (five-long delta p)
+    accepted-mark = mark-at (take acceptedAt s) n (fiveOf delta p) (expectedAfter w s) w front-long (five-long delta p)
 
     accepted-expected : expectedOk (trackOf s) (keptWords delta n p w s) ≡ true
-    unfolding keptWords fiveOf expectedOk
+    unfolding keptWords fiveOf expectedOk expectedAfter
     accepted-expected =
-        let e = expectedBy (nextTime (trackOf s) w) in
-        let a : expectedIn (keptWords delta n p w s) ≡ e = expected-at (take acceptedAt s) n (fiveOf delta p) e w front-long (five-long delta p) in
-        (λ j. same (a j) (expectedBy (nextTime (trackOf s) (accepted-set j)))) ∙ same-self e
+        let a : expectedIn (keptWords delta n p w s) ≡ expectedAfter w s = expected-at (take acceptedAt s) n (fiveOf delta p) (expectedAfter w s) w front-long (five-long delta p) in
+        (λ j. same (a j) (expectedBy (nextTime (trackOf s) (accepted-set j)))) ∙ same-self (expectedBy (nextTime (trackOf s) w))
 
     accepted-reference : prftIn (fiveOf delta p) ≡ true → setOk (trackOf s) w ≡ true → referenceOk (trackOf s) (keptWords delta n p w s) ≡ true
     unfolding referenceOk
@@ -243,11 +242,11 @@ module _ (s : List ℕ) (l : length s ≡ shareLen) where
 
       -- and then all is kept
       pub all-kept : (t : Track) → t ≡ trackOf s → (after : List ℕ) → after ≡ renewed t kept → after ≡ keptWords delta n p w s
-      unfolding renewed keptWords fiveOf front
+      unfolding renewed keptWords expectedAfter fiveOf front
       all-kept t q after h =
           let a : take pastAt kept ≡ take acceptedAt s ++ (n ∷ 1 ∷ fiveOf delta p) =
           ap (take pastAt) (e ∙ stored-with) ∙ front-at (take acceptedAt s) n (fiveOf delta p) (expectedIn s) w front-long (five-long delta p) in
           let b : drop setAt kept ≡ w = ap (drop setAt) e ∙ stored-set in
           h
-          ∙ (λ j. a j ++ (expectedFor (q j) (b j) ++ b j))
-          ∙ append-assoc (take acceptedAt s) (n ∷ 1 ∷ fiveOf delta p) (expectedFor (trackOf s) w ++ w)
+          ∙ (λ j. a j ++ (expectedWords (expectedBy (nextTime (q j) (b j))) ++ b j))
+          ∙ append-assoc (take acceptedAt s) (n ∷ 1 ∷ fiveOf delta p) (expectedWords (expectedBy (nextTime (trackOf s) w)) ++ w)

@@ -46,10 +46,6 @@ held-facts t s h z =
 pub reference-long : (s : List ℕ) → length s ≡ shareLen → length (drop setAt s) ≡ setLen
 reference-long s l = omega (arith, length-drop setAt s)
 
--- the set as it is lent
-abbrev pub lent : List ℕ → List ℕ
-lent s = take (length s - setAt) (drop setAt s)
-
 -- what is left of zeros
 rest-zero : (n : ℕ) (l : List ℕ) → allZero l ≡ true → allZero (drop n l) ≡ true
 rest-zero n l e = right _ _ (sym (allZero-append (take n l) (drop n l)) ∙ ap allZero (take-append-drop n l) ∙ e)

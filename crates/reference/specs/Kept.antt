@@ -22,9 +22,9 @@ prftWords p = cond (p .stands) 1 0 ∷ p .ntp .0 ∷ p .media .0 ∷ p .version 
 abbrev pub expectedWords : Expected → List ℕ
 expectedWords e = e .past ∷ e .time ∷ []
 
--- 02, order 7: "Store the expected BMDT in each share ..: the sum it replaces wherever a reference is held": of the new set alone, on the track t (D144)
-abbrev pub expectedFor : Track → List ℕ → List ℕ
-expectedFor t newSet = expectedWords (expectedBy (nextTime t newSet))
+-- 02, order 7: "Store the expected BMDT in each share ..: the sum it replaces wherever a reference is held": that of the new set alone, on the share's track (D144)
+unfoldable pub expectedAfter : List ℕ → List ℕ → Expected
+expectedAfter newSet s = expectedBy (nextTime (trackOf s) newSet)
 
 -- the words of a reference: its mark, those of its `prft`, those of what is expected behind it, and the set
 abbrev pub referenceWords : List ℕ → List ℕ → List ℕ → List ℕ
@@ -38,7 +38,7 @@ keptWith expected delta sequence prft newSet s =
 
 -- and with what is expected behind its set
 unfoldable pub keptWords : Bool → ℕ → Prft → List ℕ → List ℕ → List ℕ
-keptWords delta sequence prft newSet s = keptWith (expectedFor (trackOf s) newSet) delta sequence prft newSet s
+keptWords delta sequence prft newSet s = keptWith (expectedWords (expectedAfter newSet s)) delta sequence prft newSet s
 
 -- ==== What only mirrors the code
 
@@ -52,4 +52,4 @@ storedWords delta sequence prft newSet s = keptWith (slice pastAt setAt s) delta
 
 -- and the renewal
 unfoldable pub renewed : Track → List ℕ → List ℕ
-renewed t s = take pastAt s ++ (expectedFor t (drop setAt s) ++ drop setAt s)
+renewed t s = take pastAt s ++ (expectedWords (expectedBy (nextTime t (drop setAt s))) ++ drop setAt s)
