@@ -1,4 +1,5 @@
 pub mod OpenLaws
+pub mod ExpectLaws
 pub mod KeepLaws
 pub mod AcceptedLaws
 pub mod KeptLaws

@@ -66,6 +66,11 @@ share-tidy side s l h o = go (eqb (getD s heldAt 0) 0) refl
     go true q = zeros-tidy (drop setAt s) (reference-long s l) (set-zero s (rw q at r))
     go false q = lawful-tidy (trackOf s) (drop setAt s) (reference-long s l) (held-facts (trackOf s) s r q .1)
 
+-- behind no reference nothing is expected
+pub none-next : (t : Track) (s : List ℕ) → referenceOk t s ≡ true → eqb (getD s heldAt 0) 0 ≡ true → nextTime t (drop setAt s) ≡ 0
+unfolding referenceOk
+none-next t s h q = zeros-next t (drop setAt s) (set-zero s (rw q at h))
+
 -- what is expected behind the words of the share, whether a reference is held or not
 pub expected-there : (side : Side) (s : List ℕ) → length s ≡ shareLen → lawful side s ≡ true → isOpen s ≡ true
     → expectedIn s ≡ expectedBy (nextTime (trackOf s) (drop setAt s))
@@ -82,7 +87,7 @@ expected-there side s l h o = go (eqb (getD s heldAt 0) 0) refl
         let time : getD s expectedAt 0 ≡ 0 = sym (getD-drop prftAt s (expectedAt - prftAt) 0) ∙ omega (arith, le-at 0 (drop prftAt s) (expectedAt - prftAt) (zeros-le 0 _ z)) in
         (λ j. record { past = past j; time = time j })
         ∙ kept-sum 0 (omega arith)
-        ∙ ap expectedBy (sym (zeros-next (trackOf s) (drop setAt s) (set-zero s z)))
+        ∙ ap expectedBy (sym (none-next (trackOf s) s r q))
     go false q =
         let ok : (eqb (getD s heldAt 0) 1 and prftOk s and expectedOk (trackOf s) s and setOk (trackOf s) (drop setAt s)) ≡ true = rw q at r in
         same-is _ _ (left _ _ (right _ _ (right _ _ ok)))
