@@ -2,8 +2,8 @@
 """workloads.py: writes, in C, the chunks that the growth of cost is measured on.
 
 For each length two chunks that take turns, as in a group: video with a size and a composition offset for each sample (v1 to v64), cenc with three
-subsamples for each (c1 to c64), audio whose samples are so small, and so much alike, that every number of a delta has one byte (a1 to a64), and audio of
-one sample with a list of events (e0 to e16). The form is that of the benchmark's own workloads.h: name,
+subsamples for each (c1 to c64), audio whose samples are so small, and so much alike, that every number of a delta has one byte (a1 to a64), the same with a
+duration for each sample (d2 to d64), and audio of one sample with a list of events (e0 to e16). The form is that of the benchmark's own workloads.h: name,
 parameters, ticks, and of each chunk the bytes up to and with the `mdat` header, the payload's length, and where BMDT stands."""
 import struct
 
@@ -28,11 +28,11 @@ def event(k):
     return full_box(b"emsg", 1, 0, u32(48000), struct.pack(">Q", 1 << 20), u32(960, k), b"urn:scte:scte35:2013:bin\0", b"%d\0" % k, bytes(range(40)))
 
 
-def chunk(sizes, offsets=None, subsamples=None, iv=0, events=0):
+def chunk(sizes, offsets=None, subsamples=None, iv=0, events=0, durations=None):
     """The bytes up to the payload, with BMDT 0, and where BMDT stands."""
     front = b"".join(event(k) for k in range(events))
-    flags = 0x201 | (0x800 if offsets else 0)
-    rows = b"".join(u32(s) + (u32(offsets[i]) if offsets else b"") for i, s in enumerate(sizes))
+    flags = 0x201 | (0x100 if durations else 0) | (0x800 if offsets else 0)
+    rows = b"".join((u32(durations[i]) if durations else b"") + u32(s) + (u32(offsets[i]) if offsets else b"") for i, s in enumerate(sizes))
     moof = box(b"moof")
     for _ in range(2):
         data = len(moof) + 8
@@ -61,6 +61,10 @@ def short(n, i):
     return chunk([40 + 7 * (k + i) % 16 for k in range(n)])
 
 
+def timed(n, i):
+    return chunk([40 + 7 * (k + i) % 16 for k in range(n)], durations=[1000 + (k + i) % 2 * 48 for k in range(n)])
+
+
 def audio(n, i):
     return chunk([300], events=n)
 
@@ -69,7 +73,7 @@ def main():
     rows = []
     print("/* Made by bench/workloads.py. */")
     kinds = (("v", LENGTHS, video, (1, 90000, 1, 3000, 0, 3, 0, 0), 3000), ("c", LENGTHS, cenc, (1, 48000, 1, 1024, 0, 0, 1, 16), 1024),
-             ("a", LENGTHS, short, (1, 48000, 1, 1024, 0, 0, 0, 0), 1024), ("e", EVENTS, audio, (1, 48000, 1, 1024, 0, 0, 0, 0), 0))
+             ("a", LENGTHS, short, (1, 48000, 1, 1024, 0, 0, 0, 0), 1024), ("d", LENGTHS[1:], timed, (1, 48000, 1, 0, 0, 0, 0, 0), 1024), ("e", EVENTS, audio, (1, 48000, 1, 1024, 0, 0, 0, 0), 0))
     for letter, lengths, make, params, ticks in kinds:
         for n in lengths:
             name = letter + str(n)

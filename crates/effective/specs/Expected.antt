@@ -21,7 +21,7 @@ nextTime t w = getD w bmdtAt 0 + durationsOf t w
 abbrev pub u64 : ℕ
 u64 = 2 ^ 64 - 1
 
--- what is kept of a sum. 02, order 7: "Store the expected BMDT ..; a sum past 2^64-1 is kept as a mark from which no BMDT is derived." (D144)
+-- what is kept of a sum. 02, order 7: "Store the expected BMDT ..; a sum past 2^64-1 is kept as a mark from which no BMDT is derived." (D147)
 unfoldable pub expectedBy : ℕ → Expected
 expectedBy n = cond (leb n u64) (record { past = 0; time = n }) (record { past = 1; time = 0 })
 

@@ -22,7 +22,7 @@ prftWords p = cond (p .stands) 1 0 ∷ p .ntp .0 ∷ p .media .0 ∷ p .version 
 abbrev pub expectedWords : Expected → List ℕ
 expectedWords e = e .past ∷ e .time ∷ []
 
--- 02, order 7: "Store the expected BMDT in each share ..: the sum it replaces wherever a reference is held": that of the new set alone, on the share's track (D144)
+-- 02, order 7: "Store the expected BMDT in each share ..: the sum it replaces wherever a reference is held": that of the new set alone, on the share's track (D147)
 unfoldable pub expectedAfter : List ℕ → List ℕ → Expected
 expectedAfter newSet s = expectedBy (nextTime (trackOf s) newSet)
 

@@ -79,7 +79,7 @@ abbrev pub expectedIn : List ℕ → Expected
 expectedIn s = record { past = getD s pastAt 0; time = getD s expectedAt 0 }
 
 -- 02, order 7: "Store the expected BMDT in each share, encoder's and receiver's: the sum it replaces wherever a reference is held ..; a sum past 2^64-1 is kept as a
--- mark from which no BMDT is derived. A share where it differs is unlawful, 18." (D144)
+-- mark from which no BMDT is derived. A share where it differs is unlawful, 18." (D147)
 unfoldable pub expectedOk : Track → List ℕ → Bool
 expectedOk t s = same (expectedIn s) (expectedBy (nextTime t (drop setAt s)))
 
