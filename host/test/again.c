@@ -4,7 +4,6 @@
 #include <string.h>
 
 #define LONG(x) ((unsigned long long)(x))
-enum { ACCEPTED = 8 }; /* the word that a receiver counts in, and an encoder doesn't */
 
 struct law {
     const char *name;

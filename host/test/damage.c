@@ -5,7 +5,7 @@
 #include <string.h>
 
 #define LONG(x) ((unsigned long long)(x))
-enum { HELD = 9, PRFT = 10, NTP = 11, MEDIA_TIME = 12, SET = 15, BMDT = SET, COUNT = SET + 1, IV_FIRST = SET + 270 };
+enum { BMDT = SET, COUNT = SET + 1, IV_FIRST = SET + 270 };
 enum { SLOT = 3, ROUNDS = 6000, SHARE_MOST = 4096 };
 
 /* The fields of the set: where the mark is, the room behind it, the largest value. */
@@ -85,6 +85,10 @@ static void every_region(const struct state *s) {
     must_refuse(s, 0, NTP, 1ull << 62, "NTP");
     must_refuse(s, 0, MEDIA_TIME, 1ull << 62, "media time");
     must_refuse(s, 0, BMDT, 1ull << 62, "BMDT");
+    must_refuse(s, 0, BMDT, share[BMDT] + 1, "BMDT without what is expected");
+    must_refuse(s, 0, PAST, 1, "the mark of a sum that passes");
+    must_refuse(s, 0, EXPECTED, share[EXPECTED] + 1, "too much is expected");
+    must_refuse(s, 0, EXPECTED, share[EXPECTED] - 1, "too little is expected");
     must_refuse(s, 0, COUNT, 65, "count");
     must_refuse(s, 0, 1, 0, "timescale");
     must_refuse(s, 0, 2, 0, "description index");

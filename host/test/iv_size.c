@@ -4,8 +4,8 @@
 #include <string.h>
 
 #define LONG(x) ((unsigned long long)(x))
-enum { ACCEPTED = 8, IV_SIZE_MARK = 15 + 979 }; /* words of a share, as docs/ARCHITECTURE.md gives them */
-enum { TIME_LOW = 66 };                         /* the last byte but one of the rebuilt chunk's BMDT: 0x77 in 96,000 */
+enum { IV_SIZE_MARK = SET + 979 };
+enum { TIME_LOW = 66 }; /* the last byte but one of the rebuilt chunk's BMDT: 0x77 in 96,000 */
 
 /* A track, an object with id 16 for it, and the fronts that follow from the table that this object leaves. */
 static const struct held_size {

@@ -20,6 +20,13 @@ static void same_front(const char *what, struct answer a, const uint8_t *front, 
         check(a.output[i] == front[i], "the example, %s: byte %zu should be %02x, and is %02x", what, i, front[i], a.output[i]);
 }
 
+/* What is expected behind the last chunk: its BMDT and its durations, or nothing. */
+static void expects(struct side *s, uint64_t time) {
+    const uint64_t *share = share_of(s, 0);
+    check(share[PAST] == 0 && share[EXPECTED] == time, "the example: the %s expects %llu, and not %llu", s->encoder ? "encoder" : "receiver",
+          (unsigned long long)share[EXPECTED], (unsigned long long)time);
+}
+
 static void both_ways(void) {
     struct side encoder, receiver;
     uint8_t chunk[104], object[13];
@@ -37,6 +44,10 @@ static void both_ways(void) {
     check(side_code(&receiver, 0, 0, object, 13, 99).number == 17, "the example: an output of 99 bytes is too short");
     same_front("object", side_code(&encoder, 0, 0, chunk, 104, 9), object_front, 9);
     same_front("chunk", side_code(&receiver, 0, 0, object, 13, 100), chunk, 100);
+    expects(&encoder, 96000 + 1024);
+    expects(&receiver, 96000 + 1024);
+    side_group(&encoder, 0);
+    expects(&encoder, 0);
     side_end(&encoder);
     side_end(&receiver);
 }

@@ -172,8 +172,8 @@ fn bare_ok(t: Track, w: &[u64], n: u64) -> bool
             & ((n == 0) | (t.protection as u64 != track::CENC)))
 }
 
-// Whether the words are those of a lawful set on the track. With no sample or one it is asked first whether any field stands; with several some field stands
-// nearly always. The subsample counts are looked at before the regions, since ids 13 and 15 go by their sum.
+// Whether the words are those of a lawful set on the track. With no sample or one it is asked first whether any field stands, but where an offset does, as with a
+// frame of video; with several some field stands nearly always. The subsample counts are looked at before the regions, since ids 13 and 15 go by their sum.
 pub fn test_set(t: Track, w: &[u64]) -> Tested
     requires { ⌜ length (now w) ≡ setLen ⌝ }
     requires { ⌜ t .«iv_size» ≤ 16 ⌝ }
@@ -184,11 +184,13 @@ pub fn test_set(t: Track, w: &[u64]) -> Tested
         return unlawful();
     }
     if n <= 1 {
-        if none_stands(w) {
-            return Tested {
-                ok: bare_ok(t, w, n),
-                durations: 0,
-            };
+        if w[lines::OFFSETS] == 0 {
+            if none_stands(w) {
+                return Tested {
+                    ok: bare_ok(t, w, n),
+                    durations: 0,
+                };
+            }
         }
     }
     let count = n as usize;

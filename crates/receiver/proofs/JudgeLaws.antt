@@ -67,13 +67,17 @@ first-held a b c e h = rw e h
 -- ---- BMDT, as code has it
 
 module _ {b : Bmdt} {n : ℕ} (h : BmdtAs b n) where
-  -- it is told and small just where it is small
-  pub bmdt-small : (b .told && leb (b .ticks .0) numberMost) ≡ leb n numberMost
-  bmdt-small = go (b .told) refl
+  -- it is small and told just where it is small, whatever else is asked
+  pub bmdt-small : (x : Bool) → (leb (b .ticks .0) numberMost && (b .told && x)) ≡ (leb n numberMost && x)
+  bmdt-small x = go (b .told) refl
     where
-      go : (f : Bool) → b .told ≡ f → (f && leb (b .ticks .0) numberMost) ≡ leb n numberMost
-      go true q = ap (λ (k : ℕ). leb k numberMost) (h .is q)
-      go false q = sym (lt-leb n numberMost (omega (arith, h .past q)))
+      never : (f : Bool) → (f && false) ≡ false
+      never true = refl
+      never false = refl
+
+      go : (f : Bool) → b .told ≡ f → (leb (b .ticks .0) numberMost && (f && x)) ≡ (leb n numberMost && x)
+      go true q = ap (λ (k : ℕ). leb k numberMost && x) (h .is q)
+      go false q = never (leb (b .ticks .0) numberMost) ∙ sym (ap (λ (f : Bool). f && x) (lt-leb n numberMost (omega (arith, h .past q))))
 
   pub bmdt-told : leb n numberMost ≡ true → b .ticks .0 ≡ n
   bmdt-told e = go (b .told) refl

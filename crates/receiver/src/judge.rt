@@ -76,7 +76,7 @@ fn values_of(delta: bool, payload: usize, events: usize, s: &[u64], index: &[u64
             & ((events <= maxima::EVENTS) & (index[places::EVENTS_LENGTH] <= maxima::EVENT_BYTES)));
     let prft = told.prft;
     let bmdt = b.ticks;
-    let ok = (b.told & (bmdt.0 <= maxima::NUMBER)) & (told.ok & most);
+    let ok = (bmdt.0 <= maxima::NUMBER) & (b.told & (told.ok & most));
     Values {
         ok,
         bmdt,

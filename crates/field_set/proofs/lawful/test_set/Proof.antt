@@ -16,18 +16,21 @@ unlawful-requires c κs = search needs
 returns : tie.Need-returns
 returns c = let s = c .before .before .before .before in tested-not (c .unlawful .ensures) (many-samples (s .args .t) (now (s .args .w)) (c .before .if1 .taken))
 
+shared-slice-read-if3 : tie.Need-shared-slice-read-if3
+shared-slice-read-if3 c = search needs
+
 none-stands-requires : tie.Need-none-stands-requires
 none-stands-requires c κs = search needs
 
 bare-ok-requires : tie.Need-bare-ok-requires
 bare-ok-requires c κs =
-    let p = c .before .before .before .before .before .before .pre in
-    ((p .0, p .1), (refl, search needs, sym (c .before .none-stands .ensures) ∙ c .if3 .taken))
+    let p = c .before .before .before .before .before .before .before .before .pre in
+    ((p .0, p .1), (refl, search needs, sym (c .before .none-stands .ensures) ∙ c .if4 .taken))
 
 returns-2 : tie.Need-returns-2
 returns-2 c =
-    let s = c .before .before .before .before .before .before .before in
-    record { right = c .bare-ok .ensures; summed = λ _. no-durations (now (s .args .w)) (sym (c .before .before .none-stands .ensures) ∙ c .before .if3 .taken) _ }
+    let s = c .before .before .before .before .before .before .before .before .before in
+    record { right = c .bare-ok .ensures; summed = λ _. no-durations (now (s .args .w)) (sym (c .before .before .none-stands .ensures) ∙ c .before .if4 .taken) _ }
 
 shared-slice-read-tally-of : tie.Need-shared-slice-read-tally-of
 shared-slice-read-tally-of c = search needs
@@ -42,10 +45,10 @@ returns-3 : tie.Need-returns-3
 returns-3 c =
     let s = c .before .before .before .before .before .before .before .before .before in
     tested-not (c .unlawful2 .ensures)
-    (many-subsamples (s .args .t) (now (s .args .w)) (c .before .before .before .before .before .before .if1 .left) (s .pre .1) (c .before .before .before .tally-of .result) (c .before .before .before .tally-of .ensures) (c .before .if4 .taken))
+    (many-subsamples (s .args .t) (now (s .args .w)) (c .before .before .before .before .before .before .if1 .left) (s .pre .1) (c .before .before .before .tally-of .result) (c .before .before .before .tally-of .ensures) (c .before .if5 .taken))
 
-cast-t16 : tie.Need-cast-t16
-cast-t16 c = search needs
+cast-t19 : tie.Need-cast-t19
+cast-t19 c = search needs
 
 regions-ok-requires : tie.Need-regions-ok-requires
 regions-ok-requires c κs = search needs
@@ -69,7 +72,7 @@ returns-4 : tie.Need-returns-4
 returns-4 c =
     let s = c .before .before .before .before .before .before .before .before .before .before .before .before .before .before .before .before .before in
     let y = c .before .before .before .before .before .before .before .before .before .before .before .tally-of in
-    lawful-tested (s .args .t) (now (s .args .w)) (c .before .before .before .before .before .before .before .before .before .before .before .before .before .before .if1 .left) (s .pre .1) (y .result) (y .ensures) (c .before .before .before .before .before .before .before .before .before .if4 .left)
+    lawful-tested (s .args .t) (now (s .args .w)) (c .before .before .before .before .before .before .before .before .before .before .before .before .before .before .if1 .left) (s .pre .1) (y .result) (y .ensures) (c .before .before .before .before .before .before .before .before .before .if5 .left)
     _ _ _ (c .before .before .before .before .before .before .before .regions-ok .ensures) (c .before .before .before .before .same-iv-size .ensures) (rw (c .before .before .marks-of .ensures) at (c .rules-ok .ensures))
 
 pub test-set-spec : {M : Type 1} → statement M
@@ -79,6 +82,7 @@ test-set-spec =
     shared-slice-read-n
     unlawful-requires
     returns
+    shared-slice-read-if3
     none-stands-requires
     bare-ok-requires
     returns-2
@@ -86,7 +90,7 @@ test-set-spec =
     tally-of-requires
     unlawful-requires-2
     returns-3
-    cast-t16
+    cast-t19
     regions-ok-requires
     shared-slice-read-ok
     same-iv-size-requires

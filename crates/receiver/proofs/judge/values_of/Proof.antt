@@ -5,9 +5,11 @@ use lib.Dec.{leb}
 use lib.ListN.{getD, drop}
 use denote.Ref.{now}
 use borrow.Author.Needs.{needs}
-use Rattle.constants.specs.Maxima.{payloadMost, brandBytesMost, eventsMost, eventBytesMost}
+use Rattle.constants.specs.Maxima.{numberMost, payloadMost, brandBytesMost, eventsMost, eventBytesMost}
 use Rattle.share_words.specs.Share.{setAt}
 use Rattle.locmaf_read_index.specs.Places.{numberAt}
+use Rattle.locmaf_read_said.specs.Said.{scalarIn}
+use Rattle.locmaf_read_times.specs.Bmdt.{bmdtOf}
 use Rattle.locmaf_read_times.specs.declared.prft.Told.{Told}
 use Rattle.receiver.proofs.JudgeLaws.{bmdt-small, bmdt-told}
 use Rattle.receiver.proofs.judge.values_of.Statement.{statement}
@@ -41,11 +43,14 @@ returns c =
       time = ap (λ (u : Told). u .prft) (r .ensures);
       named = n .part-of .ensures;
       tested =
-          λ j.
-          bmdt-small e j
-          && (r .ensures j .ok
+          bmdt-small e _
+          ∙ ap
+          (λ (u : Told).
+          leb (bmdtOf t (scalarIn (now (a .index)) 10) (drop setAt (now (a .s)))) numberMost
+          && (u .ok
           && (leb (a .payload) payloadMost
-          && (leb (n .part-of .result .len) brandBytesMost && (leb (a .events) eventsMost && leb (getD (now (a .index)) (numberAt 25) 0) eventBytesMost))));
+          && (leb (n .part-of .result .len) brandBytesMost && (leb (a .events) eventsMost && leb (getD (now (a .index)) (numberAt 25) 0) eventBytesMost)))))
+          (r .ensures);
     }
 
 pub values-of-spec : {M : Type 1} → statement M
