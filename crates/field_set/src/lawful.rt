@@ -172,7 +172,7 @@ fn bare_ok(t: Track, w: &[u64], n: u64) -> bool
             & ((n == 0) | (t.protection as u64 != track::CENC)))
 }
 
-// Whether the words are those of a lawful set on the track. With no sample or one it is asked first whether any field stands, but where an offset does, as with a
+// Whether the words are those of a lawful set on the track. With no sample or one it is asked first whether any field stands, unless an offset does, as in a
 // frame of video; with several some field stands nearly always. The subsample counts are looked at before the regions, since ids 13 and 15 go by their sum.
 pub fn test_set(t: Track, w: &[u64]) -> Tested
     requires { ⌜ length (now w) ≡ setLen ⌝ }
