@@ -37,6 +37,13 @@ unfoldable pub among : ℕ → List ℕ → Bool
 among id [] = false
 among id (d ∷ ds) = eqb d id || among id ds
 
+-- two lists are equal
+unfoldable pub same : List ℕ → List ℕ → Bool
+same [] [] = true
+same [] (y ∷ ys) = false
+same (x ∷ xs) [] = false
+same (x ∷ xs) (y ∷ ys) = eqb x y and same xs ys
+
 -- ==== What only mirrors the code
 
 -- the bits that are set in one number or another

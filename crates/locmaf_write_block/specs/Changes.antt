@@ -7,7 +7,7 @@ use mathlib.Core.Option.{some}
 use lib.Dec.{eqb}
 use lib.ListN.{length, getD}
 use lib.Seq.{slice}
-use Rattle.laws.specs.Tests.{_and_}
+use Rattle.laws.specs.Tests.{same}
 use Rattle.constants.specs.Maxima.{subsamplesMost}
 use Rattle.wire.specs.declared.form.Row.{Row}
 use Rattle.wire.specs.declared.zigzag.Coding.{Coding}
@@ -32,13 +32,6 @@ use Rattle.locmaf_write_tuples.specs.Items.{Items, nothing, numberItem, runItem
 -- take the case out." (D142)
 abbrev pub chunkLines : ℕ
 chunkLines = lineCount - 1
-
--- two lists are equal
-unfoldable pub same : List ℕ → List ℕ → Bool
-same [] [] = true
-same [] (y ∷ ys) = false
-same (x ∷ xs) [] = false
-same (x ∷ xs) (y ∷ ys) = eqb x y and same xs ys
 
 abbrev pub onChange : {A : Type 0} → Change → A → A → A
 onChange Omitted f z = z

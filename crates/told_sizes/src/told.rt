@@ -33,7 +33,7 @@ fn told_sum(t: Track, w: &[u64]) -> u64
 }
 
 // Whether the words tell no size of the sample with the number i, or just this one.
-fn may_have(t: Track, w: &[u64], i: usize, bytes: u64) -> bool
+pub fn may_have(t: Track, w: &[u64], i: usize, bytes: u64) -> bool
     requires { ⌜ (length (now w) ≡ setLen) × (i < samplesMost) ⌝ }
     ensures { λ r. ⌜ r ≡ mayHave t (now (w .entry)) i bytes ⌝ }
 {

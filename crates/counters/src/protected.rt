@@ -1,0 +1,74 @@
+// The protected bytes of a sample: all of it, or those that its subsamples have.
+// Letters: `t` the track, `w` the words of a set, `i` which sample, counted from 0, `j` the number of a subsample.
+ghost use mathlib.Core.Path.{_≡_};
+ghost use mathlib.Core.Bool.{true, false};
+ghost use Prim.Native.Nat.{ℕ, _+_, _^_, _≤_, _<_};
+ghost use Rattle.constants.specs.Maxima.{subsamplesMost};
+ghost use Rattle.field_set.specs.Lawful.{has, valueAt, countIn, lawful};
+ghost use Rattle.told_sizes.specs.Sums.{Summable};
+ghost use Rattle.effective.specs.Sizes.{Sized};
+ghost use Rattle.counters.specs.Protected.{protectedOf, lastPairs, lastBytes, lastProtected, lastFits};
+use constants::maxima;
+use field_table::lines;
+use told_sizes::sums::add_up;
+use track::Track;
+
+// Those of a sample that isn't the last, the first of whose subsamples has the number j: no payload is asked for, since the size of such a sample is told.
+pub fn protected_of(t: Track, w: &[u64], i: usize, j: usize) -> u64
+    requires { ⌜ Summable (now w) × (i + 1 < countIn (now w)) ⌝ }
+    requires { ⌜ (has 11 (now w) ≡ true → j + valueAt 11 i (now w) ≤ subsamplesMost) ⌝ }
+    ensures { λ r. ⌜ ((payload : ℕ) → r ≡ protectedOf t (now (w .entry)) payload i j) × (r ≤ 2 ^ 48) ⌝ }
+{
+    if w[lines::SUBSAMPLES] != 0 {
+        let from = lines::PROTECTED + 1 + j;
+        return add_up(w, from, from + w[lines::SUBSAMPLES + 1 + i] as usize);
+    }
+    if w[lines::SIZES] != 0 {
+        return w[lines::SIZES + 1 + i];
+    }
+    if w[lines::SIZE] != 0 {
+        return w[lines::SIZE + 1];
+    }
+    t.size as u64
+}
+
+// Those of the last sample by its subsamples, which are the last of all.
+fn last_bytes(w: &[u64]) -> u64
+    requires { ⌜ Summable (now w) ⌝ }
+    requires { ⌜ (has 11 (now w) ≡ true) × (1 ≤ countIn (now w)) ⌝ }
+    ensures { λ r. ⌜ r ≡ lastBytes (now (w .entry)) ⌝ }
+{
+    let end = lines::SUBSAMPLES + w[lines::COUNT] as usize;
+    let from = lines::PROTECTED + 1 + add_up(w, lines::SUBSAMPLES + 1, end) as usize;
+    add_up(w, from, from + w[end] as usize)
+}
+
+// Those of the last sample of a chunk; 0 off cenc and without samples, where no IV stands.
+pub fn last_protected(t: Track, w: &[u64], payload: u64) -> u64
+    requires { ⌜ Summable (now w) × Sized (now w) payload ⌝ }
+    requires { ⌜ lawful t (now w) ≡ true ⌝ }
+    ensures { λ r. ⌜ r ≡ lastProtected t (now (w .entry)) payload ⌝ }
+{
+    if w[lines::IVS] == 0 {
+        return 0;
+    }
+    if w[lines::SUBSAMPLES] != 0 {
+        return last_bytes(w);
+    }
+    effective::sizes::last_size(t, w, payload)
+}
+
+// Whether a number can be that, as far as the words tell it.
+pub fn last_fits(t: Track, w: &[u64], last: u64) -> bool
+    requires { ⌜ Summable (now w) × (lawful t (now w) ≡ true) ⌝ }
+    ensures { λ r. ⌜ r ≡ lastFits t (now (w .entry)) last ⌝ }
+{
+    if w[lines::IVS] == 0 {
+        return last == 0;
+    }
+    if w[lines::SUBSAMPLES] != 0 {
+        return last == last_bytes(w);
+    }
+    (last <= maxima::PAYLOAD)
+        & told_sizes::told::may_have(t, w, w[lines::COUNT] as usize - 1, last)
+}
