@@ -1,18 +1,16 @@
 // What a refused object leaves of its share.
 // Letters: `s` the words of a share.
 ghost use mathlib.Core.Path.{_≡_};
-ghost use mathlib.Core.Bool.{_&&_};
-ghost use lib.Dec.{leb};
 ghost use lib.ListN.{length};
 ghost use Rattle.share_words.specs.Share.{shareLen};
-ghost use Rattle.answers.specs.Refusals.{afterRefusal};
+ghost use Rattle.answers.specs.Refusals.{droppedBy, afterRefusal};
 use share_words::share;
 
-// 12 to 16 drop the reference: what the object was read against can't be told any more.
+// 12 to 16 and 21 drop the reference: what the object was read against can't be told any more.
 fn drops(number: u64) -> bool
-    ensures { λ r. ⌜ r ≡ (leb 12 number && leb number 16) ⌝ }
+    ensures { λ r. ⌜ r ≡ droppedBy number ⌝ }
 {
-    (12 <= number) & (number <= 16)
+    ((12 <= number) & (number <= 16)) | (number == 21)
 }
 
 // The share after a refusal with the number; every other number changes nothing.

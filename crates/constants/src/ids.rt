@@ -8,6 +8,9 @@ pub const DELTA: u64 = 25;
 // How many ids a block can have a tuple of: those from 0 to 27, the ones that are unknown counted too.
 pub const IDS: usize = 28;
 
+// The IVs, which a delta leaves out where they follow.
+pub const IVS: u64 = 9;
+
 // The ids that have no place in the set's table: BMDT, the sample count, the four of a producer reference time, brands, events, deletions.
 pub const BMDT: u64 = 10;
 

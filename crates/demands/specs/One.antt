@@ -18,6 +18,7 @@ use Rattle.slots.specs.Table.{Out, out, itself, shareAt, putShare, tableRungs, 
 use Rattle.slots.specs.Calls.{openRungs, openedRungs, opening, closing, grouping}
 use Rattle.slots.specs.Laws.{FreshLawful}
 use Rattle.answers.specs.Took.{Took, refused, PastStays}
+use Rattle.answers.specs.Refusals.{droppedBy}
 use Rattle.cmaf_read_chunk.specs.Accepted.{top}
 use Rattle.encoder.specs.Encode.{encodeRungs, kept, encoding}
 use Rattle.receiver.specs.Object.{blockEnd}
@@ -86,14 +87,14 @@ rules a slot t = tableRungs t slot ++ shareRules a (shareAt t slot)
 -- their numbers. 01: "Order: 18 for length, 1, 18 for the share, 2 or 3, 4. Then the encoder: 5, 6, 8, 7, 9, 17. The receiver: 12 (header id), 10, 12 (block
 -- length cut or past the object), 15 (block over its maximum), 11, 12 (tuples, varints, emsg records), 13, 14 (deletions), 15 (sample count), 14 (lengths but 13
 -- and 15), 15 (id 11's values and sum), 14 (lengths of 13 and 15, set), 15 (all other values, ..), 16, 17." The last 15 is two rules here: the values of the set,
--- and all others (D3)
+-- and all others (D3). 02, order 6: "21, receiver only, .. after 16, before 17"
 abbrev pub order : Call → List ℕ
 order (opens side a) = 18 ∷ 1 ∷ 18 ∷ 3 ∷ 4 ∷ []
 order (closes side) = 18 ∷ 1 ∷ 18 ∷ 2 ∷ []
 order (starts side) = 18 ∷ 1 ∷ 18 ∷ 2 ∷ []
 order (encodes wish c output) = 18 ∷ 1 ∷ 18 ∷ 2 ∷ 5 ∷ 6 ∷ 8 ∷ 7 ∷ 9 ∷ 17 ∷ []
 order (receives o output) =
-    18 ∷ 1 ∷ 18 ∷ 2 ∷ 12 ∷ 10 ∷ 12 ∷ 15 ∷ 11 ∷ 12 ∷ 13 ∷ 14 ∷ 15 ∷ 14 ∷ 15 ∷ 14 ∷ 15 ∷ 15 ∷ 16 ∷ 17 ∷ []
+    18 ∷ 1 ∷ 18 ∷ 2 ∷ 12 ∷ 10 ∷ 12 ∷ 15 ∷ 11 ∷ 12 ∷ 13 ∷ 14 ∷ 15 ∷ 14 ∷ 15 ∷ 14 ∷ 15 ∷ 15 ∷ 16 ∷ 21 ∷ 17 ∷ []
 
 -- the number k is answered to a call whose rules are rs. That 0 is none of their numbers, the list shows
 pub record ExactlyWhen (k : ℕ) (numbers : List ℕ) (rs : List Rung) : Type 0 where
@@ -109,9 +110,9 @@ pub record ExactlyWhen (k : ℕ) (numbers : List ℕ) (rs : List Rung) : Type 0 
 
 -- ---- what it leaves
 
--- 01: "Numbers 12 to 16 drop the slot's reference"
+-- 01: "Numbers 12 to 16 drop the slot's reference"; 02, order 6: "21, .. dropping the reference"
 abbrev pub Drops : ℕ → Type 0
-Drops k = (12 ≤ k) × (k ≤ 16)
+Drops k = droppedBy k ≡ true
 
 -- 01: "All but 0 write nothing to the output and hand back length 0 and an empty payload part at the front of the lent bytes. Numbers 12 to 16 drop the slot's
 -- reference; every other refusal changes nothing, in the encoder too.": 1 leaves the whole table, and so does 18, for the table's length too

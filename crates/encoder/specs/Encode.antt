@@ -39,7 +39,7 @@ module _ (F : List Row) (wish : Bool) (c output s : List ℕ) where
 
   -- 01: "The reference is the previous accepted chunk's set of moof fields, .. kept with the current full's `prft`." (D73)
   unfoldable pub kept : List ℕ
-  kept = keptWords (givesDelta F s c wish) (getD s acceptedAt 0) (prft c) (fields (track F s c) c) s
+  kept = keptWords (givesDelta F s c wish) (getD s acceptedAt 0) (prft c) (fields (track F s c) c) (length (payload c)) s
 
   -- 01: "The output holds the front: .. all of an object before the payload. Done reports the front's length; bytes past it stay."
   abbrev pub done : Out Took

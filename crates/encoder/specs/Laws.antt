@@ -74,10 +74,10 @@ BlockFits = (form : Form) (wish : Bool) (c output s : List ℕ) → allLe 255 c 
 -- 02, order 9: "no accepted chunk reaches the encoder's case for id 16. Show that, and take the case out." In a full object and in a delta, against any reference r
 pub record WithoutCase (F : List Row) (t : Track) (c : List ℕ) : Type 0 where
   -- a line for id 16, as for every other id, would add nothing to the fields of an accepted chunk (D142)
-  pub same : (delta : Bool) (r : List ℕ)
-      → fieldItems F t delta r (fields t c) before lineItems t delta r (fields t c) (lineFor 16 lines) F ≡ fieldItems F t delta r (fields t c)
+  pub same : (delta follow : Bool) (r : List ℕ)
+      → fieldItems F t delta follow r (fields t c) before lineItems t delta follow r (fields t c) (lineFor 16 lines) F ≡ fieldItems F t delta follow r (fields t c)
   -- and 16 is listed in id 27 exactly where a delta's reference has an id 16 (D143)
-  pub deleted : (delta : Bool) (r : List ℕ) → among 16 (goneOf t delta r (fields t c) lines) ≡ (delta && has 16 r)
+  pub deleted : (delta follow : Bool) (r : List ℕ) → among 16 (goneOf t delta follow r (fields t c) lines) ≡ (delta && has 16 r)
 
 abbrev pub CaseTakenOut : Type 0
 CaseTakenOut = (F : List Row) (t : Track) (c : List ℕ) → ivOk (t .protection) (t .«iv_size») ≡ true → Hold (acceptRungs F t c) → WithoutCase F t c

@@ -16,10 +16,11 @@ use Rattle.block_items.specs.Events.{Event, encEvents}
 use Rattle.block_items.specs.Items.{run}
 use Rattle.track.specs.declared.Track.{Track}
 use Rattle.prft_value.specs.declared.Prft.{Prft}
-use Rattle.share_words.specs.Share.{heldAt, prftAt, setAt}
+use Rattle.share_words.specs.Share.{heldAt, prftAt, lastAt, setAt}
 use Rattle.slots.specs.Share.{trackOf}
 use Rattle.locmaf_write_events.specs.Records.{timesFit}
-use Rattle.cmaf_read_chunk.specs.Accepted.{bmdt, prft, brands, events, fields}
+use Rattle.cmaf_read_chunk.specs.Accepted.{bmdt, prft, brands, events, payload, fields}
+use Rattle.counters.specs.Follow.{ivsFollow}
 use Rattle.locmaf_write_tuples.specs.Items.{Items, nothing, _before_, itemsIf, bytesOf}
 use Rattle.locmaf_write_block.specs.Fields.{fieldItems, deletionItems}
 use Rattle.locmaf_write_prft.specs.Prft.{timesItems, versionItems, flagsItems}
@@ -50,16 +51,20 @@ module _ (F : List Row) (s c : List ℕ) where
   abbrev pub reference : List ℕ
   reference = drop setAt s
 
+  -- 02, order 6: "For cenc, .. for deltas: if each IV follows, .. id 9 is omitted"; "in a full object, id 9 always stands" (D150)
+  unfoldable pub leavesOut : Bool → Bool
+  leavesOut delta = delta && ivsFollow track (getD s lastAt 0) reference (fields track c) (length (payload c))
+
   -- 01: "The encoder writes them ascending": ids 1 to 15, 18 and 20, 22, 23, 24, 25, 27 (D72)
   unfoldable pub blockItems : Bool → Items
   blockItems delta =
-      fieldItems F track delta reference (fields track c)
+      fieldItems F track delta (leavesOut delta) reference (fields track c)
       before timesItems F delta s (prft c)
       before versionItems F delta s (prft c)
       before brandItems delta (brands c)
       before flagsItems F delta s (prft c)
       before eventItems F (events track c)
-      before deletionItems F track delta reference (fields track c)
+      before deletionItems F track delta (leavesOut delta) reference (fields track c)
 
   -- a header, the block's length, and the block
   unfoldable pub objectOf : Bool → List ℕ

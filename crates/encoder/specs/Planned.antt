@@ -2,9 +2,9 @@
 -- ==== What only mirrors the code
 use Prim.Native.Nat.{ℕ, _+_, _≤_}
 use mathlib.Core.Path.{_≡_}
-use mathlib.Core.Bool.{Bool, true}
+use mathlib.Core.Bool.{Bool, true, _&&_}
 use mathlib.Core.List.{List}
-use lib.ListN.{length, getD}
+use lib.ListN.{length, getD, drop}
 use Rattle.constants.specs.Maxima.{brandBytesMost, eventBytesMost}
 use Rattle.wire.specs.declared.form.Row.{Row}
 use Rattle.wire.specs.Varint.{sizeOf}
@@ -13,7 +13,8 @@ use Rattle.laws.specs.Writes.{Wrote}
 use Rattle.field_table.specs.Lines.{setLen}
 use Rattle.field_set.specs.Lawful.{lawful}
 use Rattle.slots.specs.declared.lawful.Side.the-variants.{Encoder}
-use Rattle.share_words.specs.Share.{shareLen, acceptedAt, heldAt}
+use Rattle.share_words.specs.Share.{shareLen, acceptedAt, heldAt, lastAt, setAt}
+use Rattle.counters.specs.Follow.{ivsFollow}
 use Rattle.slots.specs.Share.{isOpen, lawful as lawfulShare}
 use Rattle.reference.specs.Kept.{keptWords}
 use Rattle.track.specs.declared.Track.{Track}
@@ -79,6 +80,10 @@ OfEach F t s k ws x P = (c : List ℕ) → Encodable F t s c k ws x → P c
 abbrev pub Held : Bool → List ℕ → Type 0
 Held delta s = delta ≡ true → (getD s heldAt 0 ≡ 0 → ⊥)
 
+-- whether the IVs of the set x are left out, whatever its payload: the size of a sample that isn't the last doesn't go by it
+abbrev pub Leaves : Track → Bool → List ℕ → List ℕ → Bool → Type 0
+Leaves t delta s x follow = (payload : ℕ) → follow ≡ (delta && ivsFollow t (getD s lastAt 0) (drop setAt s) x payload)
+
 -- the bytes before the payload, by the plan
 unfoldable pub frontBytes : List Row → Plan → ℕ
 frontBytes F a = sizeOf F (headerOf (a .delta)) + (sizeOf F (a .block) + a .block)
@@ -93,7 +98,7 @@ pub record Sendable (F : List Row) (s c : List ℕ) (a : Plan) : Type 0 where
 pub record WrittenAs (F : List Row) (s c : List ℕ) (a : Plan) (k : Chunk) (x output : List ℕ) (r : Answer) (after words : List ℕ) : Type 0 where
   pub answer : r ≡ record { number = 0; front = r .front; payload = k .payload }
   pub written : Wrote output 0 (objectOf F s c (a .delta)) after (r .front)
-  pub kept : words ≡ keptWords (a .delta) (getD s acceptedAt 0) (k .prft) x s
+  pub kept : words ≡ keptWords (a .delta) (getD s acceptedAt 0) (k .prft) x (k .payload .len) s
 
 -- the plan: 0 and the kind of object with its block's length, or 9
 pub record PlannedAs (F : List Row) (s c : List ℕ) (wish : Bool) (a : Plan) : Type 0 where

@@ -14,7 +14,7 @@ ghost use Rattle.cmaf_read_chunk.specs.Chunks.{ReadAs};
 ghost use Rattle.locmaf_write_block.specs.Fields.{Kept};
 ghost use Rattle.encoder.specs.Object.{objectOf};
 ghost use Rattle.encoder.specs.Encode.{wished, encoding, onOpen, onAccepted};
-ghost use Rattle.encoder.specs.Planned.{Encodable, OnShare, Sendable, WrittenAs};
+ghost use Rattle.encoder.specs.Planned.{Encodable, OnShare, Sendable, Leaves, WrittenAs};
 use crate::front;
 use crate::front::Plan;
 use answers::answer;
@@ -47,7 +47,8 @@ fn write(
 ) -> Answer
     requires { ⌜ Encodable (rows form) t (now s) (now c) k (now events) (now x) ⌝ }
     requires { ⌜ Sendable (rows form) (now s) (now c) a ⌝ }
-    requires { ⌜ Kept (rows form) t (a .delta) (drop setAt (now s)) (now x) (now kept) ⌝ }
+    requires { ⌜ Leaves t (a .delta) (now s) (now x) (a .follow) ⌝ }
+    requires { ⌜ Kept (rows form) t (a .delta) (a .follow) (drop setAt (now s)) (now x) (now kept) ⌝ }
     requires { ⌜ length (objectOf (rows form) (now s) (now c) (a .delta)) ≤ length (now output) ⌝ }
     ensures { λ r. ⌜ WrittenAs (rows form) (now (s .entry)) (now (c .entry)) a k (now (x .entry)) (now (output .entry))
         r (now (output .exit)) (now (s .exit)) ⌝ }
@@ -57,7 +58,7 @@ fn write(
     let payload = k.payload;
     let sequence = s[share::ACCEPTED];
     reference::keep::keep(&mut *s, a.delta, prft, sequence, x);
-    reference::keep::renew(t, a.delta, s);
+    reference::keep::renew(t, a.delta, payload.len as u64, s);
     Answer {
         number: 0,
         front: n as u64,

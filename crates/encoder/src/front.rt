@@ -10,7 +10,7 @@ ghost use Rattle.share_words.specs.Share.{shareLen, setAt};
 ghost use Rattle.locmaf_write_tuples.specs.Items.{weightMost};
 ghost use Rattle.locmaf_write_block.specs.Fields.{keptLen, Kept};
 ghost use Rattle.encoder.specs.Object.{headerOf, mayDelta, objectOf};
-ghost use Rattle.encoder.specs.Planned.{Encodable, ReadOfOne, OfEach, frontBytes, Sendable, PlannedAs};
+ghost use Rattle.encoder.specs.Planned.{Encodable, ReadOfOne, OfEach, frontBytes, Sendable, Leaves, PlannedAs};
 use crate::properties;
 use cmaf_read_chunk::read::Chunk;
 use constants::ids;
@@ -23,6 +23,7 @@ use wire::form::Form;
 pub struct Plan {
     pub fits: bool,
     pub delta: bool,
+    pub follow: bool,
     pub block: usize,
 }
 
@@ -49,23 +50,27 @@ pub fn choose(
     requires { ⌜ length (now kept) ≡ keptLen ⌝ }
     ensures { λ a. ⌜ OfEach (rows form) t (now (s .entry)) k (now (ws .entry)) (now (x .entry))
         (λ c. PlannedAs (rows form) (now (s .entry)) c wish a)
-        × Kept (rows form) t (a .delta) (drop setAt (now (s .entry))) (now (x .entry)) (now (kept .exit)) ⌝ }
+        × Leaves t (a .delta) (now (s .entry)) (now (x .entry)) (a .follow)
+        × Kept (rows form) t (a .delta) (a .follow) (drop setAt (now (s .entry))) (now (x .entry)) (now (kept .exit)) ⌝ }
 {
     let p = k.prft;
     if may_delta(wish, s, p) {
-        let d = properties::block_size(form, t, true, s, k, ws, x, &mut *kept);
+        let follow = counters::follow::ivs_follow(t, s[share::LAST], &s[share::SET..], x);
+        let d = properties::block_size(form, t, true, follow, s, k, ws, x, &mut *kept);
         if d.fits {
             return Plan {
                 fits: true,
                 delta: true,
+                follow,
                 block: d.bytes,
             };
         }
     }
-    let f = properties::block_size(form, t, false, s, k, ws, x, kept);
+    let f = properties::block_size(form, t, false, false, s, k, ws, x, kept);
     Plan {
         fits: f.fits,
         delta: false,
+        follow: false,
         block: f.bytes,
     }
 }
@@ -103,12 +108,13 @@ pub fn put_front(
 ) -> usize
     requires { ⌜ Encodable (rows form) t (now s) (now c) k (now ws) (now x) ⌝ }
     requires { ⌜ Sendable (rows form) (now s) (now c) a ⌝ }
-    requires { ⌜ Kept (rows form) t (a .delta) (drop setAt (now s)) (now x) (now kept) ⌝ }
+    requires { ⌜ Leaves t (a .delta) (now s) (now x) (a .follow) ⌝ }
+    requires { ⌜ Kept (rows form) t (a .delta) (a .follow) (drop setAt (now s)) (now x) (now kept) ⌝ }
     requires { ⌜ length (objectOf (rows form) (now s) (now c) (a .delta)) ≤ length (now out) ⌝ }
     ensures { λ n. ⌜ Wrote (now (out .entry)) 0 (objectOf (rows form) (now (s .entry)) (now (c .entry)) (a .delta))
         (now (out .exit)) n ⌝ }
 {
     let h = wire::varint::put(form, out, 0, header_of(a.delta));
     let p = wire::varint::put(form, out, h, a.block as u64);
-    properties::put_block(form, t, a.delta, s, c, k, ws, x, kept, out, p)
+    properties::put_block(form, t, a.delta, a.follow, s, c, k, ws, x, kept, out, p)
 }

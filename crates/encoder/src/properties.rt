@@ -14,7 +14,7 @@ ghost use Rattle.locmaf_write_events.specs.Records.{AllWords, sentOf};
 ghost use Rattle.locmaf_write_tuples.specs.Items.{pairMost, weightMost, WeighedAs, RoomFor, WroteItems};
 ghost use Rattle.locmaf_write_block.specs.Fields.{keptLen, Kept};
 ghost use Rattle.encoder.specs.Object.{brandItems, eventItems, blockItems};
-ghost use Rattle.encoder.specs.Planned.{BrandBytes, brandsAt, outsideItems, Recorded, Encodable, ReadOfOne, OfEach, Held};
+ghost use Rattle.encoder.specs.Planned.{BrandBytes, brandsAt, outsideItems, Recorded, Encodable, ReadOfOne, OfEach, Held, Leaves};
 use byte_parts::Part;
 use cmaf_read_chunk::read::Chunk;
 use constants::ids;
@@ -117,6 +117,7 @@ pub fn block_size(
     form: Form,
     t: Track,
     delta: bool,
+    follow: bool,
     s: &[u64],
     k: Chunk,
     ws: &[u64],
@@ -124,14 +125,14 @@ pub fn block_size(
     kept: &mut [usize],
 ) -> Weight
     requires { ⌜ ReadOfOne (rows form) t (now s) k (now ws) (now x) ⌝ }
-    requires { ⌜ Held delta (now s) × (length (now kept) ≡ keptLen) ⌝ }
+    requires { ⌜ Held delta (now s) × Leaves t delta (now s) (now x) follow × (length (now kept) ≡ keptLen) ⌝ }
     ensures { λ w. ⌜ OfEach (rows form) t (now (s .entry)) k (now (ws .entry)) (now (x .entry))
         (λ c. WeighedAs (rows form) (blockItems (rows form) (now (s .entry)) c delta) weightMost w)
-        × Kept (rows form) t delta (drop setAt (now (s .entry))) (now (x .entry)) (now (kept .exit)) ⌝ }
+        × Kept (rows form) t delta follow (drop setAt (now (s .entry))) (now (x .entry)) (now (kept .exit)) ⌝ }
 {
     let r = &s[share::SET..];
     let p = k.prft;
-    let b = set::basis_of(t, delta, r, x);
+    let b = set::basis_of(t, delta, follow, r, x);
     let fields = set::set_size(form, t, b, slots::lawful::expected_of(s), r, x, &mut *kept);
     let times = prft::times_size(form, delta, p, s);
     let version = prft::version_size(form, delta, p, s);
@@ -182,6 +183,7 @@ pub fn put_block(
     form: Form,
     t: Track,
     delta: bool,
+    follow: bool,
     s: &[u64],
     c: &[u8],
     k: Chunk,
@@ -192,8 +194,8 @@ pub fn put_block(
     at: usize,
 ) -> usize
     requires { ⌜ Encodable (rows form) t (now s) (now c) k (now ws) (now x) ⌝ }
-    requires { ⌜ Held delta (now s) ⌝ }
-    requires { ⌜ Kept (rows form) t delta (drop setAt (now s)) (now x) (now kept) ⌝ }
+    requires { ⌜ Held delta (now s) × Leaves t delta (now s) (now x) follow ⌝ }
+    requires { ⌜ Kept (rows form) t delta follow (drop setAt (now s)) (now x) (now kept) ⌝ }
     requires { ⌜ isSome (blockItems (rows form) (now s) (now c) delta) ≡ true ⌝ }
     requires { ⌜ RoomFor (rows form) (blockItems (rows form) (now s) (now c) delta) (now out) at ⌝ }
     ensures { λ r. ⌜ WroteItems (rows form) (blockItems (rows form) (now (s .entry)) (now (c .entry)) delta)
@@ -201,7 +203,7 @@ pub fn put_block(
 {
     let r = &s[share::SET..];
     let bmdt = TrackTicks(x[lines::BMDT]);
-    let b = set::basis_of(t, delta, r, x);
+    let b = set::basis_of(t, delta, follow, r, x);
     let u = set::put_set(
         form,
         t,

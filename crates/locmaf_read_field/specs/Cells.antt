@@ -5,7 +5,7 @@ use mathlib.Core.Bool.{Bool, true, false, cond}
 use mathlib.Core.List.{List, [], _∷_}
 use mathlib.Core.Option.{none, some}
 use lib.Dec.{eqb}
-use lib.ListN.{length}
+use lib.ListN.{length, replicate}
 use lib.Seq.{slice, sets}
 use Rattle.wire.specs.declared.form.Row.{Row}
 use Rattle.wire.specs.declared.zigzag.Coding.{Coding}
@@ -66,19 +66,16 @@ outOfRange = told true true false
 abbrev pub beyond : Came
 beyond = came outOfRange none
 
--- it does not stand, and has to: asked with the rules of the set
-abbrev pub missing : Cell
-missing = told true false true
-
 abbrev pub filledAs : Outcome → List ℕ → Came
 filledAs Done vs = well (some vs)
 filledAs Misfit vs = beyond
 filledAs Outside vs = beyond
 
--- 01: "An omitted list is carried only if its required length is unchanged, else 14." "Id 9, where the track is cenc and there are samples,
--- always stands in the object; else 14." (D92, D102)
+-- 01: "An omitted list is carried only if its required length is unchanged, else 14." (D92, D102) 01's "Id 9, where the track is cenc and there are samples, always
+-- stands in the object; else 14" is amended by 02, order 6: "if each IV follows, .. id 9 is omitted". The old IVs are never carried: zeros keep the room for those that
+-- are derived when the whole set is known (D150).
 unfoldable pub carried : Want → ℕ → ℕ → List ℕ → Came
-carried want j k olds = cond (isIvs want) (came missing none) (cond (carriedBy j k) (well (some olds)) (misfit want))
+carried want j k olds = cond (isIvs want) (well (some (replicate k 0))) (cond (carriedBy j k) (well (some olds)) (misfit want))
 
 -- a single value against the old one
 unfoldable pub sentOne : Coding → ℕ → ℕ → ℕ → Came

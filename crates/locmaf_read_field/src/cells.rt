@@ -11,7 +11,7 @@ ghost use Rattle.laws.specs.Bytes.{de};
 ghost use Rattle.wire.specs.Form.{rows};
 ghost use Rattle.field_table.specs.Lines.{wanted, Small};
 ghost use Rattle.locmaf_read_said.specs.declared.said.Word.the-variants.{Sent};
-ghost use Rattle.locmaf_read_field.specs.Cells.{right, misfitOf, outOfRange, missing, filledAs, carried, sentOne, sentIvs, keptField, sentField, valuesAt, valuesIf, spanBytes, listSent, sentIn, said, cellOf, TakenAs, Listable, Spans, RegionFits, Takeable};
+ghost use Rattle.locmaf_read_field.specs.Cells.{right, misfitOf, outOfRange, filledAs, carried, sentOne, sentIvs, keptField, sentField, valuesAt, valuesIf, spanBytes, listSent, sentIn, said, cellOf, TakenAs, Listable, Spans, RegionFits, Takeable};
 ghost use Rattle.field_rules.specs.Fields.{packed};
 use field_rules::carried::carries;
 use field_rules::rules::absent_value;
@@ -30,8 +30,7 @@ use wire::zigzag::Coding;
 use wire::zigzag::Reached;
 use word_spans::words;
 
-// What a field came to: that its length is right (asked of ids 13 and 15, and of a missing id 9, only with the set's rules), and that its
-// values are in range.
+// What a field came to: that its length is right (asked of ids 13 and 15 only with the set's rules), and that its values are in range.
 pub struct Cell {
     pub first: bool,
     pub second: bool,
@@ -76,17 +75,6 @@ fn outside() -> Cell
     }
 }
 
-// A field that has to stand in the object itself.
-fn lacking() -> Cell
-    ensures { λ r. ⌜ r ≡ missing ⌝ }
-{
-    Cell {
-        first: true,
-        second: false,
-        within: true,
-    }
-}
-
 // The word of eight bytes, the highest first.
 fn word_at(o: &[u8], at: usize) -> u64
     requires { ⌜ at + 8 ≤ length (now o) ⌝ }
@@ -113,7 +101,7 @@ fn pack(o: &[u8], at: usize, k: usize, x: &mut [u64], to: usize)
     }
 }
 
-// A field of which the object says nothing: it had j values, and is to have k.
+// A field of which the object says nothing: it had j values, and is to have k. IVs are derived later: they get room, and none of the old ones.
 fn carry(r: &[u64], l: Line, j: usize, k: usize, x: &mut [u64]) -> Cell
     requires { ⌜ (l .place + 1 + k ≤ length (now r)) × (l .place + 1 + k ≤ length (now x)) ⌝ }
     ensures { λ c. ⌜ TakenAs (carried (l .want) j k (valuesAt (now (r .entry)) l j))
@@ -122,7 +110,9 @@ fn carry(r: &[u64], l: Line, j: usize, k: usize, x: &mut [u64]) -> Cell
     let want = l.want;
     let place = l.place;
     if is_ivs(want) {
-        return lacking();
+        x[place] = 1;
+        words::blank(x, place + 1, k);
+        return well();
     }
     if !carries(j, k) {
         return misfit(want);

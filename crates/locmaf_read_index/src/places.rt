@@ -12,6 +12,8 @@ pub const COUNT: usize = 2;
 pub const INDEX: usize = EACH * ids::IDS;
 
 // The words of the ids that are read one by one.
+pub const IVS: usize = EACH * ids::IVS as usize;
+
 pub const BMDT: usize = EACH * ids::BMDT as usize;
 
 pub const BMDT_NUMBER: usize = BMDT + NUMBER;

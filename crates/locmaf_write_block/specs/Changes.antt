@@ -50,14 +50,6 @@ module _ (t : Track) (delta : Bool) (r x : List ℕ) (l : Line) where
   abbrev pub olds : List ℕ
   olds = oldValues delta r (wasOf t delta r) l
 
-  -- 01: "A present field equal to the reference's is omitted; a vanished one is listed in id 27". "Id 9, where the track is cenc and there are samples, always
-  -- stands in the object" (D66, D105).
-  unfoldable pub changeOf : Change
-  changeOf =
-      cond stands
-      (cond (stood delta r l && (not (isIvs (l .want)) && same olds news)) Omitted Sent)
-      (cond (stood delta r l) Deleted Omitted)
-
   -- 01: "Id 5 is zigzag, other values plain", and in a delta distances: "A scalar's delta is against the previous value; if absent then, ids 2, 4, 6, 8 count as
   -- trex, 12 as 0 and 16 as the parameter. List elements count as 0 where the reference has none."
   unfoldable pub sentItems : List Row → Items
@@ -68,14 +60,25 @@ module _ (t : Track) (delta : Bool) (r x : List ℕ) (l : Line) where
       (cond (eqb (l .room) 1) (numberItem (l .id) (codeOf F coding (first base olds) (first 0 news)))
       (runItem F coding (l .id) base olds news))
 
+-- `follow` says that the IVs follow from the reference's
+module _ (t : Track) (delta follow : Bool) (r x : List ℕ) (l : Line) where
+  -- the object has nothing to say of a field that stands: 01: "A present field equal to the reference's is omitted" (D66). 01's "Id 9, where the track is cenc and
+  -- there are samples, always stands in the object" is amended by 02, order 6: "if each IV follows, .. id 9 is omitted" (D150).
+  abbrev pub omits : Bool
+  omits = stood delta r l && cond (isIvs (l .want)) follow (same (olds t delta r x l) (news t delta r x l))
+
+  -- 01: "a vanished one is listed in id 27"
+  unfoldable pub changeOf : Change
+  changeOf = cond (stands t delta r x l) (cond omits Omitted Sent) (cond (stood delta r l) Deleted Omitted)
+
   unfoldable pub lineItems : List Row → Items
-  lineItems F = onChange changeOf (sentItems F) nothing
+  lineItems F = onChange changeOf (sentItems t delta r x l F) nothing
 
 -- ==== What only mirrors the code
 
 -- the lengths that the fields go by
-abbrev pub basisOf : Track → Bool → List ℕ → List ℕ → Basis
-basisOf t delta r x = record { delta = delta; was = wasOf t delta r; now = measureOf t x }
+abbrev pub basisOf : Track → Bool → Bool → List ℕ → List ℕ → Basis
+basisOf t delta follow r x = record { delta = delta; follow = follow; was = wasOf t delta r; now = measureOf t x }
 
 -- what is lent: lawful sets
 pub record Writable (t : Track) (delta : Bool) (r x : List ℕ) : Type 0 where
@@ -87,7 +90,7 @@ pub record Writable (t : Track) (delta : Bool) (r x : List ℕ) : Type 0 where
 
 -- what is lent, and the lengths that go with it
 abbrev pub Based : Track → Basis → List ℕ → List ℕ → Type 0
-Based t b r x = Writable t (b .delta) r x × (b ≡ basisOf t (b .delta) r x)
+Based t b r x = Writable t (b .delta) r x × (b ≡ basisOf t (b .delta) (b .follow) r x)
 
 -- a line that a chunk's set can have, by its number
 pub record ChunkLine (l : Line) : Type 0 where

@@ -27,12 +27,13 @@ isDeleted Deleted = true
 isDeleted Omitted = false
 isDeleted Sent = false
 
-module _ (t : Track) (delta : Bool) (r x : List ℕ) where
+module _ (t : Track) (delta follow : Bool) (r x : List ℕ) where
   -- 01: "a vanished one is listed in id 27, ascending"; id 16 too, if a reference came with one (D143)
   unfoldable pub goneOf : List Line → List ℕ
   goneOf [] = []
-  goneOf (l ∷ ls) = cond (isDeleted (changeOf t delta r x l)) (l .id ∷ goneOf ls) (goneOf ls)
+  goneOf (l ∷ ls) = cond (isDeleted (changeOf t delta follow r x l)) (l .id ∷ goneOf ls) (goneOf ls)
 
+module _ (t : Track) (delta : Bool) (r x : List ℕ) where
   -- 01: "Ids 10 and 14 always", in a full object; in a delta "Id 10 is absolute, written only if BMDT differs from the previous BMDT plus the previous effective
   -- durations", and "Id 14 absent means same count." (D67)
   unfoldable pub bmdtStands : Bool
@@ -54,10 +55,10 @@ bmdtIf F stands x = itemsIf stands (numberItem 10 (codeOf F Plain 0 (getD x bmdt
 unfoldable pub countItems : List Row → Bool → List ℕ → List ℕ → Items
 countItems F delta r x = itemsIf (countStands delta r x) (numberItem 14 (codeOf F (codingFor delta) (getD r countAt 0) (getD x countAt 0)))
 
-module _ (F : List Row) (t : Track) (delta : Bool) (r x : List ℕ) where
+module _ (F : List Row) (t : Track) (delta follow : Bool) (r x : List ℕ) where
   unfoldable pub linesItems : List Line → Items
   linesItems [] = nothing
-  linesItems (l ∷ ls) = lineItems t delta r x l F before linesItems ls
+  linesItems (l ∷ ls) = lineItems t delta follow r x l F before linesItems ls
 
   -- the fields of the lines from one number up to another
   abbrev pub between : ℕ → ℕ → Items
@@ -76,13 +77,13 @@ module _ (F : List Row) (t : Track) (delta : Bool) (r x : List ℕ) where
       before between beforeCount chunkLines
 
   unfoldable pub deletionItems : Items
-  deletionItems = itemsIf (not (eqb (length (goneOf t delta r x lines)) 0)) (runItem F Plain 27 0 [] (goneOf t delta r x lines))
+  deletionItems = itemsIf (not (eqb (length (goneOf t delta follow r x lines)) 0)) (runItem F Plain 27 0 [] (goneOf t delta follow r x lines))
 
 -- ==== What only mirrors the code
 
 -- the field of the line at a number
-abbrev pub fieldAt : List Row → Track → Bool → List ℕ → List ℕ → ℕ → Items
-fieldAt F t delta r x i = lineItems t delta r x (getD lines i spare) F
+abbrev pub fieldAt : List Row → Track → Bool → Bool → List ℕ → List ℕ → ℕ → Items
+fieldAt F t delta follow r x i = lineItems t delta follow r x (getD lines i spare) F
 
 -- what is kept of weighing for writing: the bytes of each line, those of all lines together, and those of the deletions
 abbrev pub allAt : ℕ
@@ -95,19 +96,19 @@ abbrev pub keptLen : ℕ
 keptLen = chunkLines + 2
 
 -- the bytes of each field's tuple that fits are kept; of one that isn't sent they are 0
-pub record KeptEach (F : List Row) (t : Track) (delta : Bool) (r x kept : List ℕ) : Type 0 where
+pub record KeptEach (F : List Row) (t : Track) (delta follow : Bool) (r x kept : List ℕ) : Type 0 where
   pub long : length kept ≡ keptLen
-  pub each : (i : ℕ) → i < chunkLines → isSome (fieldAt F t delta r x i) ≡ true → getD kept i 0 ≡ length (bytesOf F (fieldAt F t delta r x i))
+  pub each : (i : ℕ) → i < chunkLines → isSome (fieldAt F t delta follow r x i) ≡ true → getD kept i 0 ≡ length (bytesOf F (fieldAt F t delta follow r x i))
 
 -- and those of all of them, where all fit
-pub record KeptFields (F : List Row) (t : Track) (delta : Bool) (r x kept : List ℕ) : Type 0 where
-  pub lines : KeptEach F t delta r x kept
-  pub all : isSome (between F t delta r x 0 chunkLines) ≡ true → getD kept allAt 0 ≡ length (bytesOf F (between F t delta r x 0 chunkLines))
+pub record KeptFields (F : List Row) (t : Track) (delta follow : Bool) (r x kept : List ℕ) : Type 0 where
+  pub lines : KeptEach F t delta follow r x kept
+  pub all : isSome (between F t delta follow r x 0 chunkLines) ≡ true → getD kept allAt 0 ≡ length (bytesOf F (between F t delta follow r x 0 chunkLines))
 
 -- and those of the deletions
-pub record Kept (F : List Row) (t : Track) (delta : Bool) (r x kept : List ℕ) : Type 0 where
-  pub fields : KeptFields F t delta r x kept
-  pub gone : isSome (deletionItems F t delta r x) ≡ true → getD kept goneAt 0 ≡ length (bytesOf F (deletionItems F t delta r x))
+pub record Kept (F : List Row) (t : Track) (delta follow : Bool) (r x kept : List ℕ) : Type 0 where
+  pub fields : KeptFields F t delta follow r x kept
+  pub gone : isSome (deletionItems F t delta follow r x) ≡ true → getD kept goneAt 0 ≡ length (bytesOf F (deletionItems F t delta follow r x))
 
 -- the ids that were collected, whatever the track is: so many, and the first so many words
 pub record Collected (gone : Track → List ℕ) (ids : List ℕ) (n : ℕ) : Type 0 where

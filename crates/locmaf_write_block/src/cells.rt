@@ -34,9 +34,10 @@ use wire::form::Form;
 use wire::zigzag::Coded;
 use wire::zigzag::Coding;
 
-// What is written: a delta or a full object, and the lengths that the fields of the reference and of the new set go by.
+// What is written: a delta or a full object, whether the IVs follow from the reference's, and the lengths that the fields of the reference and of the new set go by.
 pub struct Basis {
     pub delta: bool,
+    pub follow: bool,
     pub was: Measure,
     pub now: Measure,
 }
@@ -94,7 +95,7 @@ fn change_of(b: Basis, r: &[u64], x: &[u64], l: Line) -> Change
     requires { ⌜ ChunkLine l ⌝ }
     requires { ⌜ ((t : Track) × Based t b (now r) (now x)) ⌝ }
     ensures { λ c. ⌜ ((t : Track) → Based t b (now (r .entry)) (now (x .entry))
-        → c ≡ changeOf t (b .delta) (now (r .entry)) (now (x .entry)) l) ⌝ }
+        → c ≡ changeOf t (b .delta) (b .follow) (now (r .entry)) (now (x .entry)) l) ⌝ }
 {
     let place = l.place;
     let from = place + 1;
@@ -107,8 +108,11 @@ fn change_of(b: Basis, r: &[u64], x: &[u64], l: Line) -> Change
         }
         return Change::Omitted;
     }
-    if !old | is_ivs(want) {
+    if !old {
         return Change::Sent;
+    }
+    if is_ivs(want) {
+        return if b.follow { Change::Omitted } else { Change::Sent };
     }
     let u = old_length(b, r, l);
     let k = lines::length_of(want, now);
@@ -325,7 +329,7 @@ fn put_sent(
 pub fn line_size(form: Form, t: Track, b: Basis, r: &[u64], x: &[u64], i: usize) -> Weight
     requires { ⌜ Based t b (now r) (now x) ⌝ }
     requires { ⌜ i < chunkLines ⌝ }
-    ensures { λ w. ⌜ WeighedAs (rows form) (fieldAt (rows form) t (b .delta) (now (r .entry)) (now (x .entry)) i)
+    ensures { λ w. ⌜ WeighedAs (rows form) (fieldAt (rows form) t (b .delta) (b .follow) (now (r .entry)) (now (x .entry)) i)
         lineMost w ⌝ }
 {
     let place = lines::place_at(i);
@@ -354,11 +358,11 @@ pub fn put_line(
 ) -> usize
     requires { ⌜ Based t b (now r) (now x) ⌝ }
     requires { ⌜ i < chunkLines ⌝ }
-    requires { ⌜ isSome (fieldAt (rows form) t (b .delta) (now r) (now x) i) ≡ true ⌝ }
-    requires { ⌜ bytes ≡ length (bytesOf (rows form) (fieldAt (rows form) t (b .delta) (now r) (now x) i)) ⌝ }
-    requires { ⌜ RoomFor (rows form) (fieldAt (rows form) t (b .delta) (now r) (now x) i)
+    requires { ⌜ isSome (fieldAt (rows form) t (b .delta) (b .follow) (now r) (now x) i) ≡ true ⌝ }
+    requires { ⌜ bytes ≡ length (bytesOf (rows form) (fieldAt (rows form) t (b .delta) (b .follow) (now r) (now x) i)) ⌝ }
+    requires { ⌜ RoomFor (rows form) (fieldAt (rows form) t (b .delta) (b .follow) (now r) (now x) i)
         (now out) at ⌝ }
-    ensures { λ p. ⌜ WroteItems (rows form) (fieldAt (rows form) t (b .delta) (now (r .entry)) (now (x .entry)) i)
+    ensures { λ p. ⌜ WroteItems (rows form) (fieldAt (rows form) t (b .delta) (b .follow) (now (r .entry)) (now (x .entry)) i)
         (now (out .entry)) at (now (out .exit)) p ⌝ }
 {
     if bytes == 0 {

@@ -25,7 +25,7 @@ fn is_deleted(b: Basis, r: &[u64], x: &[u64], i: usize) -> bool
     requires { ⌜ (length (now r) ≡ setLen) × (length (now x) ≡ setLen) ⌝ }
     requires { ⌜ i < lineCount ⌝ }
     ensures { λ d. ⌜ ((t : Track)
-        → d ≡ isDeleted (changeOf t (b .delta) (now (r .entry)) (now (x .entry)) (getD lines i spare))) ⌝ }
+        → d ≡ isDeleted (changeOf t (b .delta) (b .follow) (now (r .entry)) (now (x .entry)) (getD lines i spare))) ⌝ }
 {
     let place = lines::place_at(i);
     vanished(b.delta, r[place], x[place])
@@ -35,7 +35,7 @@ fn is_deleted(b: Basis, r: &[u64], x: &[u64], i: usize) -> bool
 fn deleted(b: Basis, r: &[u64], x: &[u64], ids: &mut [u64]) -> usize
     requires { ⌜ (length (now r) ≡ setLen) × (length (now x) ≡ setLen) ⌝ }
     requires { ⌜ length (now ids) ≡ lineCount ⌝ }
-    ensures { λ n. ⌜ Collected (λ t. goneOf t (b .delta) (now (r .entry)) (now (x .entry)) lines)
+    ensures { λ n. ⌜ Collected (λ t. goneOf t (b .delta) (b .follow) (now (r .entry)) (now (x .entry)) lines)
         (now (ids .exit)) n ⌝ }
 {
     if !b.delta {
@@ -57,7 +57,7 @@ fn deleted(b: Basis, r: &[u64], x: &[u64], ids: &mut [u64]) -> usize
 pub fn deletions_size(form: Form, b: Basis, r: &[u64], x: &[u64]) -> Weight
     requires { ⌜ (length (now r) ≡ setLen) × (length (now x) ≡ setLen) ⌝ }
     ensures { λ w. ⌜ ((t : Track)
-        → WeighedAs (rows form) (deletionItems (rows form) t (b .delta) (now (r .entry)) (now (x .entry)))
+        → WeighedAs (rows form) (deletionItems (rows form) t (b .delta) (b .follow) (now (r .entry)) (now (x .entry)))
         goneMost w) ⌝ }
 {
     let mut ids = [0u64; lines::LINES];
@@ -79,11 +79,11 @@ pub fn put_deletions(
     at: usize,
 ) -> usize
     requires { ⌜ (length (now r) ≡ setLen) × (length (now x) ≡ setLen) ⌝ }
-    requires { ⌜ ((t : Track) × (isSome (deletionItems (rows form) t (b .delta) (now r) (now x)) ≡ true)
-        × (bytes ≡ length (bytesOf (rows form) (deletionItems (rows form) t (b .delta) (now r) (now x))))
-        × RoomFor (rows form) (deletionItems (rows form) t (b .delta) (now r) (now x)) (now out) at) ⌝ }
+    requires { ⌜ ((t : Track) × (isSome (deletionItems (rows form) t (b .delta) (b .follow) (now r) (now x)) ≡ true)
+        × (bytes ≡ length (bytesOf (rows form) (deletionItems (rows form) t (b .delta) (b .follow) (now r) (now x))))
+        × RoomFor (rows form) (deletionItems (rows form) t (b .delta) (b .follow) (now r) (now x)) (now out) at) ⌝ }
     ensures { λ p. ⌜ ((t : Track)
-        → WroteItems (rows form) (deletionItems (rows form) t (b .delta) (now (r .entry)) (now (x .entry)))
+        → WroteItems (rows form) (deletionItems (rows form) t (b .delta) (b .follow) (now (r .entry)) (now (x .entry)))
         (now (out .entry)) at (now (out .exit)) p) ⌝ }
 {
     if bytes == 0 {

@@ -44,20 +44,22 @@ pub const GONE: usize = CHUNK_LINES + 1;
 pub const KEPT: usize = CHUNK_LINES + 2;
 
 // What the set x is written against: in a delta the reference r, in a full object nothing.
-pub fn basis_of(t: Track, delta: bool, r: &[u64], x: &[u64]) -> Basis
+pub fn basis_of(t: Track, delta: bool, follow: bool, r: &[u64], x: &[u64]) -> Basis
     requires { ⌜ Writable t delta (now r) (now x) ⌝ }
-    ensures { λ b. ⌜ b ≡ basisOf t delta (now (r .entry)) (now (x .entry)) ⌝ }
+    ensures { λ b. ⌜ b ≡ basisOf t delta follow (now (r .entry)) (now (x .entry)) ⌝ }
 {
     let now = lawful::measure(t, x);
     if delta {
         return Basis {
             delta: true,
+            follow,
             was: lawful::measure(t, r),
             now,
         };
     }
     Basis {
         delta: false,
+        follow,
         was: Measure {
             count: 0,
             ivs: 0,
@@ -148,8 +150,8 @@ fn lines_size(form: Form, t: Track, b: Basis, r: &[u64], x: &[u64], kept: &mut [
     requires { ⌜ Based t b (now r) (now x) ⌝ }
     requires { ⌜ length (now kept) ≡ keptLen ⌝ }
     ensures { λ w. ⌜ WeighedAs (rows form)
-        (between (rows form) t (b .delta) (now (r .entry)) (now (x .entry)) 0 chunkLines) (lineMost * chunkLines) w
-        × KeptEach (rows form) t (b .delta) (now (r .entry)) (now (x .entry)) (now (kept .exit)) ⌝ }
+        (between (rows form) t (b .delta) (b .follow) (now (r .entry)) (now (x .entry)) 0 chunkLines) (lineMost * chunkLines) w
+        × KeptEach (rows form) t (b .delta) (b .follow) (now (r .entry)) (now (x .entry)) (now (kept .exit)) ⌝ }
 {
     let mut sum = tuples::whole(0);
     let mut i = 0;
@@ -177,11 +179,11 @@ fn put_lines(
 ) -> usize
     requires { ⌜ Based t b (now r) (now x) ⌝ }
     requires { ⌜ (from ≤ to) × (to ≤ chunkLines) ⌝ }
-    requires { ⌜ KeptEach (rows form) t (b .delta) (now r) (now x) (now kept) ⌝ }
-    requires { ⌜ isSome (between (rows form) t (b .delta) (now r) (now x) from to) ≡ true ⌝ }
-    requires { ⌜ RoomFor (rows form) (between (rows form) t (b .delta) (now r) (now x) from to)
+    requires { ⌜ KeptEach (rows form) t (b .delta) (b .follow) (now r) (now x) (now kept) ⌝ }
+    requires { ⌜ isSome (between (rows form) t (b .delta) (b .follow) (now r) (now x) from to) ≡ true ⌝ }
+    requires { ⌜ RoomFor (rows form) (between (rows form) t (b .delta) (b .follow) (now r) (now x) from to)
         (now out) at ⌝ }
-    ensures { λ p. ⌜ WroteItems (rows form) (between (rows form) t (b .delta) (now (r .entry)) (now (x .entry)) from to)
+    ensures { λ p. ⌜ WroteItems (rows form) (between (rows form) t (b .delta) (b .follow) (now (r .entry)) (now (x .entry)) from to)
         (now (out .entry)) at (now (out .exit)) p ⌝ }
 {
     let mut p = at;
@@ -205,12 +207,12 @@ fn put_middle(
     at: usize,
 ) -> usize
     requires { ⌜ Based t b (now r) (now x) ⌝ }
-    requires { ⌜ KeptEach (rows form) t (b .delta) (now r) (now x) (now kept) ⌝ }
-    requires { ⌜ isSome (between (rows form) t (b .delta) (now r) (now x) beforeBmdt beforeCount) ≡ true ⌝ }
-    requires { ⌜ RoomFor (rows form) (between (rows form) t (b .delta) (now r) (now x) beforeBmdt beforeCount)
+    requires { ⌜ KeptEach (rows form) t (b .delta) (b .follow) (now r) (now x) (now kept) ⌝ }
+    requires { ⌜ isSome (between (rows form) t (b .delta) (b .follow) (now r) (now x) beforeBmdt beforeCount) ≡ true ⌝ }
+    requires { ⌜ RoomFor (rows form) (between (rows form) t (b .delta) (b .follow) (now r) (now x) beforeBmdt beforeCount)
         (now out) at ⌝ }
     ensures { λ p. ⌜ WroteItems (rows form)
-        (between (rows form) t (b .delta) (now (r .entry)) (now (x .entry)) beforeBmdt beforeCount)
+        (between (rows form) t (b .delta) (b .follow) (now (r .entry)) (now (x .entry)) beforeBmdt beforeCount)
         (now (out .entry)) at (now (out .exit)) p ⌝ }
 {
     if (x[lines::SUBSAMPLES] == 0) & (x[lines::FIRST_FLAGS] == 0) & (x[lines::CLEAR] == 0) {
@@ -231,12 +233,12 @@ fn put_high(
     at: usize,
 ) -> usize
     requires { ⌜ Based t b (now r) (now x) ⌝ }
-    requires { ⌜ KeptEach (rows form) t (b .delta) (now r) (now x) (now kept) ⌝ }
-    requires { ⌜ isSome (between (rows form) t (b .delta) (now r) (now x) beforeCount chunkLines) ≡ true ⌝ }
-    requires { ⌜ RoomFor (rows form) (between (rows form) t (b .delta) (now r) (now x) beforeCount chunkLines)
+    requires { ⌜ KeptEach (rows form) t (b .delta) (b .follow) (now r) (now x) (now kept) ⌝ }
+    requires { ⌜ isSome (between (rows form) t (b .delta) (b .follow) (now r) (now x) beforeCount chunkLines) ≡ true ⌝ }
+    requires { ⌜ RoomFor (rows form) (between (rows form) t (b .delta) (b .follow) (now r) (now x) beforeCount chunkLines)
         (now out) at ⌝ }
     ensures { λ p. ⌜ WroteItems (rows form)
-        (between (rows form) t (b .delta) (now (r .entry)) (now (x .entry)) beforeCount chunkLines)
+        (between (rows form) t (b .delta) (b .follow) (now (r .entry)) (now (x .entry)) beforeCount chunkLines)
         (now (out .entry)) at (now (out .exit)) p ⌝ }
 {
     if x[lines::PROTECTED] == 0 {
@@ -259,9 +261,9 @@ pub fn set_size(
 ) -> Weight
     requires { ⌜ Based t b (now r) (now x) × (e ≡ expectedBy (nextTime t (now r))) ⌝ }
     requires { ⌜ length (now kept) ≡ keptLen ⌝ }
-    ensures { λ w. ⌜ WeighedAs (rows form) (fieldItems (rows form) t (b .delta) (now (r .entry)) (now (x .entry)))
+    ensures { λ w. ⌜ WeighedAs (rows form) (fieldItems (rows form) t (b .delta) (b .follow) (now (r .entry)) (now (x .entry)))
         setMost w
-        × KeptFields (rows form) t (b .delta) (now (r .entry)) (now (x .entry)) (now (kept .exit)) ⌝ }
+        × KeptFields (rows form) t (b .delta) (b .follow) (now (r .entry)) (now (x .entry)) (now (kept .exit)) ⌝ }
 {
     let fields = lines_size(form, t, b, r, x, &mut *kept);
     kept[ALL] = fields.bytes;
@@ -284,10 +286,10 @@ pub fn put_set(
     at: usize,
 ) -> usize
     requires { ⌜ Based t b (now r) (now x) × (e ≡ expectedBy (nextTime t (now r))) ⌝ }
-    requires { ⌜ KeptFields (rows form) t (b .delta) (now r) (now x) (now kept) ⌝ }
-    requires { ⌜ isSome (fieldItems (rows form) t (b .delta) (now r) (now x)) ≡ true ⌝ }
-    requires { ⌜ RoomFor (rows form) (fieldItems (rows form) t (b .delta) (now r) (now x)) (now out) at ⌝ }
-    ensures { λ p. ⌜ WroteItems (rows form) (fieldItems (rows form) t (b .delta) (now (r .entry)) (now (x .entry)))
+    requires { ⌜ KeptFields (rows form) t (b .delta) (b .follow) (now r) (now x) (now kept) ⌝ }
+    requires { ⌜ isSome (fieldItems (rows form) t (b .delta) (b .follow) (now r) (now x)) ≡ true ⌝ }
+    requires { ⌜ RoomFor (rows form) (fieldItems (rows form) t (b .delta) (b .follow) (now r) (now x)) (now out) at ⌝ }
+    ensures { λ p. ⌜ WroteItems (rows form) (fieldItems (rows form) t (b .delta) (b .follow) (now (r .entry)) (now (x .entry)))
         (now (out .entry)) at (now (out .exit)) p ⌝ }
 {
     let p = if kept[ALL] == 0 {

@@ -2,7 +2,7 @@
 -- ==== What only mirrors the code
 use Prim.Native.Nat.{ℕ, _+_, _-_, _≤_, _<_}
 use mathlib.Core.Path.{_≡_}
-use mathlib.Core.Bool.{Bool, true, false, cond, _&&_}
+use mathlib.Core.Bool.{Bool, true, false, cond, not, _&&_, _||_}
 use mathlib.Core.List.{List, _++_}
 use lib.Dec.{eqb, leb}
 use lib.ListN.{length, getD, replicate, drop, set}
@@ -13,11 +13,12 @@ use Rattle.constants.specs.Maxima.{blockMost, numberMost, payloadMost, brandByt
 use Rattle.wire.specs.declared.form.Row.{Row}
 use Rattle.track.specs.declared.Track.{Track}
 use Rattle.field_table.specs.Lines.{bmdtAt}
-use Rattle.field_set.specs.Lawful.{lawful as lawfulSet}
+use Rattle.field_set.specs.Lawful.{has, lawful as lawfulSet}
 use Rattle.told_sizes.specs.Sums.{Summable}
 use Rattle.effective.specs.Sums.{sizesOk, protectedOk}
+use Rattle.counters.specs.Follow.{derivedFit, withDerived, Behind}
 use Rattle.slots.specs.declared.lawful.Side.the-variants.{Receiver}
-use Rattle.share_words.specs.Share.{shareLen, setAt}
+use Rattle.share_words.specs.Share.{shareLen, lastAt, setAt}
 use Rattle.slots.specs.Share.{isOpen, lawful}
 use Rattle.locmaf_read_index.specs.Held.{Tells}
 use Rattle.prft_value.specs.Prft.{absentPrft}
@@ -116,6 +117,16 @@ pub record TestedAs (t : Track) (o : List ℕ) (v : Values) (payload : ℕ) (eve
   pub event : v .ok ≡ true → eventsOk (v .bmdt .0) o k events ≡ false → number ≡ 15
   pub stored : v .ok ≡ true → eventsOk (v .bmdt .0) o k events ≡ true → y ≡ set x bmdtAt (v .bmdt .0)
   pub sums : v .ok ≡ true → eventsOk (v .bmdt .0) o k events ≡ true → number ≡ cond (sumsIn t (set x bmdtAt (v .bmdt .0)) payload) 0 16
+
+-- the IVs of the set x were left out, by the index
+unfoldable pub leftIn : Bool → List ℕ → List ℕ → List ℕ → Bool
+leftIn delta s index x = delta && (eqb (getD index (standsAt 9) 0) 0 && (has 9 (drop setAt s) && has 9 x))
+
+-- they were derived where they were left out: the number, and where it is 0 the words
+pub record IvsAs (t : Track) (delta : Bool) (s index x : List ℕ) (payload number : ℕ) (after : List ℕ) : Type 0 where
+  pub answered : number ≡ cond (not (leftIn delta s index x) || derivedFit t (getD s lastAt 0) (drop setAt s) x payload) 0 21
+  pub stored : number ≡ 0 → after ≡ cond (leftIn delta s index x) (withDerived t (getD s lastAt 0) (drop setAt s) x payload) x
+  pub long : length after ≡ length x
 
 -- the scratch words have all that the front is made of
 pub record Ready (F : List Row) (o s : List ℕ) (j : Judged) (ws x : List ℕ) : Type 0 where

@@ -1,11 +1,10 @@
 -- What is to be shown of receiving an object.
 -- ==== What is shown of the rules
-use Prim.Native.Nat.{ℕ, _≤_}
+use Prim.Native.Nat.{ℕ}
 use mathlib.Core.Path.{_≡_}
-use mathlib.Core.Bool.{true, false, _&&_}
+use mathlib.Core.Bool.{true, false}
 use mathlib.Core.List.{List, [], _++_, List·Permᴰ}
 use mathlib.Core.Option.{some}
-use lib.Dec.{leb}
 use lib.ListN.{length, take}
 use Rattle.laws.specs.Tests.{allLe}
 use Rattle.laws.specs.Ladder.{Given}
@@ -18,6 +17,7 @@ use Rattle.slots.specs.Share.{lawful}
 use Rattle.slots.specs.Table.{Out, shareAt, tableRungs, onTable}
 use Rattle.locmaf_read_block.specs.Entries.{Entry}
 use Rattle.answers.specs.Took.{Took, refused, PastStays}
+use Rattle.answers.specs.Refusals.{droppedBy}
 use Rattle.receiver.specs.Object.{isDelta, headRungs, tuples, payload}
 use Rattle.receiver.specs.Receive.{receiveRungs, receiving}
 
@@ -32,13 +32,13 @@ ReceiveStaysLawful = (form : Form) (o output s : List ℕ) → allLe 255 o ≡ t
     → lawful Receiver (receiving (rows form) o output s .words) ≡ true
 
 -- 01: "All but 0 write nothing to the output and hand back length 0 and an empty payload part .. Numbers 12 to 16 drop the slot's reference;
--- every other refusal changes nothing"
+-- every other refusal changes nothing"; 02, order 6: "21, .. dropping the reference"
 pub record Refused (room s : List ℕ) (a : Out Took) : Type 0 where
   pub front : a .answer .front ≡ 0
   pub payload : a .answer .payload ≡ []
   pub untouched : a .answer .output ≡ room
-  pub drops : 12 ≤ a .answer .number → a .answer .number ≤ 16 → a .words ≡ dropped s
-  pub kept : (leb 12 (a .answer .number) && leb (a .answer .number) 16 ≡ false) → a .words ≡ s
+  pub drops : droppedBy (a .answer .number) ≡ true → a .words ≡ dropped s
+  pub kept : droppedBy (a .answer .number) ≡ false → a .words ≡ s
 
 abbrev pub ReceiveRefuses : Type 0
 ReceiveRefuses = (F : List Row) (o output s : List ℕ) → (receiving F o output s .answer .number ≡ 0 → ⊥) → Refused output s (receiving F o output s)

@@ -1,7 +1,7 @@
 -- One object, by 01's order of answers.
 -- ==== The rules
 use Prim.Native.Nat.{ℕ, _+_, _%_, _^_}
-use mathlib.Core.Bool.{Bool, not, _&&_, _||_}
+use mathlib.Core.Bool.{Bool, cond, not, _&&_, _||_}
 use mathlib.Core.List.{List, [], _∷_, _++_}
 use lib.Dec.{eqb, leb}
 use lib.ListN.{length, getD, drop}
@@ -11,7 +11,7 @@ use Rattle.constants.specs.Maxima.{numberMost, payloadMost, brandBytesMost, eve
 use Rattle.wire.specs.declared.form.Row.{Row}
 use Rattle.track.specs.declared.Track.{Track}
 use Rattle.slots.specs.declared.lawful.Side.the-variants.{Receiver}
-use Rattle.share_words.specs.Share.{acceptedAt, heldAt, prftAt, setAt}
+use Rattle.share_words.specs.Share.{acceptedAt, heldAt, prftAt, lastAt, setAt}
 use Rattle.slots.specs.Share.{trackOf}
 use Rattle.slots.specs.Table.{Out, out}
 use Rattle.slots.specs.Calls.{openedRungs}
@@ -26,7 +26,9 @@ use Rattle.locmaf_read_head.specs.Ids.{idsOk}
 use Rattle.locmaf_read_times.specs.Bmdt.{bmdtOf}
 use Rattle.locmaf_read_times.specs.Prft.{prftOf}
 use Rattle.locmaf_read_events.specs.Values.{listed, allFit, boxes}
+use Rattle.field_set.specs.Lawful.{has}
 use Rattle.effective.specs.Sums.{sizesOk, protectedOk}
+use Rattle.counters.specs.Follow.{derivedFit, withDerived}
 use Rattle.answers.specs.Took.{Took, took, refused}
 use Rattle.reference.specs.Kept.{keptWords}
 use Rattle.receiver.specs.Object.{isDelta, headRungs, reads, entries, saying, payload}
@@ -54,9 +56,9 @@ module _ (F : List Row) (o s : List ℕ) where
   abbrev pub brands : List ℕ
   brands = numbers (saying F o 23)
 
-  -- the new set of moof fields
-  unfoldable pub newSet : List ℕ
-  newSet = newWords track (isDelta F o) reference (saying F o) bmdt
+  -- the new set of moof fields as the object tells it: zeros keep the room of IVs that are left out
+  unfoldable pub toldSet : List ℕ
+  toldSet = newWords track (isDelta F o) reference (saying F o) bmdt
 
   -- 01: "15 (all other values, payload, brand and event maxima)"; "16 brands; 16 emsg records in 4,096 list bytes; .. payload 16,777,216 bytes;
   -- BMDT, .. 2^62-1" (D98, D107, D114)
@@ -70,7 +72,19 @@ module _ (F : List Row) (o s : List ℕ) where
 
   -- 16: "sizes or protected sums disagree"
   unfoldable pub sumsOk : Bool
-  sumsOk = sizesOk track newSet (length (payload F o)) and protectedOk track newSet (length (payload F o))
+  sumsOk = sizesOk track toldSet (length (payload F o)) and protectedOk track toldSet (length (payload F o))
+
+  -- 02, order 6: "For cenc, .. for deltas: if each IV follows, .. id 9 is omitted." It isn't sent, there are IVs to follow from, and IVs stand in the new set (D150)
+  unfoldable pub leftOut : Bool
+  leftOut = isDelta F o && (not (isSome (saying F o 9)) && (has 9 reference && has 9 toldSet))
+
+  -- "21, receiver only, derived IV past its size"
+  unfoldable pub ivsFit : Bool
+  ivsFit = not leftOut || derivedFit track (getD s lastAt 0) reference toldSet (length (payload F o))
+
+  -- the new set of moof fields, with IVs that were left out as they follow from the reference's: "demand 2 reads the derived IVs as the reference's"
+  unfoldable pub newSet : List ℕ
+  newSet = cond leftOut (withDerived track (getD s lastAt 0) reference toldSet (length (payload F o))) toldSet
 
   -- 11: "delta, and no reference held" (D80)
   unfoldable pub heldOk : Bool
@@ -84,9 +98,9 @@ module _ (F : List Row) (o s : List ℕ) where
   unfoldable pub splitRungs : List Rung
   splitRungs = (reads F o else 12) ∷ (idsRight else 13) ∷ []
 
-  -- 01: "14 (deletions), .. 15 (all other values, ..), 16"
+  -- 01: "14 (deletions), .. 15 (all other values, ..), 16"; 02, order 6: "21, .. after 16, before 17"
   unfoldable pub valueRungs : List Rung
-  valueRungs = (valuesOk else 15) ∷ (sumsOk else 16) ∷ []
+  valueRungs = (valuesOk else 15) ∷ (sumsOk else 16) ∷ (ivsFit else 21) ∷ []
 
   abbrev pub judgeRungs : List Rung
   judgeRungs = splitRungs ++ (setRungs track (isDelta F o) reference (saying F o) ++ valueRungs)
@@ -101,7 +115,7 @@ module _ (F : List Row) (o s : List ℕ) where
 
   -- the share after it is accepted
   unfoldable pub accepted : List ℕ
-  accepted = keptWords (isDelta F o) sequence (prft .prft) newSet s
+  accepted = keptWords (isDelta F o) sequence (prft .prft) newSet (length (payload F o)) s
 
 -- a refusal with the number k, and what is done
 abbrev pub refusing : List ℕ → List ℕ → ℕ → Out Took

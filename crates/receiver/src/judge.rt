@@ -1,9 +1,10 @@
 // The number of an object: every rule in its order, with nothing lent changed. What it works out on the way is in the scratch words.
 // Letters: `F` the rows of a form, `t` the track, `o` an object's bytes, `p` where the block stands, `s` the words of a share, `x` the words of the new set.
 ghost use mathlib.Core.Path.{_≡_};
+ghost use mathlib.Core.Bool.{true};
 ghost use mathlib.Core.List.{List};
-ghost use Prim.Native.Nat.{_+_, _-_, _≤_, _<_};
-ghost use lib.ListN.{length, replicate, take, drop};
+ghost use Prim.Native.Nat.{ℕ, _+_, _-_, _≤_, _<_};
+ghost use lib.ListN.{length, getD, replicate, take, drop};
 ghost use Rattle.constants.specs.Ids.{idCount};
 ghost use Rattle.constants.specs.Maxima.{payloadMost};
 ghost use Rattle.wire.specs.declared.form.Row.{Row};
@@ -14,10 +15,11 @@ ghost use Rattle.locmaf_read_index.specs.Places.{indexLen};
 ghost use Rattle.told_sizes.specs.Sums.{Summable};
 ghost use Rattle.effective.specs.Expected.{nextTime, expectedBy};
 ghost use Rattle.track.specs.declared.Track.{Track};
-ghost use Rattle.share_words.specs.Share.{shareLen, setAt};
+ghost use Rattle.counters.specs.Follow.{Behind};
+ghost use Rattle.share_words.specs.Share.{shareLen, lastAt, setAt};
 ghost use Rattle.slots.specs.Share.{trackOf, expectedIn};
 ghost use Rattle.receiver.specs.Judge.{partIn, noneJudged, Judgeable, SplitAs, SetRead, BlockReadAs};
-ghost use Rattle.receiver.specs.Judge.{ValuesTold, sumsIn, Testable, TestedAs, AllJudged, ValuesJudged};
+ghost use Rattle.receiver.specs.Judge.{ValuesTold, sumsIn, Testable, TestedAs, leftIn, IvsAs, AllJudged, ValuesJudged};
 use byte_parts::Part;
 use constants::ids;
 use constants::maxima;
@@ -166,7 +168,12 @@ fn judge_values(t: Track, o: &[u8], p: Place, s: &[u64], index: &[u64], words: &
     let k = index[places::EVENTS_COUNT] as usize;
     let payload = o.len() - p.end;
     let v = values_of(p.delta, payload, k, s, index);
-    let number = values_number(t, o, v, payload as u64, words, k);
+    let n = values_number(t, o, v, payload as u64, &mut *words, k);
+    let number = if n == 0 {
+        ivs_number(t, p.delta, s, index, &mut words[ALL_WORDS..])
+    } else {
+        n
+    };
     let prft = v.prft;
     let brands = v.brands;
     Judged {
@@ -197,6 +204,26 @@ fn values_number(t: Track, o: &[u8], v: Values, payload: u64, words: &mut [u64],
         return 16;
     }
     0
+}
+
+// The IVs of the set x, where they were left out, into the room that it has for them: 21 if one passes its size, else 0.
+fn ivs_number(t: Track, delta: bool, s: &[u64], index: &[u64], x: &mut [u64]) -> u64
+    requires { ⌜ (length (now s) ≡ shareLen) × (length (now index) ≡ indexLen) × (length (now x) ≡ setLen) ⌝ }
+    requires { ⌜ (leftIn delta (now s) (now index) (now x) ≡ true
+        → Behind t (getD (now s) lastAt 0) (drop setAt (now s)) (now x)) ⌝ }
+    ensures { λ n. ⌜ ((payload : ℕ)
+        → IvsAs t delta (now (s .entry)) (now (index .entry)) (now (x .entry)) payload n (now (x .exit))) ⌝ }
+{
+    if !delta | (index[places::IVS] != 0) {
+        return 0;
+    }
+    if (s[share::SET + lines::IVS] == 0) | (x[lines::IVS] == 0) {
+        return 0;
+    }
+    if counters::follow::derive(t, s[share::LAST], &s[share::SET..], x) {
+        return 0;
+    }
+    21
 }
 
 // The sizes and the protected sums.

@@ -33,7 +33,7 @@ use slots::lawful::Side;
 use track::Track;
 use wire::form::Form;
 
-// A refusal: 12 to 16 drop the reference, every other number changes nothing. Whatever the output holds, it stays.
+// A refusal: 12 to 16 and 21 drop the reference, every other number changes nothing. Whatever the output holds, it stays.
 fn refuse(s: &mut [u64], number: u64) -> Answer
     requires { ⌜ length (now s) ≡ shareLen ⌝ }
     ensures { λ a. ⌜ ((o output : List ℕ)
@@ -81,7 +81,7 @@ fn write(
         &mut *output,
     );
     reference::keep::keep(&mut *s, p.delta, prft, count, x);
-    reference::keep::renew(t, p.delta, s);
+    reference::keep::renew(t, p.delta, payload, s);
     Answer {
         number: 0,
         front: n as u64,

@@ -1,13 +1,17 @@
 // The reference into the share.
 // Letters: `t` the track, `s` the words of a share, `x` the words of the new set.
 ghost use mathlib.Core.Path.{_≡_};
+ghost use mathlib.Core.Bool.{true};
 ghost use mathlib.Core.List.{_++_};
 ghost use lib.ListN.{length, take, drop};
 ghost use Rattle.field_table.specs.Lines.{setLen};
-ghost use Rattle.field_set.specs.Lawful.{Tidy};
+ghost use Rattle.field_set.specs.Lawful.{Tidy, lawful};
 ghost use Rattle.share_words.specs.Share.{setAt, shareLen};
 ghost use Rattle.effective.specs.Durations.{Timed};
+ghost use Rattle.effective.specs.Sizes.{Sized};
+ghost use Rattle.told_sizes.specs.Sums.{Summable};
 ghost use Rattle.reference.specs.Kept.{replacedBy, storedWords, renewed};
+use counters::protected;
 use effective::expected;
 use field_table::lines;
 use prft_value::Prft;
@@ -39,21 +43,21 @@ fn copy_set(s: &mut [u64], x: &[u64])
 pub struct Replaced {
     pub set: bool,
     pub prft: bool,
-    pub expected: bool,
+    pub beside: bool,
 }
 
-// The set always, and what is expected behind it: a delta is read against the object before it, and not against the last full one. The prft with a full object alone.
+// The set always, and what is kept beside it: a delta is read against the object before it, and not against the last full one. The prft with a full object alone.
 fn replaced_by(delta: bool) -> Replaced
     ensures { λ r. ⌜ r ≡ replacedBy delta ⌝ }
 {
     Replaced {
         set: true,
         prft: !delta,
-        expected: true,
+        beside: true,
     }
 }
 
-// The reference after an accepted object, but for what is expected behind it.
+// The reference after an accepted object, but for what is kept beside the set.
 pub fn keep(s: &mut [u64], delta: bool, prft: Prft, sequence: u64, x: &[u64])
     requires { ⌜ (length (now s) ≡ shareLen) × (length (now x) ≡ setLen) ⌝ }
     requires { ⌜ Tidy (drop setAt (now s)) × Tidy (now x) ⌝ }
@@ -74,15 +78,21 @@ pub fn keep(s: &mut [u64], delta: bool, prft: Prft, sequence: u64, x: &[u64])
     }
 }
 
-// What is expected behind the reference, once the share holds it: its own BMDT and durations count, and none of the one before.
-pub fn renew(t: Track, delta: bool, s: &mut [u64])
+// What is kept beside the set, once the share holds that: what is expected behind it, by its own BMDT and durations and none of the one before, and its last sample's
+// protected bytes.
+pub fn renew(t: Track, delta: bool, payload: u64, s: &mut [u64])
     requires { ⌜ (length (now s) ≡ shareLen) × Timed (drop setAt (now s)) ⌝ }
-    ensures { λ r. ⌜ now (s .exit) ≡ renewed t (now (s .entry)) ⌝ }
+    requires { ⌜ Summable (drop setAt (now s)) × Sized (drop setAt (now s)) payload ⌝ }
+    requires { ⌜ lawful t (drop setAt (now s)) ≡ true ⌝ }
+    ensures { λ r. ⌜ now (s .exit) ≡ renewed t payload (now (s .entry)) ⌝ }
 {
     let new = replaced_by(delta);
-    if new.expected {
-        let e = expected::expected_behind(t, &s[share::SET..]);
+    if new.beside {
+        let w = &s[share::SET..];
+        let e = expected::expected_behind(t, w);
+        let last = protected::last_protected(t, w, payload);
         s[share::PAST] = e.past;
         s[share::EXPECTED] = e.time;
+        s[share::LAST] = last;
     }
 }

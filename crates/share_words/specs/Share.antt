@@ -1,5 +1,5 @@
 -- The words of a slot's share. From word 0 on: the eight parameters, the count of accepted objects, the mark of the reference, the mark of
--- the current full object's `prft` with its four fields, the two words of the BMDT that is expected, and the set of moof fields.
+-- the current full object's `prft` with its four fields, the two words of the BMDT that is expected, the last sample's protected bytes, and the set of moof fields.
 use Prim.Native.Nat.{ℕ, _+_, _-_, _*_}
 use mathlib.Core.List.{List, _++_}
 use lib.ListN.{take, replicate}
@@ -64,8 +64,12 @@ pastAt = 15
 abbrev pub expectedAt : ℕ
 expectedAt = 16
 
+-- the protected bytes of the reference's last sample
+abbrev pub lastAt : ℕ
+lastAt = 17
+
 abbrev pub setAt : ℕ
-setAt = 17
+setAt = 18
 
 abbrev pub shareLen : ℕ
 shareLen = setAt + setLen

@@ -8,7 +8,7 @@ ghost use Rattle.share_words.specs.Share.{shareLen, fresh, dropped};
 use field_table::lines;
 
 // The places of a share's words: the eight parameters from TRACK on, the accepted objects, the mark of the reference, the mark and the
-// fields of the current full object's prft, the two words of the BMDT that is expected, and the set of moof fields.
+// fields of the current full object's prft, the two words of the BMDT that is expected, the last sample's protected bytes, and the set of moof fields.
 pub const TRACK: usize = 0;
 
 pub const TIMESCALE: usize = 1;
@@ -46,7 +46,10 @@ pub const PAST: usize = 15;
 
 pub const EXPECTED: usize = 16;
 
-pub const SET: usize = 17;
+// The protected bytes of the reference's last sample.
+pub const LAST: usize = 17;
+
+pub const SET: usize = 18;
 
 // The words of a share.
 pub const SHARE: usize = SET + lines::SET;

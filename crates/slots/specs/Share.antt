@@ -15,10 +15,11 @@ use Rattle.field_set.specs.Lawful.{lawful as lawfulSet}
 use Rattle.told_sizes.specs.Told.{sizesAgree}
 use Rattle.effective.specs.declared.expected.Expected.{Expected}
 use Rattle.effective.specs.Expected.{nextTime, expectedBy, same}
+use Rattle.counters.specs.Protected.{lastFits}
 use Rattle.slots.specs.declared.lawful.Side.{Side}
 use Rattle.slots.specs.declared.lawful.Side.the-variants.{Encoder, Receiver}
 use Rattle.share_words.specs.Share.{trackAt, timescaleAt, trackDescriptionAt, trackDurationAt, trackSizeAt, trackFlagsAt, protectionAt, trackIvSizeAt}
-use Rattle.share_words.specs.Share.{acceptedAt, heldAt, prftAt, ntpAt, mediaTimeAt, versionAt, prftFlagsAt, prftEnd, pastAt, expectedAt, setAt, shareLen}
+use Rattle.share_words.specs.Share.{acceptedAt, heldAt, prftAt, ntpAt, mediaTimeAt, versionAt, prftFlagsAt, prftEnd, pastAt, expectedAt, lastAt, setAt, shareLen}
 
 abbrev pub u24 : ℕ
 u24 = 0xff_ffff
@@ -83,11 +84,16 @@ expectedIn s = record { past = getD s pastAt 0; time = getD s expectedAt 0 }
 unfoldable pub expectedOk : Track → List ℕ → Bool
 expectedOk t s = same (expectedIn s) (expectedBy (nextTime t (drop setAt s)))
 
--- the reference: none, and then nothing is stored of it, nor is anything expected; or a lawful set with a lawful `prft`, and what is expected behind it (D11)
+-- 02, order 6: "The last sample's protected bytes (..) join the reference in both shares, encoder's and receiver's .. A share where they aren't so is unlawful, 18." (D152)
+unfoldable pub lastOk : Track → List ℕ → Bool
+lastOk t s = lastFits t (drop setAt s) (getD s lastAt 0)
+
+-- the reference: none, and then nothing is stored of it, nor is anything expected; or a lawful set with a lawful `prft`, what is expected behind it, and its last
+-- sample's protected bytes (D11)
 unfoldable pub referenceOk : Track → List ℕ → Bool
 referenceOk t s =
     cond (eqb (getD s heldAt 0) 0) (allZero (drop prftAt s))
-    (eqb (getD s heldAt 0) 1 and prftOk s and expectedOk t s and setOk t (drop setAt s))
+    (eqb (getD s heldAt 0) 1 and prftOk s and expectedOk t s and lastOk t s and setOk t (drop setAt s))
 
 -- the words of an open share
 unfoldable pub openOk : Side → List ℕ → Bool

@@ -7,7 +7,7 @@ ghost use mathlib.Core.List.{_++_};
 ghost use lib.ListN.{length, getD, drop};
 ghost use Rattle.laws.specs.Tests.{_and_};
 ghost use Rattle.share_words.specs.Share.{shareLen, setAt, trackAt, acceptedAt};
-ghost use Rattle.slots.specs.Share.{askedOf, trackOf, expectedIn, paramWords, acceptedOk, prftOk, expectedOk, setOk, referenceOk, lawful};
+ghost use Rattle.slots.specs.Share.{askedOf, trackOf, expectedIn, paramWords, acceptedOk, prftOk, expectedOk, lastOk, setOk, referenceOk, lawful};
 ghost use Rattle.track.specs.Track.{lawful as lawfulTrack};
 use constants::maxima;
 use effective::expected;
@@ -90,11 +90,12 @@ fn prft_ok(s: &[u64]) -> bool
                     & ((s[share::NTP] <= maxima::NUMBER) & (media <= maxima::NUMBER)))))
 }
 
-// Whether the set is one that a share can hold, and what is expected behind it is what the share has. The durations that it lists were added up when its words
-// were looked at.
+// Whether the set is one that a share can hold, and what the share has beside it belongs to it: what is expected behind it, and its last sample's protected bytes. The
+// durations that it lists were added up when its words were looked at.
 fn set_ok(t: Track, s: &[u64]) -> bool
     requires { ⌜ (length (now s) ≡ shareLen) × (t .«iv_size» ≤ 16) ⌝ }
-    ensures { λ r. ⌜ r ≡ (expectedOk t (now (s .entry)) and setOk t (drop setAt (now (s .entry)))) ⌝ }
+    ensures { λ r. ⌜ r
+        ≡ (expectedOk t (now (s .entry)) and lastOk t (now (s .entry)) and setOk t (drop setAt (now (s .entry)))) ⌝ }
 {
     let w = &s[share::SET..];
     let k = field_set::lawful::test_set(t, w);
@@ -103,7 +104,8 @@ fn set_ok(t: Track, s: &[u64]) -> bool
     }
     let d = effective::durations::durations_by(t, w, k.durations);
     let e = expected::expected_by(w[lines::BMDT], d);
-    expected::is_same(expected_of(s), e) & told_sizes::told::sizes_agree(t, w)
+    let last = counters::protected::last_fits(t, w, s[share::LAST]);
+    expected::is_same(expected_of(s), e) & (last & told_sizes::told::sizes_agree(t, w))
 }
 
 // Whether a reference that the share marks as held is lawful, or nothing is stored where none is.
