@@ -69,6 +69,5 @@ pub fn last_fits(t: Track, w: &[u64], last: u64) -> bool
     if w[lines::SUBSAMPLES] != 0 {
         return last == last_bytes(w);
     }
-    (last <= maxima::PAYLOAD)
-        & told_sizes::told::may_have(t, w, w[lines::COUNT] as usize - 1, last)
+    (last <= maxima::PAYLOAD) & told_sizes::told::may_have(t, w, w[lines::COUNT] as usize - 1, last)
 }

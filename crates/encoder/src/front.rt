@@ -2,6 +2,7 @@
 // Letters: `t` the track, `s` the words of a share, `c` a chunk's bytes, `k` what was read of a chunk, `x` the words of the new set, `a` what is
 //   planned, `p` a prft.
 ghost use mathlib.Core.Path.{_≡_};
+ghost use mathlib.Core.Bool.{true};
 ghost use Prim.Native.Nat.{_≤_};
 ghost use lib.ListN.{length, drop};
 ghost use Rattle.laws.specs.Writes.{Wrote};
@@ -35,11 +36,12 @@ fn may_delta(wish: bool, s: &[u64], p: Prft) -> bool
     wish & ((s[share::HELD] != 0) & (!p.stands | (s[share::PRFT] != 0)))
 }
 
-// A delta where one is wished for and possible, else a full object, else none.
+// A delta where one is wished for and possible, else a full object, else none. `follow` says whether the IVs follow, if a delta is wished for.
 pub fn choose(
     form: Form,
     t: Track,
     wish: bool,
+    follow: bool,
     s: &[u64],
     k: Chunk,
     ws: &[u64],
@@ -47,7 +49,7 @@ pub fn choose(
     kept: &mut [usize],
 ) -> Plan
     requires { ⌜ ReadOfOne (rows form) t (now s) k (now ws) (now x) ⌝ }
-    requires { ⌜ length (now kept) ≡ keptLen ⌝ }
+    requires { ⌜ (wish ≡ true → Leaves t true (now s) (now x) follow) × (length (now kept) ≡ keptLen) ⌝ }
     ensures { λ a. ⌜ OfEach (rows form) t (now (s .entry)) k (now (ws .entry)) (now (x .entry))
         (λ c. PlannedAs (rows form) (now (s .entry)) c wish a)
         × Leaves t (a .delta) (now (s .entry)) (now (x .entry)) (a .follow)
@@ -55,7 +57,6 @@ pub fn choose(
 {
     let p = k.prft;
     if may_delta(wish, s, p) {
-        let follow = counters::follow::ivs_follow(t, s[share::LAST], &s[share::SET..], x);
         let d = properties::block_size(form, t, true, follow, s, k, ws, x, &mut *kept);
         if d.fits {
             return Plan {

@@ -112,7 +112,11 @@ fn change_of(b: Basis, r: &[u64], x: &[u64], l: Line) -> Change
         return Change::Sent;
     }
     if is_ivs(want) {
-        return if b.follow { Change::Omitted } else { Change::Sent };
+        return if b.follow {
+            Change::Omitted
+        } else {
+            Change::Sent
+        };
     }
     let u = old_length(b, r, l);
     let k = lines::length_of(want, now);

@@ -214,10 +214,10 @@ fn ivs_number(t: Track, delta: bool, s: &[u64], index: &[u64], x: &mut [u64]) ->
     ensures { λ n. ⌜ ((payload : ℕ)
         → IvsAs t delta (now (s .entry)) (now (index .entry)) (now (x .entry)) payload n (now (x .exit))) ⌝ }
 {
-    if !delta | (index[places::IVS] != 0) {
+    if x[lines::IVS] == 0 {
         return 0;
     }
-    if (s[share::SET + lines::IVS] == 0) | (x[lines::IVS] == 0) {
+    if !delta | (index[places::IVS] != 0) | (s[share::SET + lines::IVS] == 0) {
         return 0;
     }
     if counters::follow::derive(t, s[share::LAST], &s[share::SET..], x) {
