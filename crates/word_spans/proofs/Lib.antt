@@ -1,3 +1,4 @@
 pub mod ScanLaws
 pub mod TotalLaws
 pub mod CopyLoop
+pub mod BlankLoop
