@@ -29,9 +29,9 @@ mark-in i lt p e x h = omega (arith, e, place-of i lt, shaped i lt .inside, h)
 pub chunk-mark : (i : ℕ) → i < chunkLines → (p : ℕ) → p ≡ placeOf i → (x : List ℕ) → length x ≡ setLen → p < length x
 chunk-mark i lt = mark-in i (omega arith)
 
-module _ (F : List Row) (t : Track) (delta : Bool) (r x : List ℕ) where
+module _ (F : List Row) (t : Track) (delta follow : Bool) (r x : List ℕ) where
   -- a field without its mark, deleted or not
-  pub line-absent : (l : Line) → getD x (l .place) 0 ≡ 0 → nothing ≡ lineItems t delta r x l F
+  pub line-absent : (l : Line) → getD x (l .place) 0 ≡ 0 → nothing ≡ lineItems t delta follow r x l F
   unfolding lineItems changeOf
   line-absent l z = rw (eq-eqb (getD x (l .place) 0) 0 z) (go (stood delta r l))
     where
@@ -40,25 +40,25 @@ module _ (F : List Row) (t : Track) (delta : Bool) (r x : List ℕ) where
       go false = refl
 
   -- by its place, of the lines that a chunk has
-  pub absent-at : (i : ℕ) → i < chunkLines → (p : ℕ) → p ≡ placeOf i → getD x p 0 ≡ 0 → nothing ≡ fieldAt F t delta r x i
+  pub absent-at : (i : ℕ) → i < chunkLines → (p : ℕ) → p ≡ placeOf i → getD x p 0 ≡ 0 → nothing ≡ fieldAt F t delta follow r x i
   absent-at i lt p e z = line-absent (getD lines i spare) (ap (λ (n : ℕ). getD x n 0) (sym (e ∙ place-of i (omega arith))) ∙ z)
 
   -- a field without its mark before others that have none
-  passed : (i to : ℕ) → i < to → to ≤ lineCount → nothing ≡ fieldAt F t delta r x i → nothing ≡ between F t delta r x (i + 1) to
-      → nothing ≡ between F t delta r x i to
+  passed : (i to : ℕ) → i < to → to ≤ lineCount → nothing ≡ fieldAt F t delta follow r x i → nothing ≡ between F t delta follow r x (i + 1) to
+      → nothing ≡ between F t delta follow r x i to
   passed i to h k e f =
       f
-      ∙ sym (nothing-before (between F t delta r x (i + 1) to))
-      ∙ ap (λ (is : Items). is before between F t delta r x (i + 1) to) e
-      ∙ sym (lines-cons F t delta r x i to h k)
+      ∙ sym (nothing-before (between F t delta follow r x (i + 1) to))
+      ∙ ap (λ (is : Items). is before between F t delta follow r x (i + 1) to) e
+      ∙ sym (lines-cons F t delta follow r x i to h k)
 
   -- the line after the sample count
-  pub high-absent : getD x protectedAt 0 ≡ 0 → nothing ≡ between F t delta r x beforeCount chunkLines
+  pub high-absent : getD x protectedAt 0 ≡ 0 → nothing ≡ between F t delta follow r x beforeCount chunkLines
   unfolding placeOf lines
-  high-absent e = passed beforeCount chunkLines (omega arith) (omega arith) (absent-at 12 (omega arith) protectedAt refl e) (sym (lines-none F t delta r x chunkLines))
+  high-absent e = passed beforeCount chunkLines (omega arith) (omega arith) (absent-at 12 (omega arith) protectedAt refl e) (sym (lines-none F t delta follow r x chunkLines))
 
   -- those between BMDT and the sample count
-  pub middle-absent : ((eqb (getD x subsamplesAt 0) 0 && eqb (getD x firstFlagsAt 0) 0) && eqb (getD x clearAt 0) 0) ≡ true → nothing ≡ between F t delta r x beforeBmdt beforeCount
+  pub middle-absent : ((eqb (getD x subsamplesAt 0) 0 && eqb (getD x firstFlagsAt 0) 0) && eqb (getD x clearAt 0) 0) ≡ true → nothing ≡ between F t delta follow r x beforeBmdt beforeCount
   unfolding placeOf lines
   middle-absent e =
       let f = and-left (eqb (getD x subsamplesAt 0) 0 && eqb (getD x firstFlagsAt 0) 0) (eqb (getD x clearAt 0) 0) e in
@@ -67,4 +67,4 @@ module _ (F : List Row) (t : Track) (delta : Bool) (r x : List ℕ) where
       let s = and-right (eqb (getD x subsamplesAt 0) 0 && eqb (getD x firstFlagsAt 0) 0) (eqb (getD x clearAt 0) 0) e in
       passed beforeBmdt beforeCount (omega arith) (omega arith) (absent-at 9 (omega arith) subsamplesAt refl (eqb-true _ _ p))
       (passed 10 12 (omega arith) (omega arith) (absent-at 10 (omega arith) firstFlagsAt refl (eqb-true _ _ q))
-      (passed 11 12 (omega arith) (omega arith) (absent-at 11 (omega arith) clearAt refl (eqb-true _ _ s)) (sym (lines-none F t delta r x 12))))
+      (passed 11 12 (omega arith) (omega arith) (absent-at 11 (omega arith) clearAt refl (eqb-true _ _ s)) (sym (lines-none F t delta follow r x 12))))

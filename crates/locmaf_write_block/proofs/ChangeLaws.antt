@@ -1,10 +1,11 @@
 -- What an object says of a field, as code finds it test by test. Assumes nothing.
 use Prim.Native.Nat.{ℕ}
 use mathlib.Core.Path.{_≡_, refl, sym, _∙_}
-use mathlib.Core.Bool.{Bool, true, false, false≢true, cond, not, _&&_, _||_}
+use mathlib.Core.Bool.{Bool, true, false, false≢true, cond, not}
 use mathlib.Core.List.{List}
-use borrow.Author.Tests.{eq-eqb, ne-eqb}
+use borrow.Author.Tests.{eq-eqb, ne-eqb, not-true, not-false}
 use lib.ListN.{length, getD}
+use Rattle.laws.specs.Tests.{same}
 use Rattle.wire.specs.declared.form.Row.{Row}
 use Rattle.track.specs.declared.Track.{Track}
 use Rattle.field_table.specs.declared.lines.Line.{Line}
@@ -13,48 +14,41 @@ use Rattle.locmaf_write_block.specs.declared.cells.Change.{Change}
 use Rattle.locmaf_write_block.specs.declared.cells.Change.the-variants.{Omitted, Deleted, Sent}
 use Rattle.locmaf_write_tuples.specs.Items.{nothing, bytesOf}
 use Rattle.locmaf_write_tuples.proofs.ItemLaws.{not-nothing}
-use Rattle.locmaf_write_block.specs.Changes.{same, onChange, stands, news, olds, changeOf, sentItems, lineItems}
+use Rattle.locmaf_write_block.specs.Changes.{onChange, stands, news, olds, omits, changeOf, sentItems, lineItems}
 
--- a field that stands, by the tests as code makes them: there was none, or it is always sent; and else by whether it is the same
-fresh : (old ivs s : Bool) → (not old || ivs) ≡ true → Sent ≡ cond (old && (not ivs && s)) Omitted Sent
-fresh true true s h = refl
-fresh true false s h = absurd (false≢true h)
-fresh false ivs s h = refl
-
-by-same : (old ivs s : Bool) → (not old || ivs) ≡ false → cond s Omitted Sent ≡ cond (old && (not ivs && s)) Omitted Sent
-by-same true true s h = absurd (false≢true (sym h))
-by-same true false s h = refl
-by-same false ivs s h = absurd (false≢true (sym h))
-
-module _ (t : Track) (delta : Bool) (r x : List ℕ) (l : Line) (old : Bool) (eo : old ≡ stood delta r l) where
+module _ (t : Track) (delta follow : Bool) (r x : List ℕ) (l : Line) (old : Bool) (eo : old ≡ stood delta r l) where
   -- it doesn't stand, and did
-  pub vanished : getD x (l .place) 0 ≡ 0 → old ≡ true → Deleted ≡ changeOf t delta r x l
+  pub vanished : getD x (l .place) 0 ≡ 0 → old ≡ true → Deleted ≡ changeOf t delta follow r x l
   unfolding changeOf
   vanished z h = rw (eq-eqb (getD x (l .place) 0) 0 z, sym eo ∙ h)
 
   -- and didn't
-  pub never : getD x (l .place) 0 ≡ 0 → old ≡ false → Omitted ≡ changeOf t delta r x l
+  pub never : getD x (l .place) 0 ≡ 0 → old ≡ false → Omitted ≡ changeOf t delta follow r x l
   unfolding changeOf
   never z h = rw (eq-eqb (getD x (l .place) 0) 0 z, sym eo ∙ h)
 
   -- it stands
-  module _ (here : getD x (l .place) 0 ≡ 0 → ⊥) (ivs : Bool) (ei : ivs ≡ isIvs (l .want)) where
-    -- and there was none, or it is always sent
-    pub afresh : (not old || ivs) ≡ true → Sent ≡ changeOf t delta r x l
+  module _ (here : getD x (l .place) 0 ≡ 0 → ⊥) where
+    -- and there was none
+    pub afresh : not old ≡ true → Sent ≡ changeOf t delta follow r x l
     unfolding changeOf
-    afresh h = rw (ne-eqb (getD x (l .place) 0) 0 here, ← eo, ← ei) (fresh old ivs (same (olds t delta r x l) (news t delta r x l)) h)
+    afresh h = rw (ne-eqb (getD x (l .place) 0) 0 here, ← eo, not-true old h)
 
-    -- and else by whether it is the same
-    pub compared : (not old || ivs) ≡ false → (s : Bool) → s ≡ same (olds t delta r x l) (news t delta r x l)
-        → cond s Omitted Sent ≡ changeOf t delta r x l
-    unfolding changeOf
-    compared h s e = rw (ne-eqb (getD x (l .place) 0) 0 here, ← eo, ← ei, ← e) (by-same old ivs s h)
+    -- and there was: of IVs by whether they follow, of others by whether they are the same
+    module _ (was : not old ≡ false) (ivs : Bool) (ei : ivs ≡ isIvs (l .want)) where
+      pub ivs-by : ivs ≡ true → cond follow Omitted Sent ≡ changeOf t delta follow r x l
+      unfolding changeOf
+      ivs-by h = rw (ne-eqb (getD x (l .place) 0) 0 here, ← eo, not-false old was, ← ei, h)
+
+      pub compared : ivs ≡ false → (s : Bool) → s ≡ same (olds t delta r x l) (news t delta r x l) → cond s Omitted Sent ≡ changeOf t delta follow r x l
+      unfolding changeOf
+      compared h s e = rw (ne-eqb (getD x (l .place) 0) 0 here, ← eo, not-false old was, ← ei, h, ← e)
 
 -- a field that is sent stands
-pub sent-stands : (t : Track) (delta : Bool) (r x : List ℕ) (l : Line) → changeOf t delta r x l ≡ Sent → stands t delta r x l ≡ true
+pub sent-stands : (t : Track) (delta follow : Bool) (r x : List ℕ) (l : Line) → changeOf t delta follow r x l ≡ Sent → stands t delta r x l ≡ true
 unfolding changeOf
-sent-stands t delta r x l e =
-    go (stands t delta r x l) (stood delta r l) (stood delta r l && (not (isIvs (l .want)) && same (olds t delta r x l) (news t delta r x l))) e
+sent-stands t delta follow r x l e =
+    go (stands t delta r x l) (stood delta r l) (omits t delta follow r x l) e
   where
     go : (a b c : Bool) → cond a (cond c Omitted Sent) (cond b Deleted Omitted) ≡ Sent → a ≡ true
     go true b c h = refl
@@ -62,23 +56,23 @@ sent-stands t delta r x l e =
     go false false c h = absurd (false≢true (let z : false ≡ true = cc in z))
 
 -- and one that has items is sent
-some-sent : (F : List Row) (t : Track) (delta : Bool) (r x : List ℕ) (l : Line) → (nothing ≡ lineItems t delta r x l F → ⊥) → changeOf t delta r x l ≡ Sent
+some-sent : (F : List Row) (t : Track) (delta follow : Bool) (r x : List ℕ) (l : Line) → (nothing ≡ lineItems t delta follow r x l F → ⊥) → changeOf t delta follow r x l ≡ Sent
 unfolding lineItems
-some-sent F t delta r x l n = go (changeOf t delta r x l) refl
+some-sent F t delta follow r x l n = go (changeOf t delta follow r x l) refl
   where
-    go : (c : Change) → changeOf t delta r x l ≡ c → c ≡ Sent
+    go : (c : Change) → changeOf t delta follow r x l ≡ c → c ≡ Sent
     go Omitted e = absurd (n (rw e))
     go Deleted e = absurd (n (rw e))
     go Sent e = refl
 
 -- what stands of the line that code looked up
-module _ (F : List Row) (t : Track) (delta : Bool) (r x : List ℕ) (l q : Line) (el : l ≡ q) (c : Change) (ec : c ≡ changeOf t delta r x l) where
+module _ (F : List Row) (t : Track) (delta follow : Bool) (r x : List ℕ) (l q : Line) (el : l ≡ q) (c : Change) (ec : c ≡ changeOf t delta follow r x l) where
   -- the field's items, or nothing
-  pub line-sent : c ≡ Sent → sentItems t delta r x l F ≡ lineItems t delta r x q F
+  pub line-sent : c ≡ Sent → sentItems t delta r x l F ≡ lineItems t delta follow r x q F
   unfolding lineItems
   line-sent e = rw (← el, sym ec ∙ e)
 
-  pub line-unsent : (c ≡ Sent → ⊥) → nothing ≡ lineItems t delta r x q F
+  pub line-unsent : (c ≡ Sent → ⊥) → nothing ≡ lineItems t delta follow r x q F
   unfolding lineItems
   line-unsent h = rw (← el, ← ec) (go c h)
     where
@@ -88,13 +82,13 @@ module _ (F : List Row) (t : Track) (delta : Bool) (r x : List ℕ) (l q : Line)
       go Sent n = absurd (n refl)
 
 -- where that has some bytes, the field stands, and its items are those that are sent
-module _ (F : List Row) (t : Track) (delta : Bool) (r x : List ℕ) (l q : Line) (el : l ≡ q)
-    (bytes : ℕ) (k : bytes ≡ length (bytesOf F (lineItems t delta r x q F))) (n : bytes ≡ 0 → ⊥) where
-  sent : changeOf t delta r x l ≡ Sent
-  sent = some-sent F t delta r x l (rw el (not-nothing F (lineItems t delta r x q F) bytes k n))
+module _ (F : List Row) (t : Track) (delta follow : Bool) (r x : List ℕ) (l q : Line) (el : l ≡ q)
+    (bytes : ℕ) (k : bytes ≡ length (bytesOf F (lineItems t delta follow r x q F))) (n : bytes ≡ 0 → ⊥) where
+  sent : changeOf t delta follow r x l ≡ Sent
+  sent = some-sent F t delta follow r x l (rw el (not-nothing F (lineItems t delta follow r x q F) bytes k n))
 
   pub bytes-stand : stands t delta r x l ≡ true
-  bytes-stand = sent-stands t delta r x l sent
+  bytes-stand = sent-stands t delta follow r x l sent
 
-  pub bytes-sent : sentItems t delta r x l F ≡ lineItems t delta r x q F
-  bytes-sent = line-sent F t delta r x l q el (changeOf t delta r x l) refl sent
+  pub bytes-sent : sentItems t delta r x l F ≡ lineItems t delta follow r x q F
+  bytes-sent = line-sent F t delta follow r x l q el (changeOf t delta follow r x l) refl sent

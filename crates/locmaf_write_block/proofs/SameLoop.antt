@@ -9,9 +9,8 @@ use borrow.Author.Tests.{eqb-true}
 use lib.Dec.{eqb}
 use lib.ListN.{length, getD, drop, drop-of-length-le}
 use lib.Seq.{drop-cons}
-use Rattle.laws.specs.Tests.{_and_}
+use Rattle.laws.specs.Tests.{_and_, same}
 use Rattle.laws.proofs.TestLaws.{left, right, and-next, and-end}
-use Rattle.locmaf_write_block.specs.Changes.{same}
 
 -- lists that were found the same are equal
 pub same-is : (a b : List ℕ) → same a b ≡ true → a ≡ b

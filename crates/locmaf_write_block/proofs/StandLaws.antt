@@ -23,16 +23,17 @@ use Rattle.locmaf_write_tuples.specs.Items.{nothing, itemsIf, numberItem}
 use Rattle.locmaf_write_block.specs.Changes.{basisOf}
 use Rattle.locmaf_write_block.specs.Fields.{bmdtStands, countStands, bmdtIf, bmdtItems, countItems}
 
-module _ (t : Track) (delta : Bool) (r x : List ℕ) where
+module _ (t : Track) (delta follow : Bool) (r x : List ℕ) where
   -- the lengths, in a delta and in a full object
   pub basis-delta : delta ≡ true → (w n : Measure) → w ≡ measureOf t r → n ≡ measureOf t x
-      → _≡_ {A = Basis} (record { delta = true; was = w; now = n }) (basisOf t delta r x)
+      → _≡_ {A = Basis} (record { delta = true; follow = follow; was = w; now = n }) (basisOf t delta follow r x)
   basis-delta d w n e f = rw (d, e, f)
 
   pub basis-full : delta ≡ false → (n : Measure) → n ≡ measureOf t x
-      → _≡_ {A = Basis} (record { delta = false; was = record { count = 0; ivs = 0; sum = 0 }; now = n }) (basisOf t delta r x)
+      → _≡_ {A = Basis} (record { delta = false; follow = follow; was = record { count = 0; ivs = 0; sum = 0 }; now = n }) (basisOf t delta follow r x)
   basis-full d n f = rw (d, f)
 
+module _ (t : Track) (delta : Bool) (r x : List ℕ) where
   -- BMDT, in a full object and in a delta
   pub bmdt-full : delta ≡ false → true ≡ bmdtStands t delta r x
   unfolding bmdtStands

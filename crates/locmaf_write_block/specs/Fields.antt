@@ -52,6 +52,9 @@ beforeCount = protectedLine
 unfoldable pub bmdtIf : List Row → Bool → List ℕ → Items
 bmdtIf F stands x = itemsIf stands (numberItem 10 (codeOf F Plain 0 (getD x bmdtAt 0)))
 
+unfoldable pub bmdtItems : List Row → Track → Bool → List ℕ → List ℕ → Items
+bmdtItems F t delta r x = bmdtIf F (bmdtStands t delta r x) x
+
 unfoldable pub countItems : List Row → Bool → List ℕ → List ℕ → Items
 countItems F delta r x = itemsIf (countStands delta r x) (numberItem 14 (codeOf F (codingFor delta) (getD r countAt 0) (getD x countAt 0)))
 
@@ -64,14 +67,11 @@ module _ (F : List Row) (t : Track) (delta follow : Bool) (r x : List ℕ) where
   abbrev pub between : ℕ → ℕ → Items
   between from to = linesItems (slice from to lines)
 
-  unfoldable pub bmdtItems : Items
-  bmdtItems = bmdtIf F (bmdtStands t delta r x) x
-
   -- ids 1 to 15: the lines that a chunk can have, and ids 10 and 14 between them
   unfoldable pub fieldItems : Items
   fieldItems =
       between 0 beforeBmdt
-      before bmdtItems
+      before bmdtItems F t delta r x
       before between beforeBmdt beforeCount
       before countItems F delta r x
       before between beforeCount chunkLines

@@ -7,6 +7,7 @@ ghost use mathlib.Core.List.{_++_};
 ghost use Prim.Native.Nat.{_+_, _*_, _≤_, _<_};
 ghost use lib.ListN.{length, getD};
 ghost use lib.Seq.{slice};
+ghost use Rattle.laws.specs.Tests.{same};
 ghost use Rattle.laws.specs.Writes.{Wrote};
 ghost use Rattle.wire.specs.Form.{rows};
 ghost use Rattle.wire.specs.Varint.{encode};
@@ -18,7 +19,7 @@ ghost use Rattle.runs.specs.Run.{first};
 ghost use Rattle.track.specs.declared.Track.{Track};
 ghost use Rattle.field_rules.specs.Fields.{stood, oldValues};
 ghost use Rattle.locmaf_write_tuples.specs.Items.{wideBytes, bytesOf, WeighedAs, RoomFor, WroteItems};
-ghost use Rattle.locmaf_write_block.specs.Changes.{chunkLines, same, stands, changeOf, sentItems, Based, ChunkLine, Measured, lineMost, listItem, codedItem};
+ghost use Rattle.locmaf_write_block.specs.Changes.{chunkLines, stands, changeOf, sentItems, Based, ChunkLine, Measured, lineMost, listItem, codedItem};
 ghost use Rattle.locmaf_write_block.specs.Fields.{fieldAt};
 use field_rules::rules::absent_value;
 use field_rules::rules::field_coding;
@@ -112,11 +113,10 @@ fn change_of(b: Basis, r: &[u64], x: &[u64], l: Line) -> Change
         return Change::Sent;
     }
     if is_ivs(want) {
-        return if b.follow {
-            Change::Omitted
-        } else {
-            Change::Sent
-        };
+        if b.follow {
+            return Change::Omitted;
+        }
+        return Change::Sent;
     }
     let u = old_length(b, r, l);
     let k = lines::length_of(want, now);

@@ -2,7 +2,7 @@
 use borrow.Author.Needs.{needs}
 use native.Mathlib.Omega.{arith}
 use mathlib.Core.Path.{sym, _∙_, ap₂}
-use Rattle.locmaf_write_block.specs.Changes.{same}
+use Rattle.laws.specs.Tests.{same}
 use Rattle.locmaf_write_block.proofs.FieldLaws.{measured-old, Field, chunk-field}
 use Rattle.locmaf_write_block.proofs.SentLaws.{new-room, news-lent, olds-lent}
 use Rattle.locmaf_write_block.proofs.ChangeLaws.{vanished, never, afresh, compared}
@@ -30,14 +30,14 @@ returns c =
     let b₁ = c .before in
     let b₂ = b₁ .before .before in
     let b₃ = b₂ .before .before .before .before in
-    let a = b₃ .args in λ t h. vanished t (a .b .delta) (a .r .now) (a .x .now) (a .l) _ (b₂ .has-old .ensures) (b₁ .if1 .taken) (c .if2 .taken)
+    let a = b₃ .args in λ t h. vanished t (a .b .delta) (a .b .follow) (a .r .now) (a .x .now) (a .l) _ (b₂ .has-old .ensures) (b₁ .if1 .taken) (c .if2 .taken)
 
 returns-2 : tie.Need-returns-2
 returns-2 c =
     let b₁ = c .before in
     let b₂ = b₁ .before .before in
     let b₃ = b₂ .before .before .before .before in
-    let a = b₃ .args in λ t h. never t (a .b .delta) (a .r .now) (a .x .now) (a .l) _ (b₂ .has-old .ensures) (b₁ .if1 .taken) (c .if2 .left)
+    let a = b₃ .args in λ t h. never t (a .b .delta) (a .b .follow) (a .r .now) (a .x .now) (a .l) _ (b₂ .has-old .ensures) (b₁ .if1 .taken) (c .if2 .left)
 
 is-ivs-requires : tie.Need-is-ivs-requires
 is-ivs-requires c κs = tt
@@ -50,7 +50,7 @@ returns-3 c =
     let b₄ = b₃ .before .before .before .before in
     let a = b₄ .args in
     λ t h.
-    afresh t (a .b .delta) (a .r .now) (a .x .now) (a .l) _ (b₃ .has-old .ensures) (b₂ .if1 .left) _ (b₁ .is-ivs .ensures) (c .if3 .taken)
+    afresh t (a .b .delta) (a .b .follow) (a .r .now) (a .x .now) (a .l) _ (b₃ .has-old .ensures) (b₂ .if1 .left) _ (b₁ .is-ivs .ensures) (c .if3 .taken)
 
 old-length-requires : tie.Need-old-length-requires
 old-length-requires c κs =
@@ -112,7 +112,7 @@ returns-4 c =
     let a = b₈ .args in
     λ t h.
     let f = chunk-field t (a .b) (a .r .now) (a .x .now) (a .l) h (b₈ .pre .0) in
-    compared t (a .b .delta) (a .r .now) (a .x .now) (a .l) _ (b₇ .has-old .ensures) (b₆ .if1 .left) _ (b₅ .is-ivs .ensures) (b₄ .if3 .left) _
+    compared t (a .b .delta) (a .b .follow) (a .r .now) (a .x .now) (a .l) _ (b₇ .has-old .ensures) (b₆ .if1 .left) _ (b₅ .is-ivs .ensures) (b₄ .if3 .left) _
     (sym (c .if4 .taken) ∙ b₁ .same-list .ensures ∙ ap₂ same (olds-lent f _ (b₃ .old-length .ensures)) (news-lent f _ (b₂ .length-of .ensures)))
 
 returns-5 : tie.Need-returns-5
@@ -128,7 +128,7 @@ returns-5 c =
     let a = b₈ .args in
     λ t h.
     let f = chunk-field t (a .b) (a .r .now) (a .x .now) (a .l) h (b₈ .pre .0) in
-    compared t (a .b .delta) (a .r .now) (a .x .now) (a .l) _ (b₇ .has-old .ensures) (b₆ .if1 .left) _ (b₅ .is-ivs .ensures) (b₄ .if3 .left) _
+    compared t (a .b .delta) (a .b .follow) (a .r .now) (a .x .now) (a .l) _ (b₇ .has-old .ensures) (b₆ .if1 .left) _ (b₅ .is-ivs .ensures) (b₄ .if3 .left) _
     (sym (c .if4 .left) ∙ b₁ .same-list .ensures ∙ ap₂ same (olds-lent f _ (b₃ .old-length .ensures)) (news-lent f _ (b₂ .length-of .ensures)))
 
 pub change-of-spec : {M : Type 1} → statement M

@@ -35,7 +35,7 @@ returns c =
     let b₃ = b₂ .before .before .before in
     let a = b₃ .args in
     weighed-as
-    (absent-at (rows (a .form)) (a .t) (a .b .delta) (a .r .now) (a .x .now) _ (b₃ .pre .1) _ (b₂ .place-at .ensures) (b₁ .if1 .taken))
+    (absent-at (rows (a .form)) (a .t) (a .b .delta) (a .b .follow) (a .r .now) (a .x .now) _ (b₃ .pre .1) _ (b₂ .place-at .ensures) (b₁ .if1 .taken))
     (weighed-nothing (c .whole .ensures))
 
 line-at-requires : tie.Need-line-at-requires
@@ -61,7 +61,7 @@ sent-size-requires c κs =
       b₃ .pre .0,
       (
         record { number = a .i; below = b₃ .pre .1; found = b₂ .line-at .ensures },
-        sent-stands (a .t) (a .b .delta) (a .r .now) (a .x .now) _
+        sent-stands (a .t) (a .b .delta) (a .b .follow) (a .r .now) (a .x .now) _
             (sym (b₁ .change-of .ensures (a .t) (b₃ .pre .0)) ∙ c .enum-told .given .1),
       ),
     )
@@ -74,7 +74,7 @@ returns-2 c =
     let b₄ = b₃ .before .before .before .before .before .before in
     let a = b₄ .args in
     weighed-as
-    (line-unsent (rows (a .form)) (a .t) (a .b .delta) (a .r .now) (a .x .now) _ _ (b₃ .line-at .ensures)
+    (line-unsent (rows (a .form)) (a .t) (a .b .delta) (a .b .follow) (a .r .now) (a .x .now) _ _ (b₃ .line-at .ensures)
     _ (b₂ .change-of .ensures (a .t) (b₄ .pre .0))
     (λ e. miss (0 ∷ 1 ∷ []) 2 tt (rw e at (b₁ .match .keys1))))
     (weighed-nothing (c .whole2 .ensures))
@@ -87,7 +87,7 @@ returns-3 c =
     let b₄ = b₃ .before .before .before .before .before .before in
     let a = b₄ .args in
     weighed-as
-    (line-sent (rows (a .form)) (a .t) (a .b .delta) (a .r .now) (a .x .now) _ _ (b₃ .line-at .ensures)
+    (line-sent (rows (a .form)) (a .t) (a .b .delta) (a .b .follow) (a .r .now) (a .x .now) _ _ (b₃ .line-at .ensures)
     _ (b₂ .change-of .ensures (a .t) (b₄ .pre .0)) (b₁ .enum-told .given .1))
     (c .sent-size .ensures)
 

@@ -29,8 +29,8 @@ put-sent-requires c κs =
       (
         record { number = a .i; below = p .0; found = l },
         (
-          bytes-stand F (a .t) (a .b .delta) (a .r .now) (a .x .now) _ _ l _ (q .0) n,
-          put-known F (bytes-sent F (a .t) (a .b .delta) (a .r .now) (a .x .now) _ _ l _ (q .0) n) _ _ _ (p .1 .0) (q .0) (q .1),
+          bytes-stand F (a .t) (a .b .delta) (a .b .follow) (a .r .now) (a .x .now) _ _ l _ (q .0) n,
+          put-known F (bytes-sent F (a .t) (a .b .delta) (a .b .follow) (a .r .now) (a .x .now) _ _ l _ (q .0) n) _ _ _ (p .1 .0) (q .0) (q .1),
         ),
       ),
     )
@@ -46,7 +46,7 @@ returns-2 c =
     let b₄ = b₃ .before .before .before .before in
     let a = b₄ .args in
     let F = rows (a .form) in
-    put-as F (bytes-sent F (a .t) (a .b .delta) (a .r .now) (a .x .now) _ _ (b₂ .line-at .ensures) _ (b₄ .pre .1 .1 .1 .0) (b₃ .if1 .left)) (b₁ .put-sent .ensures)
+    put-as F (bytes-sent F (a .t) (a .b .delta) (a .b .follow) (a .r .now) (a .x .now) _ _ (b₂ .line-at .ensures) _ (b₄ .pre .1 .1 .1 .0) (b₃ .if1 .left)) (b₁ .put-sent .ensures)
 
 pub put-line-spec : {M : Type 1} → statement M
 put-line-spec =

@@ -10,7 +10,7 @@ use Rattle.locmaf_write_block.proofs.deletions.deleted.Statement.{state
 use Rattle.locmaf_write_block.proofs.deletions.deleted.Tie as tie
 
 abbrev Inv-loop : tie.InvT-loop
-Inv-loop b r x ids₀ n₀ i₀ ids n i = Collecting (b .delta) r x ids n i
+Inv-loop b r x ids₀ n₀ i₀ ids n i = Collecting (b .delta) (b .follow) r x ids n i
 
 abbrev μ-loop : tie.MeasureT-loop
 μ-loop b r x ids₀ n₀ i₀ ids n i = lineCount - i

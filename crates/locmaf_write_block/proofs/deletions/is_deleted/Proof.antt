@@ -39,7 +39,7 @@ returns c =
     let b₁ = c .before .before .before in
     let b₂ = b₁ .before .before .before in
     let a = b₂ .args in
-    λ t. c .vanished .ensures ∙ deleted-is t (a .b .delta) (a .r .now) (a .x .now) _ (b₂ .pre .1) _ (b₁ .place-at .ensures)
+    λ t. c .vanished .ensures ∙ deleted-is t (a .b .delta) (a .b .follow) (a .r .now) (a .x .now) _ (b₂ .pre .1) _ (b₁ .place-at .ensures)
 
 pub is-deleted-spec : {M : Type 1} → statement M
 is-deleted-spec =

@@ -15,12 +15,12 @@ returns : tie.Need-returns
 returns c =
     let b₁ = c .before .before .before .before .before in
     let a = b₁ .args in
-    basis-delta (a .t) (a .delta) (now (a .r)) (now (a .x)) (c .before .if1 .taken) _ _ (c .measure2 .ensures) (c .before .before .measure .ensures)
+    basis-delta (a .t) (a .delta) (a .follow) (now (a .r)) (now (a .x)) (c .before .if1 .taken) _ _ (c .measure2 .ensures) (c .before .before .measure .ensures)
 
 returns-2 : tie.Need-returns-2
 returns-2 c =
     let a = c .before .before .before .before .args in
-    basis-full (a .t) (a .delta) (now (a .r)) (now (a .x)) (c .if1 .left) _ (c .before .measure .ensures)
+    basis-full (a .t) (a .delta) (a .follow) (now (a .r)) (now (a .x)) (c .if1 .left) _ (c .before .measure .ensures)
 
 pub basis-of-spec : {M : Type 1} → statement M
 basis-of-spec = tie.close (tie.spec measure-requires measure-requires-2 returns returns-2)

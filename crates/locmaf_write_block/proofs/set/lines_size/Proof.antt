@@ -9,7 +9,7 @@ use Rattle.locmaf_write_block.proofs.set.lines_size.Statement.{statemen
 use Rattle.locmaf_write_block.proofs.set.lines_size.Tie as tie
 
 abbrev Inv-loop : tie.InvT-loop
-Inv-loop form t b r x kept₀ sum₀ i₀ kept sum i = Weighing (rows form) t (b .delta) r x kept sum i
+Inv-loop form t b r x kept₀ sum₀ i₀ kept sum i = Weighing (rows form) t (b .delta) (b .follow) r x kept sum i
 
 abbrev μ-loop : tie.MeasureT-loop
 μ-loop form t b r x kept₀ sum₀ i₀ kept sum i = chunkLines - i

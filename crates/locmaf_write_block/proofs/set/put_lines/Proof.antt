@@ -8,7 +8,7 @@ use Rattle.locmaf_write_block.proofs.set.put_lines.Statement.{statement
 use Rattle.locmaf_write_block.proofs.set.put_lines.Tie as tie
 
 abbrev Inv-loop : tie.InvT-loop
-Inv-loop form t b r x from to kept out₀ at p₀ i₀ out p i = Putting (rows form) t (b .delta) r x out₀ at from to out p i
+Inv-loop form t b r x from to kept out₀ at p₀ i₀ out p i = Putting (rows form) t (b .delta) (b .follow) r x out₀ at from to out p i
 
 abbrev μ-loop : tie.MeasureT-loop
 μ-loop form t b r x from to kept out₀ at p₀ i₀ out p i = to - i

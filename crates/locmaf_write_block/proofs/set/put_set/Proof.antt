@@ -26,13 +26,13 @@ put-lines-requires c κs =
 -- the lines before BMDT are written, at once where they have no bytes
 low : (c : tie.Joined1) → let a = c .before .before .before .before .before .before .args in
     let F = rows (a .form) in
-    Wrote (a .out .now) (a .at) (bytesOf F (between F (a .t) (a .b .delta) (a .r .now) (a .x .now) 0 beforeBmdt)) (c .if1 .out) (c .if1 .p)
+    Wrote (a .out .now) (a .at) (bytesOf F (between F (a .t) (a .b .delta) (a .b .follow) (a .r .now) (a .x .now) 0 beforeBmdt)) (c .if1 .out) (c .if1 .p)
 low c =
     let b = c .before .before .before .before .before .before in
     let a = b .args in
     let p = b .pre .1 in
     let F = rows (a .form) in
-    let h = before-low F (a .t) (a .b .delta) (a .r .now) (a .x .now) (a .out .now) (a .at) (p .1 .0) (p .1 .1) in
+    let h = before-low F (a .t) (a .b .delta) (a .b .follow) (a .r .now) (a .x .now) (a .out .now) (a .at) (p .1 .0) (p .1 .1) in
     ⊎-elim
     (λ w. rw (w .1, w .2) (put-empty _ _ 0 refl (low-none _ _ _ _ _ (p .0) (p .1 .0) (w .0 .taken)) (left-first _ _ _ _ _ _ _ _ h .1)))
     (λ w. rw (w .5, w .6) (w .2 .ensures))
