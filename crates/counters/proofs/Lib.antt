@@ -1,0 +1,2 @@
+pub mod OutsideLaws
+pub mod BesideLaws

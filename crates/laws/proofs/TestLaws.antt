@@ -12,7 +12,7 @@ use lib.Arith.{bin-ind, digits-mod}
 use lib.Bits.{bitOr, or-add-and, and-le-l, and-le-r, or-lt, or-step, or-shr}
 use lib.ListN.{length, getD, take, drop, replicate}
 use lib.Seq.{slice, slice-cons}
-use Rattle.laws.specs.Tests.{_and_, allZero, allLe, allBits, sum}
+use Rattle.laws.specs.Tests.{_and_, allZero, allLe, allBits, sum, same}
 
 -- both halves of a row of tests that holds
 pub left : (a b : Bool) → (a and b) ≡ true → a ≡ true
@@ -184,6 +184,14 @@ pub zeros-are : (s : List ℕ) → allZero s ≡ true → s ≡ replicate (lengt
 unfolding allZero
 zeros-are [] e = refl
 zeros-are (x ∷ s) e = λ j. eqb-true x 0 (left _ _ e) j ∷ zeros-are s (right _ _ e) j
+
+-- lists that were found the same are equal
+pub same-is : (a b : List ℕ) → same a b ≡ true → a ≡ b
+unfolding same
+same-is [] [] e = refl
+same-is [] (y ∷ ys) e = absurd (false≢true e)
+same-is (x ∷ xs) [] e = absurd (false≢true e)
+same-is (x ∷ xs) (y ∷ ys) e = ap₂ (λ (u : ℕ) (us : List ℕ). u ∷ us) (eqb-true _ _ (left _ _ e)) (same-is xs ys (right _ _ e))
 
 or-zero : (a b : ℕ) → eqb (bitOr a b) 0 ≡ (eqb a 0 and eqb b 0)
 or-zero a b =

@@ -2,25 +2,16 @@
 use Prim.Native.Nat.{ℕ, _+_, _≤_, _<_}
 use native.Mathlib.Numerals.{add-one}
 use native.Mathlib.Omega.{arith}
-use mathlib.Core.Path.{_≡_, refl, sym, _∙_, ap, ap₂}
-use mathlib.Core.Bool.{Bool, true, false, false≢true, _&&_}
-use mathlib.Core.List.{List, [], _∷_}
-use borrow.Author.Tests.{eqb-true}
+use mathlib.Core.Path.{_≡_, refl, sym, _∙_, ap}
+use mathlib.Core.Bool.{Bool, true, false, _&&_}
+use mathlib.Core.List.{List}
 use lib.Dec.{eqb}
 use lib.ListN.{length, getD, drop, drop-of-length-le}
 use lib.Seq.{drop-cons}
 use Rattle.laws.specs.Tests.{_and_, same}
-use Rattle.laws.proofs.TestLaws.{left, right, and-next, and-end}
+use Rattle.laws.proofs.TestLaws.{same-is, and-next, and-end}
 
--- lists that were found the same are equal
-pub same-is : (a b : List ℕ) → same a b ≡ true → a ≡ b
-unfolding same
-same-is [] [] e = refl
-same-is [] (y ∷ ys) e = absurd (false≢true e)
-same-is (x ∷ xs) [] e = absurd (false≢true e)
-same-is (x ∷ xs) (y ∷ ys) e = ap₂ (λ (u : ℕ) (us : List ℕ). u ∷ us) (eqb-true _ _ (left _ _ e)) (same-is xs ys (right _ _ e))
-
--- so those of other lengths aren't the same
+-- lists of other lengths aren't the same
 pub differ : (a b : List ℕ) → (length a ≡ length b → ⊥) → false ≡ same a b
 differ a b h = go (same a b) refl
   where

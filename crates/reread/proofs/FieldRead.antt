@@ -11,8 +11,8 @@ use borrow.Table.Steps.{cases}
 use lib.Dec.{eqb}
 use lib.ListN.{length, getD}
 use lib.Seq.{length-slice}
-use Rattle.laws.specs.Tests.{_and_, allLe}
-use Rattle.laws.proofs.TestLaws.{left, both-of}
+use Rattle.laws.specs.Tests.{_and_, allLe, same}
+use Rattle.laws.proofs.TestLaws.{left, both-of, same-is}
 use Rattle.wire.specs.declared.zigzag.Coding.{Coding}
 use Rattle.wire.proofs.ZigzagLaws.{back}
 use Rattle.runs.specs.Run.{first}
@@ -32,9 +32,8 @@ use Rattle.locmaf_read_field.specs.Cells.{Came, well, carried, sentOne, sentLis
 use Rattle.field_rules.specs.Fields.{codingFor, codingOf, isIvs, packed, stood, oldValues}
 use Rattle.field_rules.specs.Words.{wasOf}
 use Rattle.locmaf_write_tuples.specs.Items.{wideBytes}
-use Rattle.locmaf_write_block.specs.Changes.{same, basisOf, stands, news, olds, changeOf, Writable}
+use Rattle.locmaf_write_block.specs.Changes.{basisOf, stands, news, olds, changeOf, Writable}
 use Rattle.locmaf_write_block.proofs.FieldLaws.{Field, field-of}
-use Rattle.locmaf_write_block.proofs.SameLoop.{same-is}
 use Rattle.locmaf_write_block.proofs.WideLaws.{wide-length, packed-back}
 use Rattle.reread.specs.Sayings.{sentNumbers, lineSays, lineSaying}
 
