@@ -22,7 +22,7 @@ use Rattle.effective.proofs.SizesAdd.{sizesBefore, sizes-add}
 
 module _ (t : Track) (w : List ℕ) (payload : ℕ) where
   -- a sample can have its own size
-  size-may : (i : ℕ) → mayHave t w i (sizeOf t w payload i) ≡ true
+  pub size-may : (i : ℕ) → mayHave t w i (sizeOf t w payload i) ≡ true
   unfolding mayHave sizeOf
   size-may i = go (leb (countIn w) 1) (has 1 w) (ltb i (countIn w - 1)) refl
     where

@@ -23,7 +23,7 @@ use Rattle.effective.specs.Sums.{sizesOk}
 use Rattle.effective.proofs.SumLaws.{sizes-none, sizes-default, sizes-trex, sizes-sized}
 
 -- words, and one more behind them
-sum-behind : (w : List ℕ) (from i : ℕ) → from ≤ i → i < length w → sum (slice from (i + 1) w) ≡ sum (slice from i w) + getD w i 0
+pub sum-behind : (w : List ℕ) (from i : ℕ) → from ≤ i → i < length w → sum (slice from (i + 1) w) ≡ sum (slice from i w) + getD w i 0
 unfolding sum
 sum-behind w from i a b =
     let z : sum (slice (i + 1) (i + 1) w) ≡ 0 = ap sum (slice-none (i + 1) (i + 1) w (omega arith)) in
