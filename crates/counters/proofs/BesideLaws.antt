@@ -38,17 +38,21 @@ module _ (w vs : List ℕ) (room : ivsAt + 1 + length vs ≤ subsamplesAt) where
 
   -- ---- what stands outside
 
+  -- each word
   pub beside-word : (p : ℕ) → Outside p → getD y p 0 ≡ getD w p 0
   beside-word p (inl h) = word-before vs w (ivsAt + 1) p (omega arith)
   beside-word p (inr h) = word-behind vs w (ivsAt + 1) p (omega arith)
 
+  -- each part
   pub beside-slice : (a b : ℕ) → (b ≤ ivsAt + 1) ⊎ (subsamplesAt ≤ a) → slice a b y ≡ slice a b w
   beside-slice a b (inl h) = ap (drop a) (take-before vs w (ivsAt + 1) b h)
   beside-slice a b (inr h) = slice-behind vs w (ivsAt + 1) a b (omega arith)
 
+  -- there are as many words
   pub beside-length : length y ≡ length w
   beside-length = length-sets w (ivsAt + 1) vs
 
+  -- and as many samples
   pub beside-count : countIn y ≡ countIn w
   beside-count = beside-word 1 (inl (omega arith))
 
@@ -61,11 +65,12 @@ module _ (w vs : List ℕ) (room : ivsAt + 1 + length vs ≤ subsamplesAt) where
   unfolding has
   beside-has id = ap (λ (m : ℕ). not (eqb m 0)) (beside-mark id)
 
-  -- a value, and the first n of them, of a field before the room or behind it
+  -- a value of a field before the room or behind it
   pub beside-value : (id i : ℕ) → (lineFor id lines .place + 1 + i ≤ ivsAt) ⊎ (subsamplesAt ≤ lineFor id lines .place) → valueAt id i y ≡ valueAt id i w
   beside-value id i (inl h) = beside-word (lineFor id lines .place + 1 + i) (inl h)
   beside-value id i (inr h) = beside-word (lineFor id lines .place + 1 + i) (inr (omega arith))
 
+  -- the first n of them
   pub beside-values : (id n : ℕ) → (lineFor id lines .place + n ≤ ivsAt) ⊎ (subsamplesAt ≤ lineFor id lines .place) → valuesOf id n y ≡ valuesOf id n w
   unfolding valuesOf
   beside-values id n h =
@@ -82,27 +87,32 @@ module _ (w vs : List ℕ) (room : ivsAt + 1 + length vs ≤ subsamplesAt) where
   unfolding lines lineFor
   beside-listed n h = beside-values 1 n (inl (omega arith))
 
-  -- the subsample counts, one of them, and the bytes of subsamples
+  -- the subsample counts
   pub beside-counts : (n : ℕ) → valuesOf 11 n y ≡ valuesOf 11 n w
   unfolding lines lineFor
   beside-counts n = beside-values 11 n (inr (omega arith))
 
+  -- one of them
   pub beside-pairs : (i : ℕ) → valueAt 11 i y ≡ valueAt 11 i w
   unfolding lines lineFor
   beside-pairs i = beside-value 11 i (inr (omega arith))
 
+  -- the bytes of subsamples
   beside-bytes : (id j k : ℕ) → subsamplesAt ≤ lineFor id lines .place → bytesOf id y j k ≡ bytesOf id w j k
   unfolding bytesOf
   beside-bytes id j k h = ap sum (beside-slice (lineFor id lines .place + 1 + j) (lineFor id lines .place + 1 + j + k) (inr (omega arith)))
 
+  -- the clear ones
   pub beside-clear : (j k : ℕ) → bytesOf 13 y j k ≡ bytesOf 13 w j k
   unfolding lines lineFor
   beside-clear j k = beside-bytes 13 j k (omega arith)
 
+  -- and the protected ones
   pub beside-sum : (j k : ℕ) → bytesOf 15 y j k ≡ bytesOf 15 w j k
   unfolding lines lineFor
   beside-sum j k = beside-bytes 15 j k (omega arith)
 
+  -- sums stay within 64 bits
   pub beside-summable : Summable w → Summable y
   unfolding lines lineFor
   beside-summable s =
@@ -143,7 +153,9 @@ module _ (w vs : List ℕ) (room : ivsAt + 1 + length vs ≤ subsamplesAt) where
     pub beside-protected-from : (k i j : ℕ) → protectedFrom t y payload k i j ≡ protectedFrom t w payload k i j
     unfolding protectedFrom
     beside-protected-from zero i j = refl
-    beside-protected-from (suc k) i j = rw (beside-pairs i) (ap₂ (λ (n : ℕ) (ns : List ℕ). n ∷ ns) (beside-protected-of i j) (beside-protected-from k (suc i) (j + valueAt 11 i w)))
+    beside-protected-from (suc k) i j =
+        rw (beside-pairs i)
+        (ap₂ (λ (n : ℕ) (ns : List ℕ). n ∷ ns) (beside-protected-of i j) (beside-protected-from k (suc i) (j + valueAt 11 i w)))
 
     -- the counters that follow
     pub beside-derived : (last : ℕ) (r : List ℕ) → derived t last r y payload ≡ derived t last r w payload
@@ -151,11 +163,12 @@ module _ (w vs : List ℕ) (room : ivsAt + 1 + length vs ≤ subsamplesAt) where
     beside-derived last r =
         rw beside-count (ap (following (counterAt (ivWords t) (countIn r - 1) r) last) (beside-protected-from (countIn w) 0 0))
 
-    -- the rule of number 16
+    -- the rule of number 16 on sizes
     pub beside-sizes : sizesOk t y payload ≡ sizesOk t w payload
     unfolding sizesOk lines lineFor
     beside-sizes = rw (beside-count, beside-has 1, beside-has 6, beside-listed (countIn w - 1) (omega arith), beside-word 201 (inl (omega arith)))
 
+    -- and on protected sums, of k samples
     beside-samples : (k i j : ℕ) → samplesOk t y payload k i j ≡ samplesOk t w payload k i j
     unfolding samplesOk
     beside-samples zero i j = refl
@@ -163,6 +176,7 @@ module _ (w vs : List ℕ) (room : ivsAt + 1 + length vs ≤ subsamplesAt) where
         rw (beside-pairs i, beside-clear j (valueAt 11 i w), beside-sum j (valueAt 11 i w), beside-size i)
         (ap (λ (b : Bool). eqb (pairBytes w j (valueAt 11 i w)) (sizeOf t w payload i) and b) (beside-samples k (suc i) (j + valueAt 11 i w)))
 
+    -- and of all
     pub beside-protected : protectedOk t y payload ≡ protectedOk t w payload
     unfolding protectedOk
     beside-protected = rw (beside-has 11, beside-count, beside-samples (countIn w) 0 0)
