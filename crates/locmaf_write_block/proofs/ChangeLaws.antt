@@ -36,9 +36,9 @@ module _ (t : Track) (delta follow : Bool) (r x : List ℕ) (l : Line) (old : Bo
 
     -- and there was: of IVs by whether they follow, of others by whether they are the same
     module _ (was : not old ≡ false) (ivs : Bool) (ei : ivs ≡ isIvs (l .want)) where
-      pub ivs-by : ivs ≡ true → cond follow Omitted Sent ≡ changeOf t delta follow r x l
+      pub ivs-by : ivs ≡ true → (s : Bool) → s ≡ follow → cond s Omitted Sent ≡ changeOf t delta follow r x l
       unfolding changeOf
-      ivs-by h = rw (ne-eqb (getD x (l .place) 0) 0 here, ← eo, not-false old was, ← ei, h)
+      ivs-by h s e = rw (ne-eqb (getD x (l .place) 0) 0 here, ← eo, not-false old was, ← ei, h, e)
 
       pub compared : ivs ≡ false → (s : Bool) → s ≡ same (olds t delta r x l) (news t delta r x l) → cond s Omitted Sent ≡ changeOf t delta follow r x l
       unfolding changeOf

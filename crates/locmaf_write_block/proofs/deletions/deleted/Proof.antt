@@ -18,10 +18,10 @@ abbrev μ-loop : tie.MeasureT-loop
 returns : tie.Need-returns Inv-loop μ-loop
 returns c =
     let b = c .before .before .before .before .before in
-    collect-full _ _ _ (not-true _ (c .if1 .taken)) (b .args .ids .now) (b .pre .1)
+    collect-full _ _ _ _ (not-true _ (c .if1 .taken)) (b .args .ids .now) (b .pre .1)
 
 loop-holds : tie.Need-loop-holds Inv-loop μ-loop
-loop-holds c = collect-start _ _ _ _ (c .before .before .before .before .before .pre .1)
+loop-holds c = collect-start _ _ _ _ _ (c .before .before .before .before .before .pre .1)
 
 is-deleted-requires : tie.Need-is-deleted-requires Inv-loop μ-loop
 is-deleted-requires c κs = search needs
@@ -52,15 +52,15 @@ loop-again c =
     let lt = b₁ .loop-test .taken in
     let e = c .before .is-deleted .ensures in
     ⊎-elim
-    (λ w. collect-one _ _ _ _ _ _ h lt (λ t. sym (w .0 .taken) ∙ e t) _ (w .1 .ensures) _ (w .2) _ (w .3))
-    (λ w. collect-none _ _ _ _ _ _ h lt (λ t. sym (w .0 .left) ∙ e t) _ (w .1) _ (w .2))
+    (λ w. collect-one _ _ _ _ _ _ _ h lt (λ t. sym (w .0 .taken) ∙ e t) _ (w .1 .ensures) _ (w .2) _ (w .3))
+    (λ w. collect-none _ _ _ _ _ _ _ h lt (λ t. sym (w .0 .left) ∙ e t) _ (w .1) _ (w .2))
     (c .if2 .came)
 
 same-length : tie.Need-same-length Inv-loop μ-loop
 same-length c = search needs
 
 returns-2 : tie.Need-returns-2 Inv-loop μ-loop
-returns-2 c = collect-end _ _ _ _ _ _ (c .before .loop .inv) (c .loop-test .left)
+returns-2 c = collect-end _ _ _ _ _ _ _ (c .before .loop .inv) (c .loop-test .left)
 
 pub deleted-spec : {M : Type 1} → statement M
 deleted-spec =

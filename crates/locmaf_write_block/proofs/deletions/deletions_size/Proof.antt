@@ -18,7 +18,7 @@ whole-requires c κs = search needs
 returns : tie.Need-returns
 returns c =
     λ t.
-    weighed-as (none-gone t _ _ _ _ _ (c .before .before .before .deleted .ensures .all t .0) (c .before .if1 .taken))
+    weighed-as (none-gone t _ _ _ _ _ _ (c .before .before .before .deleted .ensures .all t .0) (c .before .if1 .taken))
     (weighed-nothing (c .whole .ensures))
 
 array-share-prefix-ids : tie.Need-array-share-prefix-ids
@@ -42,7 +42,7 @@ returns-2 c =
     let b₂ = b₁ .before .before in
     let e = b₂ .deleted .ensures in
     let many = gone-many e in
-    λ t. weighed-as (some-gone _ _ _ _ _ _ (e .all t .0) (b₁ .if1 .left) _ (e .all t .1)) (weighed-within (omega (arith, e .few, many)) (c .run-size .ensures))
+    λ t. weighed-as (some-gone _ _ _ _ _ _ _ (e .all t .0) (b₁ .if1 .left) _ (e .all t .1)) (weighed-within (omega (arith, e .few, many)) (c .run-size .ensures))
 
 pub deletions-size-spec : {M : Type 1} → statement M
 deletions-size-spec =

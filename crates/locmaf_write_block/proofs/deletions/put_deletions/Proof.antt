@@ -9,7 +9,7 @@ use Rattle.locmaf_write_block.proofs.deletions.put_deletions.Tie as tie
 returns : tie.Need-returns
 returns c =
     let n = c .before .before .before .before .pre .1 in
-    λ t. put-as _ (deletions-alike (n .0) t _ _ _ _) (put-empty _ _ _ (c .if1 .taken) (n .2) (n .3))
+    λ t. put-as _ (deletions-alike (n .0) t _ _ _ _ _) (put-empty _ _ _ (c .if1 .taken) (n .2) (n .3))
 
 slice-aggregate-deleted : tie.Need-slice-aggregate-deleted
 slice-aggregate-deleted c = search needs
@@ -33,8 +33,8 @@ put-run-requires c κs =
     let n = b₂ .before .before .before .before .pre .1 in
     let d = b₁ .deleted .ensures in
     let e = d .all (n .0) in
-    let some = bytes-gone _ _ _ _ _ _ (e .0) _ (n .2) (b₂ .if1 .left) in
-    ((omega arith, omega (arith, d .few, gone-many d)), put-known _ (some-gone _ _ _ _ _ _ (e .0) some _ (e .1)) _ _ _ (n .1) (n .2) (n .3))
+    let some = bytes-gone _ _ _ _ _ _ _ (e .0) _ (n .2) (b₂ .if1 .left) in
+    ((omega arith, omega (arith, d .few, gone-many d)), put-known _ (some-gone _ _ _ _ _ _ _ (e .0) some _ (e .1)) _ _ _ (n .1) (n .2) (n .3))
 
 same-length : tie.Need-same-length
 same-length c = search needs
@@ -46,8 +46,8 @@ returns-2 c =
     let b₃ = b₂ .before .before in
     let n = b₃ .before .before .before .before .pre .1 in
     let d = b₂ .deleted .ensures in
-    let some = bytes-gone _ _ _ _ _ _ (d .all (n .0) .0) _ (n .2) (b₃ .if1 .left) in
-    λ t. let e = d .all t in put-as _ (some-gone _ _ _ _ _ _ (e .0) some _ (e .1)) (b₁ .put-run .ensures)
+    let some = bytes-gone _ _ _ _ _ _ _ (d .all (n .0) .0) _ (n .2) (b₃ .if1 .left) in
+    λ t. let e = d .all t in put-as _ (some-gone _ _ _ _ _ _ _ (e .0) some _ (e .1)) (b₁ .put-run .ensures)
 
 pub put-deletions-spec : {M : Type 1} → statement M
 put-deletions-spec =

@@ -18,7 +18,7 @@ whole-requires : tie.Need-whole-requires Inv-loop μ-loop
 whole-requires c κs = search needs
 
 loop-holds : tie.Need-loop-holds Inv-loop μ-loop
-loop-holds c = weigh-start _ _ _ _ _ _ (c .before .before .before .before .pre .1) _ (c .whole .ensures)
+loop-holds c = weigh-start _ _ _ _ _ _ _ (c .before .before .before .before .pre .1) _ (c .whole .ensures)
 
 line-size-requires : tie.Need-line-size-requires Inv-loop μ-loop
 line-size-requires c κs = search needs
@@ -30,7 +30,7 @@ slice-write-kept : tie.Need-slice-write-kept Inv-loop μ-loop
 slice-write-kept c = omega (arith, c .before .before .loop .inv .long)
 
 both-requires : tie.Need-both-requires Inv-loop μ-loop
-both-requires c κs = weigh-room _ _ _ _ _ _ _ _ (c .before .before .loop .inv) _ (c .line-size .ensures)
+both-requires c κs = weigh-room _ _ _ _ _ _ _ _ _ (c .before .before .loop .inv) _ (c .line-size .ensures)
 
 add-i : tie.Need-add-i Inv-loop μ-loop
 add-i c = search needs
@@ -42,13 +42,13 @@ loop-again : tie.Need-loop-again Inv-loop μ-loop
 loop-again c =
     let b₁ = c .before .before in
     let b₂ = b₁ .before in
-    weigh-next _ _ _ _ _ _ _ _ (b₂ .loop .inv) (b₁ .loop-test .taken) _ (c .before .line-size .ensures) _ (c .both .ensures)
+    weigh-next _ _ _ _ _ _ _ _ _ (b₂ .loop .inv) (b₁ .loop-test .taken) _ (c .before .line-size .ensures) _ (c .both .ensures)
 
 same-length : tie.Need-same-length Inv-loop μ-loop
 same-length c = search needs
 
 returns : tie.Need-returns Inv-loop μ-loop
-returns c = weigh-end _ _ _ _ _ _ _ _ (c .before .loop .inv) (c .loop-test .left)
+returns c = weigh-end _ _ _ _ _ _ _ _ _ (c .before .loop .inv) (c .loop-test .left)
 
 pub lines-size-spec : {M : Type 1} → statement M
 lines-size-spec =

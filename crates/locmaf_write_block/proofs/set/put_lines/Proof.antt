@@ -16,7 +16,7 @@ abbrev μ-loop : tie.MeasureT-loop
 loop-holds : tie.Need-loop-holds Inv-loop μ-loop
 loop-holds c =
     let p = c .before .before .before .before .pre .1 in
-    put-start _ _ _ _ _ _ _ _ _ (p .0 .0) (p .0 .1) (p .1 .1 .0) (p .1 .1 .1)
+    put-start _ _ _ _ _ _ _ _ _ _ (p .0 .0) (p .0 .1) (p .1 .1 .0) (p .1 .1 .1)
 
 mul-put-line : tie.Need-mul-put-line Inv-loop μ-loop
 mul-put-line c = omega (arith, c .before .loop .inv .last)
@@ -31,7 +31,7 @@ put-line-requires c κs =
     let b₁ = c .before .before in
     let b₂ = b₁ .before in
     let p = b₂ .before .before .before .before .before .pre in
-    (p .0, put-first _ _ _ _ _ _ _ _ _ _ _ _ (b₂ .loop .inv) (b₁ .loop-test .taken) _ (p .1 .1 .0))
+    (p .0, put-first _ _ _ _ _ _ _ _ _ _ _ _ _ (b₂ .loop .inv) (b₁ .loop-test .taken) _ (p .1 .1 .0))
 
 add-i : tie.Need-add-i Inv-loop μ-loop
 add-i c = search needs
@@ -43,13 +43,13 @@ loop-again : tie.Need-loop-again Inv-loop μ-loop
 loop-again c =
     let b₁ = c .before .before in
     let b₂ = b₁ .before .before .before in
-    put-next _ _ _ _ _ _ _ _ _ _ _ _ (b₂ .before .loop .inv) (b₂ .loop-test .taken) _ _ (b₁ .put-line .ensures)
+    put-next _ _ _ _ _ _ _ _ _ _ _ _ _ (b₂ .before .loop .inv) (b₂ .loop-test .taken) _ _ (b₁ .put-line .ensures)
 
 same-length : tie.Need-same-length Inv-loop μ-loop
 same-length c = c .before .loop .inv .left .long
 
 returns : tie.Need-returns Inv-loop μ-loop
-returns c = put-end _ _ _ _ _ _ _ _ _ _ _ _ (c .before .loop .inv) (c .loop-test .left)
+returns c = put-end _ _ _ _ _ _ _ _ _ _ _ _ _ (c .before .loop .inv) (c .loop-test .left)
 
 pub put-lines-spec : {M : Type 1} → statement M
 put-lines-spec =

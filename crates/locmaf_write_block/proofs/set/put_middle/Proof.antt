@@ -18,7 +18,7 @@ shared-slice-read-if1-3 c = search needs
 returns : tie.Need-returns
 returns c =
     let b = c .before .before .before .before .before .before .before .before in
-    put-as _ (middle-absent _ _ _ _ _ (c .if1 .taken)) (put-nothing _ _ _ (omega (arith, b .pre .1 .1 .1)))
+    put-as _ (middle-absent _ _ _ _ _ _ (c .if1 .taken)) (put-nothing _ _ _ (omega (arith, b .pre .1 .1 .1)))
 
 put-lines-requires : tie.Need-put-lines-requires
 put-lines-requires c κs = let b = c .before .before .before .before .before .before .before .before .before in (b .pre .0, ((omega arith, omega arith), b .pre .1))

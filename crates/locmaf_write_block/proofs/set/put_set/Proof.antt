@@ -21,7 +21,7 @@ put-lines-requires : tie.Need-put-lines-requires
 put-lines-requires c κs =
     let b = c .before .before .before .before .before .before .before in
     let p = b .pre .1 in
-    (b .pre .0 .0, ((omega arith, omega arith), (p .0 .lines, left-first _ _ _ _ _ _ _ _ (before-low _ _ _ _ _ (b .args .out .now) _ (p .1 .0) (p .1 .1)))))
+    (b .pre .0 .0, ((omega arith, omega arith), (p .0 .lines, left-first _ _ _ _ _ _ _ _ (before-low _ _ _ _ _ _ (b .args .out .now) _ (p .1 .0) (p .1 .1)))))
 
 -- the lines before BMDT are written, at once where they have no bytes
 low : (c : tie.Joined1) → let a = c .before .before .before .before .before .before .args in
@@ -34,7 +34,7 @@ low c =
     let F = rows (a .form) in
     let h = before-low F (a .t) (a .b .delta) (a .b .follow) (a .r .now) (a .x .now) (a .out .now) (a .at) (p .1 .0) (p .1 .1) in
     ⊎-elim
-    (λ w. rw (w .1, w .2) (put-empty _ _ 0 refl (low-none _ _ _ _ _ (p .0) (p .1 .0) (w .0 .taken)) (left-first _ _ _ _ _ _ _ _ h .1)))
+    (λ w. rw (w .1, w .2) (put-empty _ _ 0 refl (low-none _ _ _ _ _ _ (p .0) (p .1 .0) (w .0 .taken)) (left-first _ _ _ _ _ _ _ _ h .1)))
     (λ w. rw (w .5, w .6) (w .2 .ensures))
     (c .if1 .came)
 
@@ -45,7 +45,7 @@ put-bmdt-requires : tie.Need-put-bmdt-requires
 put-bmdt-requires c κs =
     let b = c .before .before .before .before .before .before .before .before in
     let p = b .pre .1 .1 in
-    let h = left-first _ _ _ _ _ _ _ _ (before-bmdt _ _ _ _ _ (b .args .out .now) _ (p .0) (p .1) _ _ (low (c .before .before))) in
+    let h = left-first _ _ _ _ _ _ _ _ (before-bmdt _ _ _ _ _ _ (b .args .out .now) _ (p .0) (p .1) _ _ (low (c .before .before))) in
     (b .pre .0 .0 .0 .new-words, put-needs _ (bmdt-is _ _ _ _ _ (c .before .bmdt-stands .ensures _ _ (b .pre .0 .1))) _ _ (h .0) (h .1))
 
 put-middle-requires : tie.Need-put-middle-requires
@@ -54,7 +54,7 @@ put-middle-requires c κs =
     let b₂ = b₁ .before .before .before in
     let b₃ = b₂ .before .before .before .before .before .before in
     let p = b₃ .pre .1 .1 in
-    let h = before-middle _ _ _ _ _ (b₃ .args .out .now) _ (p .0) (p .1) _ _ (low b₂) _ _ (put-as _ (bmdt-is _ _ _ _ _ (b₁ .before .before .bmdt-stands .ensures _ _ (b₃ .pre .0 .1))) (b₁ .put-bmdt .ensures)) in
+    let h = before-middle _ _ _ _ _ _ (b₃ .args .out .now) _ (p .0) (p .1) _ _ (low b₂) _ _ (put-as _ (bmdt-is _ _ _ _ _ (b₁ .before .before .bmdt-stands .ensures _ _ (b₃ .pre .0 .1))) (b₁ .put-bmdt .ensures)) in
     (b₃ .pre .0 .0, (b₃ .pre .1 .0 .lines, left-first _ _ _ _ _ _ _ _ h))
 
 put-count-requires : tie.Need-put-count-requires
@@ -64,7 +64,7 @@ put-count-requires c κs =
     let b₃ = b₂ .before .before .before in
     let b₄ = b₃ .before .before .before .before .before .before in
     let p = b₄ .pre .1 .1 in
-    let h = before-count _ _ _ _ _ (b₄ .args .out .now) _ (p .0) (p .1)
+    let h = before-count _ _ _ _ _ _ (b₄ .args .out .now) _ (p .0) (p .1)
     _ _ (low b₃) _ _ (put-as _ (bmdt-is _ _ _ _ _ (b₂ .before .before .bmdt-stands .ensures _ _ (b₄ .pre .0 .1))) (b₂ .put-bmdt .ensures)) _ _ (b₁ .put-middle .ensures) in
     let w = b₄ .pre .0 .0 .0 in
     ((w .old-words, w .new-words), left-first _ _ _ _ _ _ _ _ h)
@@ -77,7 +77,7 @@ put-high-requires c κs =
     let b₄ = b₃ .before .before .before in
     let b₅ = b₄ .before .before .before .before .before .before in
     let p = b₅ .pre .1 .1 in
-    let h = before-high _ _ _ _ _ (b₅ .args .out .now) _ (p .0) (p .1)
+    let h = before-high _ _ _ _ _ _ (b₅ .args .out .now) _ (p .0) (p .1)
     _ _ (low b₄) _ _ (put-as _ (bmdt-is _ _ _ _ _ (b₃ .before .before .bmdt-stands .ensures _ _ (b₅ .pre .0 .1))) (b₃ .put-bmdt .ensures)) _ _ (b₂ .put-middle .ensures) _ _ (b₁ .put-count .ensures) in
     (b₅ .pre .0 .0, (b₅ .pre .1 .0 .lines, (h .fits, h .room)))
 
@@ -90,7 +90,7 @@ returns c =
     let b₅ = b₄ .before .before .before in
     let b₆ = b₅ .before .before .before .before .before .before in
     let p = b₆ .pre .1 .1 in
-    let h = before-high _ _ _ _ _ (b₆ .args .out .now) _ (p .0) (p .1)
+    let h = before-high _ _ _ _ _ _ (b₆ .args .out .now) _ (p .0) (p .1)
     _ _ (low b₅) _ _ (put-as _ (bmdt-is _ _ _ _ _ (b₄ .before .before .bmdt-stands .ensures _ _ (b₆ .pre .0 .1))) (b₄ .put-bmdt .ensures)) _ _ (b₃ .put-middle .ensures) _ _ (b₂ .put-count .ensures) in
     h .rest _ _ (b₁ .put-high .ensures)
 

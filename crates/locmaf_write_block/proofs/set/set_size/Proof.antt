@@ -44,8 +44,8 @@ returns c =
     let b₅ = b₄ .before .before .before in
     let l = b₅ .lines-size .ensures in
     let stands = b₄ .bmdt-stands .ensures _ _ (b₅ .before .before .before .before .before .pre .0 .1) in (
-      set-weighed _ _ _ _ _ (l .0) (weighed-as (bmdt-is _ _ _ _ _ stands) (b₃ .bmdt-size .ensures)) (b₂ .count-size .ensures) _ _ (b₁ .both .ensures) (c .both2 .ensures),
-      keep-all _ _ _ _ _ (l .1) (l .0),
+      set-weighed _ _ _ _ _ _ (l .0) (weighed-as (bmdt-is _ _ _ _ _ stands) (b₃ .bmdt-size .ensures)) (b₂ .count-size .ensures) _ _ (b₁ .both .ensures) (c .both2 .ensures),
+      keep-all _ _ _ _ _ _ (l .1) (l .0),
     )
 
 pub set-size-spec : {M : Type 1} → statement M
