@@ -15,34 +15,38 @@ use Rattle.laws.proofs.SliceLaws.{drop-slice, slice-none, slice-between}
 use Rattle.track.specs.Track.{narrow, u32, lawful as lawfulTrack}
 use Rattle.track.specs.declared.Track.{Track}
 use Rattle.field_table.specs.Lines.{setLen}
+use Rattle.field_set.specs.Lawful.{lawful as lawfulSet}
+use Rattle.told_sizes.specs.Sums.{Summable}
 use Rattle.slots.specs.declared.lawful.Side.{Side}
 use Rattle.share_words.specs.Share.{trackAt, timescaleAt, trackDescriptionAt, trackDurationAt, trackSizeAt, trackFlagsAt, protectionAt, trackIvSizeAt}
-use Rattle.share_words.specs.Share.{acceptedAt, heldAt, prftAt, ntpAt, mediaTimeAt, versionAt, prftFlagsAt, prftEnd, pastAt, expectedAt, setAt, shareLen}
-use Rattle.slots.specs.Share.{u24, u62, asked, askedOf, trackOf, expectedIn, isOpen, acceptedOk, prftOk, expectedOk, setOk, referenceOk, openOk, lawful}
+use Rattle.share_words.specs.Share.{acceptedAt, heldAt, prftAt, ntpAt, mediaTimeAt, versionAt, prftFlagsAt, prftEnd, pastAt, expectedAt, lastAt, setAt, shareLen}
+use Rattle.slots.specs.Share.{u24, u62, asked, askedOf, trackOf, expectedIn, isOpen, acceptedOk, prftOk, expectedOk, lastOk, setOk, referenceOk, openOk, lawful}
 use Rattle.prft_value.specs.declared.Prft.{Prft}
 use Rattle.effective.specs.declared.expected.Expected.{Expected}
 use Rattle.effective.specs.Durations.{Timed}
+use Rattle.effective.specs.Sizes.{Sized}
 use Rattle.effective.specs.Expected.{nextTime, expectedBy, same}
 use Rattle.effective.proofs.ExpectedLaws.{same-self}
-use Rattle.reference.specs.Kept.{prftWords, expectedWords, expectedAfter, referenceWords, keptWith, keptWords, storedWords, renewed}
+use Rattle.counters.specs.Protected.{lastProtected, lastFits}
+use Rattle.reference.specs.Kept.{prftWords, besideWords, expectedAfter, lastAfter, referenceWords, keptWith, keptWords, storedWords, renewed}
 use Rattle.reference.proofs.OpenLaws.{Opened}
 use Rattle.prft_value.specs.Prft.{InRange}
 
 -- ---- the words one after another
 
--- the parameters f, the count n, the mark, the words p of the `prft`, those of what is expected, and the set w
-module _ (f : List ℕ) (n : ℕ) (p : List ℕ) (e : Expected) (w : List ℕ) (lf : length f ≡ acceptedAt) (lp : length p ≡ prftEnd - prftAt) where
+-- the parameters f, the count n, the mark, the words p of the `prft`, those of what is expected, the last sample's protected bytes z, and the set w
+module _ (f : List ℕ) (n : ℕ) (p : List ℕ) (e : Expected) (z : ℕ) (w : List ℕ) (lf : length f ≡ acceptedAt) (lp : length p ≡ prftEnd - prftAt) where
   abbrev all : List ℕ
-  all = f ++ (n ∷ referenceWords p (expectedWords e) w)
+  all = f ++ (n ∷ referenceWords p (besideWords e z) w)
 
   all-long : length w ≡ setLen → length all ≡ shareLen
-  all-long lw = omega (arith, length-append f (n ∷ referenceWords p (expectedWords e) w), length-append p (expectedWords e ++ w))
+  all-long lw = omega (arith, length-append f (n ∷ referenceWords p (besideWords e z) w), length-append p (besideWords e z ++ w))
 
   -- a word behind the parameters
-  word-at : (k m : ℕ) → acceptedAt + k ≡ m → getD all m 0 ≡ getD (n ∷ referenceWords p (expectedWords e) w) k 0
+  word-at : (k m : ℕ) → acceptedAt + k ≡ m → getD all m 0 ≡ getD (n ∷ referenceWords p (besideWords e z) w) k 0
   word-at k m h =
       let q : m ≡ length f + k = omega arith in
-      ap (λ (i : ℕ). getD all i 0) q ∙ getD-append-add f (n ∷ referenceWords p (expectedWords e) w) k 0
+      ap (λ (i : ℕ). getD all i 0) q ∙ getD-append-add f (n ∷ referenceWords p (besideWords e z) w) k 0
 
   count-at : getD all acceptedAt 0 ≡ n
   count-at = word-at 0 acceptedAt refl
@@ -55,11 +59,11 @@ module _ (f : List ℕ) (n : ℕ) (p : List ℕ) (e : Expected) (w : List ℕ) (
       let pre : List ℕ = f ++ (n ∷ 1 ∷ []) in
       let a : prftAt ≡ length pre = omega (arith, length-append f (n ∷ 1 ∷ [])) in
       let b : prftEnd ≡ length pre + length p = omega (arith, length-append f (n ∷ 1 ∷ [])) in
-      ap (slice prftAt prftEnd) (sym (append-assoc f (n ∷ 1 ∷ []) (p ++ (expectedWords e ++ w))))
-      ∙ ap₂ (λ (i j : ℕ). slice i j (pre ++ (p ++ (expectedWords e ++ w)))) a b
-      ∙ slice-between pre p (expectedWords e ++ w)
+      ap (slice prftAt prftEnd) (sym (append-assoc f (n ∷ 1 ∷ []) (p ++ (besideWords e z ++ w))))
+      ∙ ap₂ (λ (i j : ℕ). slice i j (pre ++ (p ++ (besideWords e z ++ w)))) a b
+      ∙ slice-between pre p (besideWords e z ++ w)
 
-  -- all before what is expected, and all from there on
+  -- all before what is kept beside the set, and all from there on
   front : List ℕ
   front = f ++ (n ∷ 1 ∷ p)
 
@@ -67,17 +71,17 @@ module _ (f : List ℕ) (n : ℕ) (p : List ℕ) (e : Expected) (w : List ℕ) (
   unfolding front
   front-is = omega (arith, length-append f (n ∷ 1 ∷ p))
 
-  parts : all ≡ front ++ (expectedWords e ++ w)
+  parts : all ≡ front ++ (besideWords e z ++ w)
   unfolding front
-  parts = sym (append-assoc f (n ∷ 1 ∷ p) (expectedWords e ++ w))
+  parts = sym (append-assoc f (n ∷ 1 ∷ p) (besideWords e z ++ w))
 
   front-at : take pastAt all ≡ front
-  front-at = ap (take pastAt) parts ∙ take-at front (expectedWords e ++ w) pastAt front-is
+  front-at = ap (take pastAt) parts ∙ take-at front (besideWords e z ++ w) pastAt front-is
 
-  from-past : (k m : ℕ) → pastAt + k ≡ m → drop m all ≡ drop k (expectedWords e ++ w)
+  from-past : (k m : ℕ) → pastAt + k ≡ m → drop m all ≡ drop k (besideWords e z ++ w)
   from-past k m h =
       let q : m ≡ length front + k = omega (arith, front-is) in
-      ap (drop m) parts ∙ ap (λ (i : ℕ). drop i (front ++ (expectedWords e ++ w))) q ∙ drop-append-add front (expectedWords e ++ w) k
+      ap (drop m) parts ∙ ap (λ (i : ℕ). drop i (front ++ (besideWords e z ++ w))) q ∙ drop-append-add front (besideWords e z ++ w) k
 
   set-at : drop setAt all ≡ w
   set-at = from-past (setAt - pastAt) setAt refl
@@ -88,6 +92,9 @@ module _ (f : List ℕ) (n : ℕ) (p : List ℕ) (e : Expected) (w : List ℕ) (
       let a : getD all pastAt 0 ≡ e .past = sym (getD-drop pastAt all 0 0) ∙ ap (λ (l : List ℕ). getD l 0 0) q in
       let b : getD all expectedAt 0 ≡ e .time = sym (getD-drop pastAt all 1 0) ∙ ap (λ (l : List ℕ). getD l 1 0) q in
       λ j. record { past = a j; time = b j }
+
+  last-at : getD all lastAt 0 ≡ z
+  last-at = sym (getD-drop pastAt all (lastAt - pastAt) 0) ∙ ap (λ (l : List ℕ). getD l (lastAt - pastAt) 0) (from-past 0 pastAt refl)
 
 -- ---- the `prft` that is kept
 
@@ -156,97 +163,117 @@ module _ (s : List ℕ) (l : length s ≡ shareLen) where
   five-ok true p a b = sym (prft-in s) ∙ a refl
   five-ok false p a b = words-ranged p (b refl)
 
-  -- the two words of what is expected
-  two-words : slice pastAt setAt s ≡ expectedWords (expectedIn s)
-  two-words =
+  -- the three words that are kept beside the set
+  three-words : slice pastAt setAt s ≡ besideWords (expectedIn s) (getD s lastAt 0)
+  three-words =
       slice-cons pastAt setAt s 0 (omega arith) (omega arith)
       ∙ ap (λ (l : List ℕ). getD s pastAt 0 ∷ l)
-      (slice-cons expectedAt setAt s 0 (omega arith) (omega arith) ∙ ap (λ (l : List ℕ). getD s expectedAt 0 ∷ l) (slice-none setAt setAt s (omega arith)))
+      (slice-cons expectedAt setAt s 0 (omega arith) (omega arith)
+      ∙ ap (λ (l : List ℕ). getD s expectedAt 0 ∷ l)
+      (slice-cons lastAt setAt s 0 (omega arith) (omega arith) ∙ ap (λ (l : List ℕ). getD s lastAt 0 ∷ l) (slice-none setAt setAt s (omega arith))))
 
-  module _ (delta : Bool) (n : ℕ) (p : Prft) (w : List ℕ) where
+  module _ (delta : Bool) (n : ℕ) (p : Prft) (w : List ℕ) (payload : ℕ) where
     -- it keeps its length
-    pub accepted-long : length w ≡ setLen → length (keptWords delta n p w s) ≡ shareLen
+    pub accepted-long : length w ≡ setLen → length (keptWords delta n p w payload s) ≡ shareLen
     unfolding keptWords fiveOf
-    accepted-long lw = all-long (take acceptedAt s) n (fiveOf delta p) (expectedAfter w s) w front-long (five-long delta p) lw
+    accepted-long lw = all-long (take acceptedAt s) n (fiveOf delta p) (expectedAfter w s) (lastAfter w payload s) w front-long (five-long delta p) lw
 
     -- and its parameters
-    accepted-kept : (k : ℕ) → k < acceptedAt → getD (keptWords delta n p w s) k 0 ≡ getD s k 0
+    accepted-kept : (k : ℕ) → k < acceptedAt → getD (keptWords delta n p w payload s) k 0 ≡ getD s k 0
     unfolding keptWords
     accepted-kept k h =
         let m : k < length (take acceptedAt s) = omega (arith, front-long) in
         List·getD-append (take acceptedAt s) _ 0 k m ∙ getD-take acceptedAt s k 0 h
 
-    accepted-asked : askedOf (keptWords delta n p w s) ≡ askedOf s
+    accepted-asked : askedOf (keptWords delta n p w payload s) ≡ askedOf s
     accepted-asked =
         λ j.
         asked (accepted-kept trackAt (omega arith) j) (accepted-kept timescaleAt (omega arith) j) (accepted-kept trackDescriptionAt (omega arith) j) (accepted-kept trackDurationAt (omega arith) j)
         (accepted-kept trackSizeAt (omega arith) j) (accepted-kept trackFlagsAt (omega arith) j) (accepted-kept protectionAt (omega arith) j) (accepted-kept trackIvSizeAt (omega arith) j)
 
-    accepted-prft : prftOk (keptWords delta n p w s) ≡ prftIn (fiveOf delta p)
+    accepted-prft : prftOk (keptWords delta n p w payload s) ≡ prftIn (fiveOf delta p)
     unfolding keptWords fiveOf
     accepted-prft =
-        prft-in (keptWords delta n p w s)
-        ∙ ap prftIn (five-at (take acceptedAt s) n (fiveOf delta p) (expectedAfter w s) w front-long (five-long delta p))
+        prft-in (keptWords delta n p w payload s)
+        ∙ ap prftIn (five-at (take acceptedAt s) n (fiveOf delta p) (expectedAfter w s) (lastAfter w payload s) w front-long (five-long delta p))
 
-    accepted-set : drop setAt (keptWords delta n p w s) ≡ w
+    accepted-set : drop setAt (keptWords delta n p w payload s) ≡ w
     unfolding keptWords fiveOf
-    accepted-set = set-at (take acceptedAt s) n (fiveOf delta p) (expectedAfter w s) w front-long (five-long delta p)
+    accepted-set = set-at (take acceptedAt s) n (fiveOf delta p) (expectedAfter w s) (lastAfter w payload s) w front-long (five-long delta p)
 
-    accepted-count : getD (keptWords delta n p w s) acceptedAt 0 ≡ n
+    accepted-count : getD (keptWords delta n p w payload s) acceptedAt 0 ≡ n
     unfolding keptWords fiveOf
-    accepted-count = count-at (take acceptedAt s) n (fiveOf delta p) (expectedAfter w s) w front-long (five-long delta p)
+    accepted-count = count-at (take acceptedAt s) n (fiveOf delta p) (expectedAfter w s) (lastAfter w payload s) w front-long (five-long delta p)
 
-    accepted-mark : getD (keptWords delta n p w s) heldAt 0 ≡ 1
+    accepted-mark : getD (keptWords delta n p w payload s) heldAt 0 ≡ 1
     unfolding keptWords fiveOf
-    accepted-mark = mark-at (take acceptedAt s) n (fiveOf delta p) (expectedAfter w s) w front-long (five-long delta p)
+    accepted-mark = mark-at (take acceptedAt s) n (fiveOf delta p) (expectedAfter w s) (lastAfter w payload s) w front-long (five-long delta p)
 
-    accepted-expected : expectedOk (trackOf s) (keptWords delta n p w s) ≡ true
+    accepted-expected : expectedOk (trackOf s) (keptWords delta n p w payload s) ≡ true
     unfolding keptWords fiveOf expectedOk expectedAfter
     accepted-expected =
-        let a : expectedIn (keptWords delta n p w s) ≡ expectedAfter w s = expected-at (take acceptedAt s) n (fiveOf delta p) (expectedAfter w s) w front-long (five-long delta p) in
+        let a : expectedIn (keptWords delta n p w payload s) ≡ expectedAfter w s = expected-at (take acceptedAt s) n (fiveOf delta p) (expectedAfter w s) (lastAfter w payload s) w front-long (five-long delta p) in
         (λ j. same (a j) (expectedBy (nextTime (trackOf s) (accepted-set j)))) ∙ same-self (expectedBy (nextTime (trackOf s) w))
 
-    accepted-reference : prftIn (fiveOf delta p) ≡ true → setOk (trackOf s) w ≡ true → referenceOk (trackOf s) (keptWords delta n p w s) ≡ true
-    unfolding referenceOk
-    accepted-reference a b =
-        rw accepted-mark (both _ _ refl (both _ _ (accepted-prft ∙ a) (both _ _ accepted-expected (ap (setOk (trackOf s)) accepted-set ∙ b))))
+    -- what is kept of the last sample can be kept of it
+    abbrev Fits : Type 0
+    Fits = lastFits (trackOf s) w (lastProtected (trackOf s) w payload) ≡ true
 
-    -- it is lawful where the new set is, the count, and the `prft` that is kept
+    accepted-last : Fits → lastOk (trackOf s) (keptWords delta n p w payload s) ≡ true
+    unfolding keptWords fiveOf lastOk lastAfter
+    accepted-last h =
+        let a : getD (keptWords delta n p w payload s) lastAt 0 ≡ lastAfter w payload s
+        = last-at (take acceptedAt s) n (fiveOf delta p) (expectedAfter w s) (lastAfter w payload s) w front-long (five-long delta p) in
+        (λ j. lastFits (trackOf s) (accepted-set j) (a j)) ∙ h
+
+    accepted-reference : prftIn (fiveOf delta p) ≡ true → Fits → setOk (trackOf s) w ≡ true → referenceOk (trackOf s) (keptWords delta n p w payload s) ≡ true
+    unfolding referenceOk
+    accepted-reference a f b =
+        rw accepted-mark (both _ _ refl (both _ _ (accepted-prft ∙ a) (both _ _ accepted-expected (both _ _ (accepted-last f) (ap (setOk (trackOf s)) accepted-set ∙ b)))))
+
+    -- it is lawful where the new set is, the count, the `prft` that is kept, and the last sample's protected bytes
     pub accepted-lawful : (side : Side) → isOpen s ≡ true → Opened side s → acceptedOk side n ≡ true → (delta ≡ true → prftOk s ≡ true)
-        → (delta ≡ false → InRange p) → setOk (trackOf s) w ≡ true → lawful side (keptWords delta n p w s) ≡ true
+        → (delta ≡ false → InRange p) → Fits → setOk (trackOf s) w ≡ true → lawful side (keptWords delta n p w payload s) ≡ true
     unfolding lawful openOk isOpen
-    accepted-lawful side o h m a b c =
-        let z : eqb (getD (keptWords delta n p w s) trackAt 0) 0 ≡ false =
+    accepted-lawful side o h m a b f c =
+        let z : eqb (getD (keptWords delta n p w payload s) trackAt 0) 0 ≡ false =
         ap (λ (k : ℕ). eqb k 0) (accepted-kept trackAt (omega arith)) ∙ not-true _ o in
-        let count : acceptedOk side (getD (keptWords delta n p w s) acceptedAt 0) ≡ true = ap (acceptedOk side) accepted-count ∙ m in
-        let kept : referenceOk (trackOf (keptWords delta n p w s)) (keptWords delta n p w s) ≡ true =
-        ap (λ x. referenceOk (narrow x) (keptWords delta n p w s)) accepted-asked
-        ∙ accepted-reference (five-ok delta p a b) c in
+        let count : acceptedOk side (getD (keptWords delta n p w payload s) acceptedAt 0) ≡ true = ap (acceptedOk side) accepted-count ∙ m in
+        let kept : referenceOk (trackOf (keptWords delta n p w payload s)) (keptWords delta n p w payload s) ≡ true =
+        ap (λ x. referenceOk (narrow x) (keptWords delta n p w payload s)) accepted-asked
+        ∙ accepted-reference (five-ok delta p a b) f c in
         rw z (both _ _ (ap lawfulTrack accepted-asked ∙ h .track) (both _ _ count kept))
 
-    -- the share before what is expected is renewed, and after it
-    stored-with : storedWords delta n p w s ≡ take acceptedAt s ++ (n ∷ referenceWords (fiveOf delta p) (expectedWords (expectedIn s)) w)
+    -- the share before what is kept beside the set is renewed, and after it
+    stored-with : storedWords delta n p w s ≡ take acceptedAt s ++ (n ∷ referenceWords (fiveOf delta p) (besideWords (expectedIn s) (getD s lastAt 0)) w)
     unfolding storedWords fiveOf
-    stored-with = ap (λ (l : List ℕ). keptWith l delta n p w s) two-words
+    stored-with = ap (λ (l : List ℕ). keptWith l delta n p w s) three-words
 
     stored-set : drop setAt (storedWords delta n p w s) ≡ w
-    stored-set = ap (drop setAt) stored-with ∙ set-at (take acceptedAt s) n (fiveOf delta p) (expectedIn s) w front-long (five-long delta p)
+    stored-set = ap (drop setAt) stored-with ∙ set-at (take acceptedAt s) n (fiveOf delta p) (expectedIn s) (getD s lastAt 0) w front-long (five-long delta p)
 
     module _ (kept : List ℕ) (e : kept ≡ storedWords delta n p w s) where
       -- it can be renewed
-      pub renewable : length w ≡ setLen → Timed w → (length kept ≡ shareLen) × Timed (drop setAt kept)
-      renewable lw h = (
-        ap length (e ∙ stored-with) ∙ all-long (take acceptedAt s) n (fiveOf delta p) (expectedIn s) w front-long (five-long delta p) lw,
-        subst Timed (sym (ap (drop setAt) e ∙ stored-set)) h,
-      )
+      pub renewable : length w ≡ setLen → Timed w → Summable w → Sized w payload → (t : Track) → lawfulSet t w ≡ true
+          → ((length kept ≡ shareLen) × Timed (drop setAt kept))
+          × ((Summable (drop setAt kept) × Sized (drop setAt kept) payload) × (lawfulSet t (drop setAt kept) ≡ true))
+      renewable lw h k z t g =
+          let q : w ≡ drop setAt kept = sym (ap (drop setAt) e ∙ stored-set) in
+          (
+            (
+              ap length (e ∙ stored-with) ∙ all-long (take acceptedAt s) n (fiveOf delta p) (expectedIn s) (getD s lastAt 0) w front-long (five-long delta p) lw,
+              subst Timed q h,
+            ),
+            ((subst Summable q k, subst (λ (v : List ℕ). Sized v payload) q z), ap (lawfulSet t) (sym q) ∙ g),
+          )
 
       -- and then all is kept
-      pub all-kept : (t : Track) → t ≡ trackOf s → (after : List ℕ) → after ≡ renewed t kept → after ≡ keptWords delta n p w s
-      unfolding renewed keptWords expectedAfter fiveOf front
+      pub all-kept : (t : Track) → t ≡ trackOf s → (after : List ℕ) → after ≡ renewed t payload kept → after ≡ keptWords delta n p w payload s
+      unfolding renewed keptWords expectedAfter lastAfter fiveOf front
       all-kept t q after h =
           let a : take pastAt kept ≡ take acceptedAt s ++ (n ∷ 1 ∷ fiveOf delta p) =
-          ap (take pastAt) (e ∙ stored-with) ∙ front-at (take acceptedAt s) n (fiveOf delta p) (expectedIn s) w front-long (five-long delta p) in
+          ap (take pastAt) (e ∙ stored-with) ∙ front-at (take acceptedAt s) n (fiveOf delta p) (expectedIn s) (getD s lastAt 0) w front-long (five-long delta p) in
           let b : drop setAt kept ≡ w = ap (drop setAt) e ∙ stored-set in
           h
-          ∙ (λ j. a j ++ (expectedWords (expectedBy (nextTime (q j) (b j))) ++ b j))
-          ∙ append-assoc (take acceptedAt s) (n ∷ 1 ∷ fiveOf delta p) (expectedWords (expectedBy (nextTime (trackOf s) w)) ++ w)
+          ∙ (λ j. a j ++ (besideWords (expectedBy (nextTime (q j) (b j))) (lastProtected (q j) (b j) payload) ++ b j))
+          ∙ append-assoc (take acceptedAt s) (n ∷ 1 ∷ fiveOf delta p) (besideWords (expectedBy (nextTime (trackOf s) w)) (lastProtected (trackOf s) w payload) ++ w)

@@ -16,11 +16,12 @@ use Rattle.prft_value.specs.declared.Prft.{Prft}
 use Rattle.track.specs.declared.Track.{Track}
 use Rattle.effective.specs.declared.expected.Expected.{Expected}
 use Rattle.effective.specs.Expected.{nextTime, expectedBy}
+use Rattle.counters.specs.Protected.{lastProtected}
 use Rattle.field_table.specs.Lines.{lines, bmdtAt, sizesAt, setLen, lineCount, placeOf}
 use Rattle.field_set.specs.Lawful.{Tidy}
 use Rattle.field_set.proofs.TidyLaws.{place-inside}
 use Rattle.share_words.specs.Share.{acceptedAt, prftAt, prftEnd, pastAt, setAt, shareLen}
-use Rattle.reference.specs.Kept.{prftWords, expectedWords, storedWords, renewed}
+use Rattle.reference.specs.Kept.{prftWords, besideWords, storedWords, renewed}
 
 -- ---- the loop of `copy_set`: of the set, what stands before a place is the new one's, and the rest the old one's
 
@@ -274,14 +275,14 @@ module _ (delta : Bool) (p : Prft) (q : ℕ) (x s₀ : List ℕ) (l : length s�
         words = ap (λ (z : List ℕ). take setAt z ++ x) f ∙ full-words ∙ ap (λ (b : Bool). storedWords b q p x s₀) (sym (not-true delta d));
       }
 
--- what is expected is stored in its two words
-pub two-stored : (t : Track) (s : List ℕ) (e : Expected) → length s ≡ shareLen → e ≡ expectedBy (nextTime t (drop setAt s))
-    → sets s pastAt (e .past ∷ e .time ∷ []) ≡ renewed t s
+-- what is kept beside the set is stored in its three words
+pub three-stored : (t : Track) (payload : ℕ) (s : List ℕ) (e : Expected) (last : ℕ) → length s ≡ shareLen → e ≡ expectedBy (nextTime t (drop setAt s))
+    → last ≡ lastProtected t (drop setAt s) payload → sets s pastAt (e .past ∷ e .time ∷ last ∷ []) ≡ renewed t payload s
 unfolding renewed
-two-stored t s e l h =
-    sets-eq (e .past ∷ e .time ∷ []) s pastAt (omega arith)
-    ∙ append-assoc (take pastAt s) (e .past ∷ e .time ∷ []) (drop setAt s)
-    ∙ ap (λ (f : Expected). take pastAt s ++ (expectedWords f ++ drop setAt s)) h
+three-stored t payload s e last l h g =
+    sets-eq (e .past ∷ e .time ∷ last ∷ []) s pastAt (omega arith)
+    ∙ append-assoc (take pastAt s) (e .past ∷ e .time ∷ last ∷ []) (drop setAt s)
+    ∙ (λ j. take pastAt s ++ (besideWords (h j) (g j) ++ drop setAt s))
 
 -- and with the set, still as many
 pub copied-long : (x s₀ s : List ℕ) → length s₀ ≡ shareLen → length x ≡ setLen → length s ≡ length s₀ → length (take setAt s ++ x) ≡ length s₀

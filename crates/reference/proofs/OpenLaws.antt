@@ -1,5 +1,5 @@
 -- An open share that is lawful. Assumes nothing.
-use Prim.Native.Nat.{ℕ, _-_}
+use Prim.Native.Nat.{ℕ, _-_, _^_, _≤_}
 use native.Mathlib.Omega.{arith}
 use mathlib.Core.Path.{_≡_, refl, sym, _∙_, ap}
 use mathlib.Core.Bool.{Bool, true, false}
@@ -17,9 +17,10 @@ use Rattle.field_set.specs.Lawful.{Tidy, lawful as lawfulSet}
 use Rattle.field_set.proofs.TidyLaws.{lawful-tidy, zeros-tidy}
 use Rattle.effective.specs.Expected.{nextTime, expectedBy}
 use Rattle.effective.proofs.ExpectedLaws.{kept-sum, same-is, zeros-next}
+use Rattle.counters.proofs.LastLaws.{last-small}
 use Rattle.slots.specs.declared.lawful.Side.{Side}
-use Rattle.share_words.specs.Share.{trackAt, acceptedAt, heldAt, prftAt, pastAt, expectedAt, setAt, shareLen}
-use Rattle.slots.specs.Share.{askedOf, trackOf, expectedIn, isOpen, acceptedOk, prftOk, expectedOk, setOk, referenceOk, openOk, lawful}
+use Rattle.share_words.specs.Share.{trackAt, acceptedAt, heldAt, prftAt, pastAt, expectedAt, lastAt, setAt, shareLen}
+use Rattle.slots.specs.Share.{askedOf, trackOf, expectedIn, isOpen, acceptedOk, prftOk, expectedOk, lastOk, setOk, referenceOk, openOk, lawful}
 
 -- an open share, taken apart
 pub record Opened (side : Side) (s : List ℕ) : Type 0 where
@@ -39,8 +40,8 @@ pub held-facts : (t : Track) (s : List ℕ) → referenceOk t s ≡ true → eqb
     → (prftOk s ≡ true) × (lawfulSet t (drop setAt s) ≡ true)
 unfolding referenceOk setOk
 held-facts t s h z =
-    let ok : (eqb (getD s heldAt 0) 1 and prftOk s and expectedOk t s and setOk t (drop setAt s)) ≡ true = rw z at h in
-    (left _ _ (right _ _ ok), left _ _ (right _ _ (right _ _ (right _ _ ok))))
+    let ok : (eqb (getD s heldAt 0) 1 and prftOk s and expectedOk t s and lastOk t s and setOk t (drop setAt s)) ≡ true = rw z at h in
+    (left _ _ (right _ _ ok), left _ _ (right _ _ (right _ _ (right _ _ (right _ _ ok)))))
 
 -- the words of the reference's set
 pub reference-long : (s : List ℕ) → length s ≡ shareLen → length (drop setAt s) ≡ setLen
@@ -89,5 +90,22 @@ expected-there side s l h o = go (eqb (getD s heldAt 0) 0) refl
         ∙ kept-sum 0 (omega arith)
         ∙ ap expectedBy (sym (none-next (trackOf s) s r q))
     go false q =
-        let ok : (eqb (getD s heldAt 0) 1 and prftOk s and expectedOk (trackOf s) s and setOk (trackOf s) (drop setAt s)) ≡ true = rw q at r in
+        let ok : (eqb (getD s heldAt 0) 1 and prftOk s and expectedOk (trackOf s) s and lastOk (trackOf s) s and setOk (trackOf s) (drop setAt s)) ≡ true = rw q at r in
         same-is _ _ (left _ _ (right _ _ (right _ _ ok)))
+
+-- the last sample's protected bytes are few, whether a reference is held or not
+pub last-there : (side : Side) (s : List ℕ) → length s ≡ shareLen → lawful side s ≡ true → isOpen s ≡ true → getD s lastAt 0 ≤ 2 ^ 48
+unfolding referenceOk lastOk
+last-there side s l h o = go (eqb (getD s heldAt 0) 0) refl
+  where
+    r : referenceOk (trackOf s) s ≡ true
+    r = opened-facts side s h o .reference
+
+    go : (b : Bool) → eqb (getD s heldAt 0) 0 ≡ b → getD s lastAt 0 ≤ 2 ^ 48
+    go true q =
+        let z : allZero (drop prftAt s) ≡ true = rw q at r in
+        let none : getD s lastAt 0 ≡ 0 = sym (getD-drop prftAt s (lastAt - prftAt) 0) ∙ omega (arith, le-at 0 (drop prftAt s) (lastAt - prftAt) (zeros-le 0 _ z)) in
+        omega arith
+    go false q =
+        let ok : (eqb (getD s heldAt 0) 1 and prftOk s and expectedOk (trackOf s) s and lastOk (trackOf s) s and setOk (trackOf s) (drop setAt s)) ≡ true = rw q at r in
+        last-small (trackOf s) (drop setAt s) (reference-long s l) (held-facts (trackOf s) s r q .1) _ (left _ _ (right _ _ (right _ _ (right _ _ ok))))

@@ -19,10 +19,11 @@ use Rattle.told_sizes.specs.Told.{sizesAgree}
 use Rattle.effective.specs.declared.expected.Expected.{Expected}
 use Rattle.effective.specs.Durations.{durationsOf}
 use Rattle.effective.specs.Expected.{expectedBy, same}
+use Rattle.counters.specs.Protected.{lastFits}
 use Rattle.field_table.specs.Lines.{bmdtAt, setLen}
 use Rattle.slots.specs.declared.lawful.Side.{Side}
-use Rattle.share_words.specs.Share.{heldAt, prftAt, ntpAt, mediaTimeAt, versionAt, prftFlagsAt, prftEnd, setAt, trackAt, timescaleAt, acceptedAt, shareLen}
-use Rattle.slots.specs.Share.{u24, u62, askedOf, trackOf, paramWords, expectedIn, acceptedOk, prftOk, expectedOk, setOk, referenceOk, openOk, lawful}
+use Rattle.share_words.specs.Share.{heldAt, prftAt, ntpAt, mediaTimeAt, versionAt, prftFlagsAt, prftEnd, lastAt, setAt, trackAt, timescaleAt, acceptedAt, shareLen}
+use Rattle.slots.specs.Share.{u24, u62, askedOf, trackOf, paramWords, expectedIn, acceptedOk, prftOk, expectedOk, lastOk, setOk, referenceOk, openOk, lawful}
 
 -- the words from a place to the end, folded
 folded : (from : ℕ) (s : List ℕ) (b : ℕ) → length s ≡ shareLen → b ≡ allBits (slice from shareLen s) → eqb b 0 ≡ allZero (drop from s)
@@ -61,18 +62,21 @@ unfolding _and_
 and-never true = refl
 and-never false = refl
 
--- that set, and what is expected behind it
+-- that set, and what is kept beside it
 module _ (t : Track) (s w : List ℕ) (e : w ≡ drop setAt s) where
   -- it is not lawful
-  pub set-unlawful : lawfulSet t w ≡ false → false ≡ (expectedOk t s and setOk t (drop setAt s))
+  pub set-unlawful : lawfulSet t w ≡ false → false ≡ (expectedOk t s and lastOk t s and setOk t (drop setAt s))
   unfolding setOk
-  set-unlawful h = sym (ap (λ (b : Bool). expectedOk t s and b) (and-false _ (ap (lawfulSet t) (sym e) ∙ h)) ∙ and-never (expectedOk t s))
+  set-unlawful h =
+      let none : setOk t (drop setAt s) ≡ false = and-false _ (ap (lawfulSet t) (sym e) ∙ h) in
+      sym (ap (λ (b : Bool). expectedOk t s and lastOk t s and b) none ∙ ap (λ (b : Bool). expectedOk t s and b) (and-never (lastOk t s)) ∙ and-never (expectedOk t s))
 
   -- it is
-  pub set-lawful : lawfulSet t w ≡ true → (p q : Bool) → (kept to-keep : Expected) → kept ≡ expectedIn s → (d : ℕ) → d ≡ durationsOf t w
-      → to-keep ≡ expectedBy (getD w bmdtAt 0 + d) → p ≡ same kept to-keep → q ≡ sizesAgree t w → (p && q) ≡ (expectedOk t s and setOk t (drop setAt s))
-  unfolding setOk expectedOk _and_
-  set-lawful h p q kept to-keep ek d ed et ep eq = rw (ep, eq, ek, et, ed, e, ap (lawfulSet t) (sym e) ∙ h)
+  pub set-lawful : lawfulSet t w ≡ true → (p f q : Bool) → (kept to-keep : Expected) → kept ≡ expectedIn s → (d : ℕ) → d ≡ durationsOf t w
+      → to-keep ≡ expectedBy (getD w bmdtAt 0 + d) → p ≡ same kept to-keep → f ≡ lastFits t w (getD s lastAt 0) → q ≡ sizesAgree t w
+      → (p && (f && q)) ≡ (expectedOk t s and lastOk t s and setOk t (drop setAt s))
+  unfolding setOk expectedOk lastOk _and_
+  set-lawful h p f q kept to-keep ek d ed et ep ef eq = rw (ep, ef, eq, ek, et, ed, e, ap (lawfulSet t) (sym e) ∙ h)
 
 module _ (t : Track) (s : List ℕ) (l : length s ≡ shareLen) where
   -- no reference is marked
@@ -81,7 +85,7 @@ module _ (t : Track) (s : List ℕ) (l : length s ≡ shareLen) where
   none-held b e q = rw (eq-eqb _ _ e) (folded prftAt s b l q)
 
   -- one is
-  pub one-held : (p q : Bool) → (getD s heldAt 0 ≡ 0 → ⊥) → p ≡ prftOk s → q ≡ (expectedOk t s and setOk t (drop setAt s))
+  pub one-held : (p q : Bool) → (getD s heldAt 0 ≡ 0 → ⊥) → p ≡ prftOk s → q ≡ (expectedOk t s and lastOk t s and setOk t (drop setAt s))
       → (eqb (getD s heldAt 0) 1 && (p && q)) ≡ referenceOk t s
   unfolding referenceOk _and_
   one-held p q e hp hq = rw (ne-eqb _ _ e, hp, hq)

@@ -17,8 +17,8 @@ use Rattle.track.specs.declared.Track.{Track}
 use Rattle.track.specs.Track.{narrow, lawful as lawfulTrack}
 use Rattle.slots.specs.declared.lawful.Side.{Side}
 use Rattle.share_words.specs.Share.{trackAt, timescaleAt, trackDescriptionAt, trackDurationAt, trackSizeAt, trackFlagsAt, protectionAt, trackIvSizeAt}
-use Rattle.share_words.specs.Share.{acceptedAt, heldAt, prftAt, ntpAt, mediaTimeAt, versionAt, prftFlagsAt, prftEnd, pastAt, expectedAt, setAt, shareLen, referenceLen, dropped}
-use Rattle.slots.specs.Share.{askedOf, trackOf, acceptedOk, prftOk, expectedOk, referenceOk, openOk, isOpen, lawful}
+use Rattle.share_words.specs.Share.{acceptedAt, heldAt, prftAt, ntpAt, mediaTimeAt, versionAt, prftFlagsAt, prftEnd, pastAt, expectedAt, lastAt, setAt, shareLen, referenceLen, dropped}
+use Rattle.slots.specs.Share.{askedOf, trackOf, acceptedOk, prftOk, expectedOk, lastOk, referenceOk, openOk, isOpen, lawful}
 use Rattle.slots.specs.Table.{out, onShare}
 use Rattle.slots.specs.Calls.{grouping}
 use Rattle.slots.proofs.CallLaws.{closed-zeros}
@@ -78,9 +78,13 @@ module _ (s s′ : List ℕ) (e : drop heldAt s ≡ drop heldAt s′) where
     unfolding expectedOk
     same-expected t = rw (same-kept (pastAt - heldAt), same-kept (expectedAt - heldAt), same-set)
 
+    same-last : (t : Track) → lastOk t s ≡ lastOk t s′
+    unfolding lastOk
+    same-last t = rw (same-kept (lastAt - heldAt), same-set)
+
     same-reference : (t : Track) → referenceOk t s ≡ referenceOk t s′
     unfolding referenceOk
-    same-reference t = rw (same-kept 0, same-rest (prftAt - heldAt), same-set, same-prft, same-expected t)
+    same-reference t = rw (same-kept 0, same-rest (prftAt - heldAt), same-set, same-prft, same-expected t, same-last t)
 
 -- a share with the reference of another that has the same parameters
 abbrev pub joined : List ℕ → List ℕ → List ℕ

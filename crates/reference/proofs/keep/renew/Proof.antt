@@ -1,4 +1,4 @@
--- `reference::keep::renew` meets its contract: two stores of what the words of the set come to. Assumes nothing.
+-- `reference::keep::renew` meets its contract: three stores of what the words of the set come to. Assumes nothing.
 use mathlib.Core.Path.{sym, _∙_, ap}
 use mathlib.Core.Bool.{false≢true}
 use denote.Ref.{now}
@@ -7,7 +7,7 @@ use borrow.Rule.Slice.PartAt.{part-to-end}
 use Rattle.share_words.specs.Share.{setAt}
 use Rattle.effective.specs.Expected.{nextTime, expectedBy}
 use Rattle.reference.specs.declared.keep.Replaced.{Replaced}
-use Rattle.reference.proofs.KeepLaws.{two-stored}
+use Rattle.reference.proofs.KeepLaws.{three-stored}
 use Rattle.reference.proofs.keep.renew.Statement.{statement}
 use Rattle.reference.proofs.keep.renew.Tie as tie
 
@@ -43,7 +43,7 @@ returns c =
 
 -- no object leaves it as it was
 returns-2 : tie.Need-returns-2
-returns-2 c = absurd (false≢true (sym (c .if1 .left) ∙ ap (λ (r : Replaced). r .expected) (c .before .replaced-by .ensures)))
+returns-2 c = absurd (false≢true (sym (c .if1 .left) ∙ ap (λ (r : Replaced). r .beside) (c .before .replaced-by .ensures)))
 
 pub renew-spec : {M : Type 1} → statement M
 renew-spec =
