@@ -6,7 +6,7 @@ use mathlib.Core.Path.{_≡_, refl, sym, _∙_, ap}
 use mathlib.Core.Bool.{Bool, true, false, false≢true, _&&_}
 use mathlib.Core.List.{List, []}
 use borrow.Author.Tests.{eqb-true, eq-eqb, ne-eqb}
-use lib.ListN.{length, set, length-set}
+use lib.ListN.{length, set, replicate, length-set}
 use lib.Seq.{slice, sets, length-sets, length-slice}
 use Rattle.wire.specs.declared.form.Row.{Row}
 use Rattle.wire.specs.declared.zigzag.Coding.{Coding}
@@ -22,7 +22,7 @@ use Rattle.field_table.specs.declared.lines.Want.{Want}
 use Rattle.field_table.specs.declared.lines.Want.the-variants.{One, LessOne, Count, Ivs, Sum}
 use Rattle.locmaf_read_said.specs.declared.said.Span.{Span}
 use Rattle.locmaf_read_field.specs.declared.cells.Cell.{Cell}
-use Rattle.locmaf_read_field.specs.Cells.{Came, TakenAs, Listed, told, right, misfitOf, outOfRange, missing, filledAs, carried, sentOne, sentIvs, sentList, spanBytes, listIn}
+use Rattle.locmaf_read_field.specs.Cells.{Came, TakenAs, Listed, told, right, misfitOf, outOfRange, filledAs, carried, sentOne, sentIvs, sentList, spanBytes, listIn}
 use Rattle.field_rules.specs.Carried.{carriedBy}
 use Rattle.field_rules.specs.Fields.{isIvs, packed}
 
@@ -64,9 +64,11 @@ module _ (coding : Coding) (old bound z place : ℕ) (x : List ℕ) {c : Cell} w
 
 -- ---- a field that is carried on
 module _ (want : Want) (j k place : ℕ) (r x : List ℕ) {c : Cell} where
-  pub carry-ivs : isIvs want ≡ true → c ≡ missing → (olds : List ℕ) → TakenAs (carried want j k olds) place x c x
+  pub carry-ivs : isIvs want ≡ true → c ≡ right → (olds after : List ℕ) → after ≡ sets (set x place 1) (place + 1) (replicate k 0)
+      → TakenAs (carried want j k olds) place x c after
   unfolding carried
-  carry-ivs i q olds = rw i (refused q refl refl)
+  carry-ivs i q olds after w =
+      rw i (record { answered = q; stored = λ _ _ _. w ∙ rw add-one; long = ap length w ∙ simp (length-sets, length-set) })
 
   pub carry-long : isIvs want ≡ false → carriedBy j k ≡ false → c ≡ misfitOf want → (olds : List ℕ) → TakenAs (carried want j k olds) place x c x
   unfolding carried

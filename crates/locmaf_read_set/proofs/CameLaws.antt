@@ -10,7 +10,7 @@ use mathlib.Core.List.{List, [], _∷_}
 use mathlib.Core.Option.{Option, none, some}
 use borrow.Author.Tests.{eqb-true, eqb-false, le-leb, not-true}
 use lib.Dec.{eqb}
-use lib.ListN.{length, getD, take, drop, length-take, length-drop}
+use lib.ListN.{length, getD, take, drop, replicate, length-take, length-drop, length-replicate}
 use lib.Seq.{length-slice, getD-drop}
 use Rattle.laws.specs.Tests.{_and_, allLe, among}
 use Rattle.laws.specs.Bytes.{de, Bytes}
@@ -39,7 +39,7 @@ use Rattle.field_set.proofs.LawfulLaws.{Region, lawful-region}
 use Rattle.locmaf_read_field.specs.declared.cells.Cell.{Cell}
 use Rattle.locmaf_read_said.specs.Said.{Says, Saying, omitted, deleted, sent, unsent, saying, sayingOf}
 use Rattle.field_rules.specs.Fields.{numbers, Held, codingFor, codingOf, isIvs, packed, stood, oldValues}
-use Rattle.locmaf_read_field.specs.Cells.{Came, well, misfit, beyond, missing, filledAs, carried, sentOne, sentList, cellOf, came as cameWith}
+use Rattle.locmaf_read_field.specs.Cells.{Came, well, misfit, beyond, filledAs, carried, sentOne, sentList, cellOf}
 use Rattle.field_rules.specs.Words.{measure, wasOf}
 use Rattle.locmaf_read_set.specs.Read.{cameOf, standsBy, stands}
 
@@ -95,7 +95,7 @@ module _ (t : Track) (coding : Coding) (held : Bool) (r : List ℕ) (was : Measu
   -- what is shown of each of them
   record Ways (P : Saying → Came → Type 0) : Type 0 where
     absent : stood held r l ≡ false → P omitted (well none)
-    lost : stood held r l ≡ true → isIvs (l .want) ≡ true → P omitted (cameWith missing none)
+    left : stood held r l ≡ true → isIvs (l .want) ≡ true → P omitted (well (some (replicate (wanted (l .want) m) 0)))
     kept : stood held r l ≡ true → isIvs (l .want) ≡ false → wanted (l .want) was ≡ wanted (l .want) m
         → P omitted (well (some (oldValues held r was l)))
     changed : stood held r l ≡ true → (wanted (l .want) was ≡ wanted (l .want) m → ⊥) → P omitted (misfit (l .want))
@@ -114,8 +114,8 @@ module _ (t : Track) (coding : Coding) (held : Bool) (r : List ℕ) (was : Measu
     carried-way e = go (isIvs (l .want)) refl (eqb (wanted (l .want) was) (wanted (l .want) m)) refl
       where
         go : (a : Bool) → isIvs (l .want) ≡ a → (b : Bool) → eqb (wanted (l .want) was) (wanted (l .want) m) ≡ b
-            → P omitted (cond a (cameWith missing none) (cond b (well (some (oldValues held r was l))) (misfit (l .want))))
-        go true p b q = h .lost e p
+            → P omitted (cond a (well (some (replicate (wanted (l .want) m) 0))) (cond b (well (some (oldValues held r was l))) (misfit (l .want))))
+        go true p b q = h .left e p
         go false p true q = h .kept e p (eqb-true _ _ q)
         go false p false q = h .changed e (eqb-false _ _ q)
 
@@ -198,7 +198,7 @@ module _ (t : Track) (coding : Coding) (held : Bool) (r : List ℕ) (was : Measu
       cell-ways t coding held r was l m (λ s x. x .cell .first ≡ true)
       (record {
         absent = λ _. refl;
-        lost = λ _ _. refl;
+        left = λ _ _. refl;
         kept = λ _ _ _. refl;
         changed = λ _ n. changed e n;
         struck = refl;
@@ -223,7 +223,7 @@ module _ (t : Track) (coding : Coding) (held : Bool) (r : List ℕ) (was : Measu
       cell-ways t coding held r was l m (λ s x. x .cell .second ≡ true)
       (record {
         absent = λ _. refl;
-        lost = λ _ i. let z : false ≡ true = rw e at i in absurd (false≢true z);
+        left = λ _ _. refl;
         kept = λ _ _ _. refl;
         changed = λ _ _. rw e;
         struck = refl;
@@ -323,7 +323,7 @@ module _ (t : Track) (coding : Coding) (held : Bool) (r : List ℕ) (was : Measu
       cell-ways t coding held r was l m (λ s x. (vs : List ℕ) → x .field ≡ some vs → length vs ≡ wanted (l .want) m)
       (record {
         absent = λ _ _ d. no-field d;
-        lost = λ _ _ _ d. no-field d;
+        left = λ _ _ vs d. ap length (sym (same-field d)) ∙ length-replicate {A = ℕ} (wanted (l .want) m) 0;
         kept = λ e i q vs d. ap length (sym (same-field d)) ∙ olds-length held r was l e (there e) ∙ q;
         changed = λ _ _ _ d. no-field d;
         struck = λ _ d. no-field d;
@@ -377,6 +377,12 @@ packed-le (suc k) bs h e =
     let d : length (drop 8 bs) ≡ 8 * k = omega (arith, length-drop 8 bs) in
     both _ _ (le-leb (de (take 8 bs)) 0xffff_ffff_ffff_ffff (word-le (take 8 bs) (bytes-take 8 bs h) n)) (packed-le k (drop 8 bs) (bytes-drop 8 bs h) d)
 
+-- zeros are within any bound
+zeros-le : (bound k : ℕ) → allLe bound (replicate k 0) ≡ true
+unfolding allLe
+zeros-le bound zero = refl
+zeros-le bound (suc k) = both _ _ (le-leb 0 bound (omega arith)) (zeros-le bound k)
+
 -- what is said are bytes, where the field is of words of eight
 abbrev Raw : Line → Saying → Type 0
 Raw l s = (zs : List ℕ) → s ≡ sent zs → isIvs (l .want) ≡ true → allLe 255 zs ≡ true
@@ -390,7 +396,7 @@ module _ (t : Track) (coding : Coding) (held : Bool) (r : List ℕ) (was : Measu
       cell-ways t coding held r was l m (λ s x. Raw l s → (vs : List ℕ) → x .field ≡ some vs → allLe (l .bound) vs ≡ true)
       (record {
         absent = λ _ _ _ d. no-field d;
-        lost = λ _ _ _ _ d. no-field d;
+        left = λ _ _ _ vs d. held-by (same-field d) (zeros-le (l .bound) (wanted (l .want) m));
         kept = λ e i q _ vs d. held-by (same-field d) (there e);
         changed = λ _ _ _ _ d. no-field d;
         struck = λ _ _ d. no-field d;
@@ -479,7 +485,7 @@ module _ (t : Track) (coding : Coding) (held : Bool) (r : List ℕ) (was : Measu
       cell-ways t coding held r was l m (λ s x. Good (x .cell) → standsBy s (stood held r l) ≡ isSome (x .field))
       (record {
         absent = λ e _. e;
-        lost = λ _ _ g. absurd (false≢true (g .1));
+        left = λ e _ _. e;
         kept = λ e _ _ _. e;
         changed = λ _ _ g. absurd (misfit-bad (l .want) g);
         struck = λ _. refl;

@@ -12,11 +12,29 @@ use Rattle.locmaf_read_field.proofs.cells.carry.Tie as tie
 is-ivs-requires : tie.Need-is-ivs-requires
 is-ivs-requires c κs = search needs
 
-lacking-requires : tie.Need-lacking-requires
-lacking-requires c κs = search needs
+mul-x : tie.Need-mul-x
+mul-x c = search needs
+
+slice-write-x : tie.Need-slice-write-x
+slice-write-x c = search needs
+
+add-blank : tie.Need-add-blank
+add-blank c = search needs
+
+blank-requires : tie.Need-blank-requires
+blank-requires c κs = search needs
+
+well-requires : tie.Need-well-requires
+well-requires c κs = search needs
+
+same-length : tie.Need-same-length
+same-length c = ap length (c .before .before .before .blank .ensures) ∙ simp (length-sets, length-set)
 
 returns : tie.Need-returns
-returns c = carry-ivs _ _ _ _ (now (c .before .before .before .before .before .args .r)) _ (sym (c .before .before .is-ivs .ensures) ∙ c .before .if1 .taken) (c .lacking .ensures) _
+returns c =
+    let i = c .before .before .before .before .before in
+    let a = i .before .before .before .before .args in
+    carry-ivs _ _ _ _ (now (a .r)) _ (sym (i .before .is-ivs .ensures) ∙ i .if1 .taken) (c .well .ensures) _ _ (c .before .before .before .blank .ensures)
 
 carries-requires : tie.Need-carries-requires
 carries-requires c κs = search needs
@@ -27,11 +45,11 @@ misfit-requires c κs = search needs
 returns-2 : tie.Need-returns-2
 returns-2 c = carry-long _ _ _ _ (now (c .before .before .before .before .before .before .before .args .r)) _ (sym (c .before .before .before .before .is-ivs .ensures) ∙ c .before .before .before .if1 .left) (failed (c .before .before .carries .ensures) (c .before .if2 .taken)) (c .misfit .ensures) _
 
-mul-x : tie.Need-mul-x
-mul-x c = search needs
+mul-x-2 : tie.Need-mul-x-2
+mul-x-2 c = search needs
 
-slice-write-x : tie.Need-slice-write-x
-slice-write-x c = search needs
+slice-write-x-2 : tie.Need-slice-write-x-2
+slice-write-x-2 c = search needs
 
 add-from : tie.Need-add-from
 add-from c = search needs
@@ -39,29 +57,34 @@ add-from c = search needs
 copy-requires : tie.Need-copy-requires
 copy-requires c κs = search needs
 
-well-requires : tie.Need-well-requires
-well-requires c κs = search needs
+well-requires-2 : tie.Need-well-requires-2
+well-requires-2 c κs = search needs
 
-same-length : tie.Need-same-length
-same-length c = ap length (c .before .before .before .copy .ensures) ∙ simp (length-sets, length-set)
+same-length-2 : tie.Need-same-length-2
+same-length-2 c = ap length (c .before .before .before .copy .ensures) ∙ simp (length-sets, length-set)
 
 returns-3 : tie.Need-returns-3
-returns-3 c = carry-same _ _ _ _ _ _ (sym (c .before .before .before .before .before .before .before .before .is-ivs .ensures) ∙ c .before .before .before .before .before .before .before .if1 .left) (held (c .before .before .before .before .before .before .carries .ensures) (c .before .before .before .before .before .if2 .left)) (c .well .ensures) _ (c .before .before .before .copy .ensures)
+returns-3 c = carry-same _ _ _ _ _ _ (sym (c .before .before .before .before .before .before .before .before .is-ivs .ensures) ∙ c .before .before .before .before .before .before .before .if1 .left) (held (c .before .before .before .before .before .before .carries .ensures) (c .before .before .before .before .before .if2 .left)) (c .well2 .ensures) _ (c .before .before .before .copy .ensures)
 
 pub carry-spec : {M : Type 1} → statement M
 carry-spec =
     tie.close
     (tie.spec
     is-ivs-requires
-    lacking-requires
+    mul-x
+    slice-write-x
+    add-blank
+    blank-requires
+    well-requires
+    same-length
     returns
     carries-requires
     misfit-requires
     returns-2
-    mul-x
-    slice-write-x
+    mul-x-2
+    slice-write-x-2
     add-from
     copy-requires
-    well-requires
-    same-length
+    well-requires-2
+    same-length-2
     returns-3)
