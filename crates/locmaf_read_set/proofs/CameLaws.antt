@@ -292,11 +292,11 @@ module _ (t : Track) (delta : Bool) (r : List ℕ) (says : Says) (m : Measure) w
 -- ---- how long a field is
 
 -- a field that doesn't stand has no values
-no-field : {A : Type 0} {vs : List ℕ} → _≡_ {A = Held} none (some vs) → A
+pub no-field : {A : Type 0} {vs : List ℕ} → _≡_ {A = Held} none (some vs) → A
 no-field e = let no : _≡_ {A = ℕ} 0 1 = cc in absurd (omega arith)
 
 -- and one that stands has its own
-same-field : {ws vs : List ℕ} → _≡_ {A = Held} (some ws) (some vs) → ws ≡ vs
+pub same-field : {ws vs : List ℕ} → _≡_ {A = Held} (some ws) (some vs) → ws ≡ vs
 same-field e = cc
 
 -- the words of eight bytes, a single value, and what the reference has

@@ -9,3 +9,4 @@ pub mod RungLaws
 pub mod BareLaws
 pub mod OrderLaws
 pub mod NewSetLaws
+pub mod LeftLaws
