@@ -7,8 +7,8 @@ use mathlib.Core.Bool.{true, not, _&&_}
 use mathlib.Core.List.{List, [], _∷_}
 use borrow.Author.Tests.{eqb-true, eqb-false, eq-eqb, leb-true, not-true, not-false}
 use lib.Dec.{eqb}
-use lib.ListN.{take, drop}
-use Rattle.constants.specs.Maxima.{eventBytesMost, numberMost}
+use lib.ListN.{length, take, drop}
+use Rattle.constants.specs.Maxima.{eventBytesMost, numberMost, payloadMost}
 use Rattle.laws.specs.Tests.{allLe}
 use Rattle.laws.specs.Ladder.{Hold}
 use Rattle.laws.proofs.BytesLaws.{bytes-are}
@@ -24,6 +24,7 @@ use Rattle.cmaf_read_prelude.proofs.PrftLaws.{prft-headed, prft-lacks, prft-ran
 use Rattle.cmaf_read_set.specs.Set.{run, size, equal, several, chunkSet}
 use Rattle.cmaf_read_set.proofs.SetSays.{Says, says-value}
 use Rattle.locmaf_write_events.specs.Records.{allSent, listBytes}
+use Rattle.effective.specs.Sums.{sizesOk}
 use Rattle.effective.proofs.AgreeLaws.{sums-kept}
 use Rattle.cmaf_read_chunk.specs.Accepted.{top, bmdt, prft, boxes, bytesAt, brandsOf, brands, payload, events, fields, inner, acceptRungs}
 use Rattle.cmaf_read_chunk.proofs.LawfulSet.{chunk-lawful}
@@ -96,6 +97,17 @@ chunk-agrees G t c low iv h b =
     let w : List ℕ = chunkSet t c (inner c) in
     sums-kept t w (bodyOf (top c .mdat) .len) (lawful-summable t w (a .said .long) (chunk-lawful G t c low iv h b)) (omega (arith, a .few .payload))
     (sizes-hold (chunk-sized t c a)) (sums-hold t c a)
+
+-- the sizes of its samples add up to the payload, which keeps its maximum
+pub chunk-sizes : (G : List Row) (t : Track) (c : List ℕ) → allLe 255 c ≡ true → ivOk (t .protection) (t .«iv_size») ≡ true → Hold (acceptRungs G t c)
+    → (sizesOk t (fields t c) (length (payload c)) ≡ true) × (length (payload c) ≤ payloadMost)
+unfolding fields payload
+chunk-sizes G t c low iv h =
+    let a : Facts t c = chunk-facts G t c h low iv in
+    (
+      subst (λ (n : ℕ). sizesOk t (chunkSet t c (inner c)) n ≡ true) (sym (payload-length c)) (sizes-hold (chunk-sized t c a)),
+      omega (arith, payload-length c, a .few .payload),
+    )
 
 -- all of it, part by part
 pub chunk-gives : ChunkGives

@@ -26,8 +26,8 @@ use Rattle.locmaf_write_tuples.proofs.PutLaws.{Left, left-start, left-as, left-
 use Rattle.locmaf_write_events.specs.Records.{sentOf}
 use Rattle.locmaf_write_block.proofs.SetLaws.{Sum}
 use Rattle.encoder.specs.Object.{brandItems, eventItems, blockItems}
-use Rattle.encoder.specs.Planned.{brandsAt, outsideItems, Encodable}
-use Rattle.encoder.proofs.GivenLaws.{prft-is, brands-are, events-are, same-sets}
+use Rattle.encoder.specs.Planned.{brandsAt, outsideItems, Encodable, Leaves}
+use Rattle.encoder.proofs.GivenLaws.{prft-is, brands-are, events-are, same-sets, leaves-is}
 
 -- what stands outside of the `moof` is left to be written; then all of it but the times, and so on
 module _ (F : List Row) (t : Track) (delta : Bool) (s c : List ℕ) (k : Chunk) (bmdt : ℕ) (ws l : List ℕ) (at : ℕ)
@@ -66,14 +66,14 @@ module _ (F : List Row) (t : Track) (delta : Bool) (s c : List ℕ) (k : Chunk) 
         pub before-events : {m₄ : List ℕ} {q₄ : ℕ} → Wrote m₃ q₃ (bytesOf F (flagsItems F delta s (k .prft))) m₄ q₄ → OutsideLeft afterFlags m₄ q₄
         before-events w₄ = left-next _ _ _ _ _ _ _ _ before-flags _ _ w₄
 
-module _ {F : List Row} {t : Track} {s c : List ℕ} {k : Chunk} {ws x : List ℕ} (h : Encodable F t s c k ws x) (delta : Bool) {b : Basis}
-    (e : b ≡ basisOf t delta (lent s) x) where
+module _ {F : List Row} {t : Track} {s c : List ℕ} {k : Chunk} {ws x : List ℕ} (h : Encodable F t s c k ws x) (delta : Bool) {follow : Bool} (y : Leaves t delta s x follow)
+    {b : Basis} (e : b ≡ basisOf t delta follow (lent s) x) where
   -- the parts, by what was read
   abbrev setRead : Items
-  setRead = fieldItems F t (b .delta) (lent s) x
+  setRead = fieldItems F t (b .delta) (b .follow) (lent s) x
 
   abbrev goneRead : Items
-  goneRead = deletionItems F t (b .delta) (lent s) x
+  goneRead = deletionItems F t (b .delta) (b .follow) (lent s) x
 
   abbrev timesRead : Items
   timesRead = timesItems F delta s (k .prft)
@@ -99,7 +99,7 @@ module _ {F : List Row} {t : Track} {s c : List ℕ} {k : Chunk} {ws x : List �
   -- the block is one part after another
   block-is : blockItems F s c delta ≡ setRead before timesRead before versionRead before brandsRead before flagsRead before eventsRead before goneRead
   unfolding blockItems
-  block-is = rw (same-sets h (fieldItems F) e, same-sets h (deletionItems F) e, prft-is h, brands-are h, events-is) refl
+  block-is = rw (same-sets h (fieldItems F) e, same-sets h (deletionItems F) e, leaves-is h y, prft-is h, brands-are h, events-is) refl
 
   -- all were weighed
   pub block-weighed : {p q r n f a g : Weight} → WeighedAs F setRead setMost p → WeighedAs F timesRead (pairMost + pairMost) q

@@ -126,7 +126,7 @@ module _ (F : List Row) (eight : longest F ≤ 8) where
 
   -- ---- a field
 
-  module _ (t : Track) (delta : Bool) (r x : List ℕ) where
+  module _ (t : Track) (delta follow : Bool) (r x : List ℕ) where
     news-length : (l : Line) → length (news t delta r x l) ≤ wanted (l .want) (measureOf t x)
     news-length l =
         omega (
@@ -146,9 +146,9 @@ module _ (F : List Row) (eight : longest F ≤ 8) where
         (wider (8 * l .room) (numberItem (l .id) coded) (number-most (l .id) coded))
         (run-most (codingOf (codingFor delta) (l .absent)) (l .room) (l .id) (absentValue t (l .absent)) (olds t delta r x l) (news t delta r x l) n)
 
-    line-most : (l : Line) → wanted (l .want) (measureOf t x) ≤ l .room → Most F (pairMost + 8 * l .room) (lineItems t delta r x l F)
+    line-most : (l : Line) → wanted (l .want) (measureOf t x) ≤ l .room → Most F (pairMost + 8 * l .room) (lineItems t delta follow r x l F)
     unfolding lineItems encBlock
-    line-most l h = go (changeOf t delta r x l)
+    line-most l h = go (changeOf t delta follow r x l)
       where
         go : (ch : Change) → Most F (pairMost + 8 * l .room) (onChange ch (sentItems t delta r x l F) nothing)
         go Omitted = zero-le
@@ -166,19 +166,19 @@ module _ (F : List Row) (eight : longest F ≤ 8) where
     mostOf [] = 0
     mostOf (l ∷ ls) = pairMost + 8 * l .room + mostOf ls
 
-    lines-most : (ls : List Line) → Roomy ls → Most F (mostOf ls) (linesItems F t delta r x ls)
+    lines-most : (ls : List Line) → Roomy ls → Most F (mostOf ls) (linesItems F t delta follow r x ls)
     unfolding linesItems encBlock
     lines-most [] h = zero-le
     lines-most (l ∷ ls) h =
-        before-most (pairMost + 8 * l .room) (mostOf ls) (lineItems t delta r x l F) (linesItems F t delta r x ls) (line-most l (h .0)) (lines-most ls (h .1))
+        before-most (pairMost + 8 * l .room) (mostOf ls) (lineItems t delta follow r x l F) (linesItems F t delta follow r x ls) (line-most l (h .0)) (lines-most ls (h .1))
 
-    gone-length : (ls : List Line) → length (goneOf t delta r x ls) ≤ length ls
+    gone-length : (ls : List Line) → length (goneOf t delta follow r x ls) ≤ length ls
     unfolding goneOf
     gone-length [] = zero-le
-    gone-length (l ∷ ls) = go (isDeleted (changeOf t delta r x l)) (gone-length ls)
+    gone-length (l ∷ ls) = go (isDeleted (changeOf t delta follow r x l)) (gone-length ls)
       where
-        go : (b : Bool) → length (goneOf t delta r x ls) ≤ length ls
-            → length (cond b (l .id ∷ goneOf t delta r x ls) (goneOf t delta r x ls)) ≤ suc (length ls)
+        go : (b : Bool) → length (goneOf t delta follow r x ls) ≤ length ls
+            → length (cond b (l .id ∷ goneOf t delta follow r x ls) (goneOf t delta follow r x ls)) ≤ suc (length ls)
         go true h = omega arith
         go false h = omega arith
 
@@ -212,7 +212,7 @@ module _ (F : List Row) (eight : longest F ≤ 8) where
       unfolding lines wanted
       high = let k = sums in (omega (arith, k), tt)
 
-      pub fields-most : Most F fieldsMost (fieldItems F t delta r x)
+      pub fields-most : Most F fieldsMost (fieldItems F t delta follow r x)
       unfolding fieldItems bmdtIf bmdtItems countItems lines
       fields-most =
           before-most lowMost afterLow _ _ (lines-most (slice 0 beforeBmdt lines) low)
@@ -220,9 +220,9 @@ module _ (F : List Row) (eight : longest F ≤ 8) where
           (before-most middleMost afterMiddle _ _ (lines-most (slice beforeBmdt beforeCount lines) middle)
           (before-most pairMost lineMost _ _ (if-most pairMost _ _ (number-most 14 _)) (lines-most (slice beforeCount chunkLines lines) high))))
 
-    pub deletions-most : Most F goneMost (deletionItems F t delta r x)
+    pub deletions-most : Most F goneMost (deletionItems F t delta follow r x)
     unfolding deletionItems lines
-    deletions-most = if-most goneMost _ _ (run-most Plain lineCount 27 0 [] (goneOf t delta r x lines) (gone-length lines))
+    deletions-most = if-most goneMost _ _ (run-most Plain lineCount 27 0 [] (goneOf t delta follow r x lines) (gone-length lines))
 
   -- ---- the `prft`
 

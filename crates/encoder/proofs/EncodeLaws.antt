@@ -22,13 +22,15 @@ use Rattle.slots.specs.Share.{askedOf, trackOf, lawful}
 use Rattle.slots.proofs.CallLaws.{shut, ajar}
 use Rattle.reference.proofs.OpenLaws.{opened-facts}
 use Rattle.cmaf_read_chunk.specs.declared.read.Chunk.{Chunk}
-use Rattle.cmaf_read_chunk.specs.Accepted.{bmdt, acceptRungs}
+use Rattle.cmaf_read_chunk.specs.Accepted.{bmdt, payload, fields, acceptRungs}
 use Rattle.cmaf_read_chunk.specs.Chunks.{ReadAs, Accepted}
 use Rattle.cmaf_read_chunk.proofs.LawfulSet.{chunk-lawful}
 use Rattle.encoder.specs.Object.{fitsOk}
 use Rattle.encoder.specs.Encode.{refusing, lastRungs, chunkRungs, encodeRungs, done, encoding, onOpen, onAccepted}
 use Rattle.encoder.specs.Planned.{BrandBytes, OnShare, Encodable}
-use Rattle.cmaf_read_chunk.proofs.ChunkFacts.{fields-long, fields-bmdt}
+use Rattle.cmaf_read_chunk.proofs.ChunkFacts.{fields-long, fields-bmdt, payload-length}
+use Rattle.cmaf_read_facts.proofs.Gives.{chunk-sizes}
+use Rattle.effective.proofs.SumLaws.{sizes-sized}
 use Rattle.encoder.proofs.ChunkLaws.{accept-numbered, brands-sized}
 
 -- ---- the track of a share
@@ -91,11 +93,14 @@ module _ (F : List Row) (wish : Bool) (c output s : List ℕ) where
             let a : Accepted F t c k ws x = r .taken z in
             let q = ap (λ (y : Chunk). y .brands .len) (a .chunk-is) in
             let m : bmdt c ≤ numberMost = subst (λ (n : ℕ). n ≤ numberMost) first-is h in
+            let y = chunk-sizes F t c b iv-fits holds in
+            let p : length (payload c) ≡ k .payload .len = payload-length c ∙ sym (ap (λ (v : Chunk). v .payload .len) (a .chunk-is)) in
             record {
               on-share = o;
               accepted = a;
               set-long = ap length (a .set-is) ∙ fields-long F t c holds iv-small;
               lawful-set = ap (lawfulSet t) (a .set-is) ∙ chunk-lawful F t c b iv-fits holds m;
+              sized = rw (a .set-is, ← p) (sizes-sized t (fields t c) (length (payload c)) (y .0) (y .1));
               brand-bytes = subst BrandBytes (sym q) (brands-sized F t c holds);
             }
 

@@ -66,8 +66,8 @@ module _ (F : List Row) (s c : List ℕ) (wish : Bool) where
     fits-is = rw small
 
     -- the plan for a delta
-    pub planned-delta : {d : Weight} → mayDelta s (prft c) wish ≡ true → WeighedAs F (blockItems F s c true) weightMost d → d .fits ≡ true
-        → PlannedAs F s c wish (record { fits = true; delta = true; block = d .bytes })
+    pub planned-delta : {d : Weight} {follow : Bool} → mayDelta s (prft c) wish ≡ true → WeighedAs F (blockItems F s c true) weightMost d → d .fits ≡ true
+        → PlannedAs F s c wish (record { fits = true; delta = true; follow = follow; block = d .bytes })
     planned-delta m w f =
         let e : isSome (blockItems F s c true) ≡ true = sym (w .fits) ∙ f in
         let g : givesDelta F s c wish ≡ true = gives m e in
@@ -80,8 +80,8 @@ module _ (F : List Row) (s c : List ℕ) (wish : Bool) where
         }
 
     -- and for a full object
-    pub planned-full : {d : Weight} → givesDelta F s c wish ≡ false → WeighedAs F (blockItems F s c false) weightMost d
-        → PlannedAs F s c wish (record { fits = d .fits; delta = false; block = d .bytes })
+    pub planned-full : {d : Weight} {follow : Bool} → givesDelta F s c wish ≡ false → WeighedAs F (blockItems F s c false) weightMost d
+        → PlannedAs F s c wish (record { fits = d .fits; delta = false; follow = follow; block = d .bytes })
     planned-full g w =
         record {
           answered = w .fits ∙ sym (fits-is ∙ ap (λ (b : Bool). b || isSome (blockItems F s c false)) g);
@@ -90,6 +90,11 @@ module _ (F : List Row) (s c : List ℕ) (wish : Bool) where
           block = λ z. w .bytes (sym (w .fits) ∙ z);
           small = omega (arith, w .small);
         }
+
+-- a delta may be tried only where one is wished for
+pub may-wished : (s : List ℕ) (p : Prft) (wish : Bool) → mayDelta s p wish ≡ true → wish ≡ true
+unfolding mayDelta
+may-wished s p wish e = and-left wish _ e
 
 -- the test by what was read of a chunk is the one by the chunk
 pub may-so : {F : List Row} {t : Track} {s c : List ℕ} {k : Chunk} {ws x : List ℕ} {b : Bool} (wish : Bool) → Encodable F t s c k ws x

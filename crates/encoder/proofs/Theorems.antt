@@ -35,8 +35,10 @@ use Rattle.reference.proofs.AcceptedLaws.{accepted-long, accepted-lawful}
 use Rattle.cmaf_read_chunk.specs.Accepted.{top, bmdt, prft, brands, events, payload, fields, lateRungs, acceptRungs}
 use Rattle.cmaf_read_chunk.proofs.TakenLaws.{payload-behind}
 use Rattle.cmaf_read_chunk.proofs.LawfulSet.{chunk-lawful}
-use Rattle.cmaf_read_facts.proofs.Gives.{chunk-agrees}
-use Rattle.encoder.specs.Object.{blockItems, mayDelta, givesDelta, fitsOk, front}
+use Rattle.cmaf_read_facts.proofs.Gives.{chunk-agrees, chunk-sizes}
+use Rattle.counters.specs.Protected.{lastProtected, lastFits}
+use Rattle.counters.proofs.LastLaws.{last-kept}
+use Rattle.encoder.specs.Object.{blockItems, leavesOut, mayDelta, givesDelta, fitsOk, front}
 use Rattle.encoder.specs.Encode.{refusing, lastRungs, chunkRungs, encodeRungs, kept, done, encoding}
 use Rattle.encoder.specs.Laws.{EncodeExactly, EncodeStaysLawful, Refused, EncodeRefuses, EncodePast, BlockFits, EncodeOnly, EncodeMakes}
 use Rattle.cmaf_read_chunk.proofs.ChunkFacts.{brands-few, list-few, fields-long}
@@ -144,7 +146,7 @@ module _ (F : List Row) (wish : Bool) (c output s : List ℕ) (l : length s ≡ 
 
   done-long : length (kept F wish c output s) ≡ shareLen
   unfolding kept
-  done-long = accepted-long s l (givesDelta F s c wish) (getD s acceptedAt 0) (prft c) (fields (trackOf s) c) set-long
+  done-long = accepted-long s l (givesDelta F s c wish) (getD s acceptedAt 0) (prft c) (fields (trackOf s) c) (length (payload c)) set-long
 
   -- the set that is kept, and the `prft` of a full object
   pub set-kept : allLe 255 c ≡ true → setOk (trackOf s) (fields (trackOf s) c) ≡ true
@@ -154,6 +156,13 @@ module _ (F : List Row) (wish : Bool) (c output s : List ℕ) (l : length s ≡ 
       let small = bmdt-small F s c wish (h .fits) in
       both _ _ (chunk-lawful F (trackOf s) c b iv (h .accepted) small) (chunk-agrees F (trackOf s) c b iv (h .accepted) small)
 
+  -- and its last sample's protected bytes can be kept
+  pub last-fits : allLe 255 c ≡ true → lastFits (trackOf s) (fields (trackOf s) c) (lastProtected (trackOf s) (fields (trackOf s) c) (length (payload c))) ≡ true
+  last-fits b =
+      let iv = iv-right s (opened .track) in
+      let z = chunk-sizes F (trackOf s) c b iv (h .accepted) in
+      last-kept (trackOf s) (fields (trackOf s) c) set-long (chunk-lawful F (trackOf s) c b iv (h .accepted) (bmdt-small F s c wish (h .fits))) (length (payload c)) (z .1) (z .0)
+
   pub prft-kept : limit F ≤ 2 ^ 62 → allLe 255 c ≡ true → givesDelta F s c wish ≡ false → InRange (prft c)
   prft-kept m b d =
       prft-ranged F (trackOf s) c (h .accepted) b
@@ -162,8 +171,8 @@ module _ (F : List Row) (wish : Bool) (c output s : List ℕ) (l : length s ≡ 
   done-lawful : limit F ≤ 2 ^ 62 → allLe 255 c ≡ true → lawful Encoder (kept F wish c output s) ≡ true
   unfolding kept
   done-lawful m b =
-      accepted-lawful s l (givesDelta F s c wish) (getD s acceptedAt 0) (prft c) (fields (trackOf s) c) Encoder (h .opened) opened (opened .accepted)
-      (λ d. held-facts (trackOf s) s (opened .reference) (delta-held F s c wish d) .0) (prft-kept m b) (set-kept b)
+      accepted-lawful s l (givesDelta F s c wish) (getD s acceptedAt 0) (prft c) (fields (trackOf s) c) (length (payload c)) Encoder (h .opened) opened (opened .accepted)
+      (λ d. held-facts (trackOf s) s (opened .reference) (delta-held F s c wish d) .0) (prft-kept m b) (last-fits b) (set-kept b)
 
 -- a share's length stays, whatever the chunk's bytes are
 pub encode-keeps : (F : List Row) (wish : Bool) (c output : List ℕ) → Keeps (encoding F wish c output)
@@ -270,14 +279,14 @@ block-most F wish c output s w b l h delta =
     let t = trackOf s in
     let x = fields t c in
     before-most F w fieldsMost afterFields _ _
-    (fields-most F w t delta (drop setAt s) x
+    (fields-most F w t delta (leavesOut F s c delta) (drop setAt s) x
     (chunk-lawful F t c b (iv-right s (o .track)) (h .accepted) (bmdt-small F s c wish (h .fits))) (ranges (askedOf s) (o .track) .iv-size))
     (before-most F w (pairMost + pairMost) afterTimes _ _ (times-most F w delta s (prft c))
     (before-most F w pairMost afterVersion _ _ (version-most F w delta s (prft c))
     (before-most F w brandsBytes afterBrands _ _ (brands-most F w (brandBytesMost + 4) delta (brands c) (omega (arith, brands-few F t c (h .accepted) .0)))
     (before-most F w pairMost afterFlags _ _ (flags-most F w delta s (prft c))
     (before-most F w eventsBytes goneMost _ _ (events-most F w eventBytesMost (events t c) (list-few F t c (h .accepted)))
-    (deletions-most F w t delta (drop setAt s) x))))))
+    (deletions-most F w t delta (leavesOut F s c delta) (drop setAt s) x))))))
 
 pub block-fits : BlockFits
 block-fits form wish c output s b l e =

@@ -24,22 +24,22 @@ use Rattle.cmaf_read_chunk.proofs.NoIvSize.{no-iv-size}
 use Rattle.encoder.specs.Laws.{CaseTakenOut}
 
 -- ---- a set without an id 16
-module _ (t : Track) (delta : Bool) (r x : List ℕ) (no : has 16 x ≡ false) where
+module _ (t : Track) (delta follow : Bool) (r x : List ℕ) (no : has 16 x ≡ false) where
   -- its mark
   unmarked : eqb (getD x (lineFor 16 lines .place) 0) 0 ≡ true
   unfolding has
   unmarked = not-false _ no
 
-  adds-nothing : (F : List Row) → fieldItems F t delta r x before lineItems t delta r x (lineFor 16 lines) F ≡ fieldItems F t delta r x
+  adds-nothing : (F : List Row) → fieldItems F t delta follow r x before lineItems t delta follow r x (lineFor 16 lines) F ≡ fieldItems F t delta follow r x
   adds-nothing F =
-      ap (λ (is : Items). fieldItems F t delta r x before is) (sym (line-absent F t delta r x (lineFor 16 lines) (eqb-true _ _ unmarked)))
-      ∙ before-nothing (fieldItems F t delta r x)
+      ap (λ (is : Items). fieldItems F t delta follow r x before is) (sym (line-absent F t delta follow r x (lineFor 16 lines) (eqb-true _ _ unmarked)))
+      ∙ before-nothing (fieldItems F t delta follow r x)
 
-  is-listed : among 16 (goneOf t delta r x lines) ≡ (delta && has 16 r)
+  is-listed : among 16 (goneOf t delta follow r x lines) ≡ (delta && has 16 r)
   unfolding has lines lineFor
-  is-listed = gone-is t delta r x 13 (omega arith) ∙ sym (deleted-by t delta r x (lineFor 16 lines)) ∙ rw (unmarked, and-true) refl
+  is-listed = gone-is t delta follow r x 13 (omega arith) ∙ sym (deleted-by t delta follow r x (lineFor 16 lines)) ∙ rw (unmarked, and-true) refl
 
 pub case-taken-out : CaseTakenOut
 case-taken-out F t c iv h =
     let no : has 16 (fields t c) ≡ false = no-iv-size .absent F t c iv h in
-    record { same = λ delta r. adds-nothing t delta r (fields t c) no F; deleted = λ delta r. is-listed t delta r (fields t c) no }
+    record { same = λ delta follow r. adds-nothing t delta follow r (fields t c) no F; deleted = λ delta follow r. is-listed t delta follow r (fields t c) no }

@@ -6,6 +6,7 @@ use mathlib.Core.Bool.{Bool, true, false, not}
 use mathlib.Core.List.{List}
 use borrow.Author.Tests.{le-leb, lt-leb, not-false}
 use lib.ListN.{length, getD}
+use lib.Seq.{length-slice}
 use Rattle.laws.proofs.GateLaws.{failed, held}
 use Rattle.laws.proofs.LadderLaws.{broken, passed, top}
 use Rattle.laws.proofs.WriteLaws.{wrote-front, wrote-as}
@@ -48,6 +49,11 @@ module _ (form : Form) (t : Track) (s c : List ℕ) (k : Chunk) (ws x : List ℕ
   unfolding payload
   part-bytes = ap (bytesAt c) (sym part-is)
 
+  part-length : k .payload .len ≡ length (payload c)
+  part-length =
+      let n = length-slice (k .payload .at) (endOf (k .payload)) c part-in in
+      omega (arith, n, ap length part-bytes)
+
   -- ---- the returns
 
   module _ (wish : Bool) (output : List ℕ) (a : Plan) (p : PlannedAs F s c wish a) where
@@ -81,7 +87,7 @@ module _ (form : Form) (t : Track) (s c : List ℕ) (k : Chunk) (ws x : List ℕ
           let d : a .delta ≡ givesDelta F s c wish = p .kind fit in
           let r : k .prft ≡ prft c = ap (λ (z : Chunk). z .prft) (e .accepted .chunk-is) in
           let v : x ≡ fields (trackOf s) c = e .accepted .set-is ∙ ap (λ (u : Track). fields u c) (e .on-share .track-is) in
-          let y : words ≡ kept F wish c output s = g .kept ∙ (λ i. keptWords (d i) (getD s acceptedAt 0) (r i) (v i) s) in
+          let y : words ≡ kept F wish c output s = g .kept ∙ (λ i. keptWords (d i) (getD s acceptedAt 0) (r i) (v i) (part-length i) s) in
           record {
             so =
                 ap (λ (z : Answer). answered c z after words) (g .answer)

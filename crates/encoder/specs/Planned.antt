@@ -12,6 +12,7 @@ use Rattle.laws.specs.Options.{isSome}
 use Rattle.laws.specs.Writes.{Wrote}
 use Rattle.field_table.specs.Lines.{setLen}
 use Rattle.field_set.specs.Lawful.{lawful}
+use Rattle.effective.specs.Sizes.{Sized}
 use Rattle.slots.specs.declared.lawful.Side.the-variants.{Encoder}
 use Rattle.share_words.specs.Share.{shareLen, acceptedAt, heldAt, lastAt, setAt}
 use Rattle.counters.specs.Follow.{ivsFollow}
@@ -61,12 +62,13 @@ pub record OnShare (F : List Row) (t : Track) (s c : List ℕ) : Type 0 where
   pub opened : isOpen s ≡ true
   pub track-is : t ≡ track F s c
 
--- it was accepted, and its set is whole and lawful
+-- it was accepted, and its set is whole and lawful, with sizes that the payload has
 pub record Encodable (F : List Row) (t : Track) (s c : List ℕ) (k : Chunk) (ws x : List ℕ) : Type 0 where
   pub on-share : OnShare F t s c
   pub accepted : Accepted F t c k ws x
   pub set-long : length x ≡ setLen
   pub lawful-set : lawful t x ≡ true
+  pub sized : Sized x (k .payload .len)
   pub brand-bytes : BrandBytes (k .brands .len)
 
 -- what was read is that of some chunk; whatever is said of it holds of each that it was read from

@@ -2,7 +2,7 @@
 use Prim.Native.Nat.{ℕ, _-_, _^_, _≤_}
 use native.Mathlib.Omega.{arith}
 use mathlib.Core.Path.{_≡_, refl, sym, _∙_, ap}
-use mathlib.Core.Bool.{Bool, true, false}
+use mathlib.Core.Bool.{Bool, true, false, false≢true}
 use mathlib.Core.List.{List}
 use borrow.Author.Tests.{not-true}
 use lib.Dec.{eqb}
@@ -12,8 +12,9 @@ use Rattle.laws.specs.Tests.{_and_, allZero}
 use Rattle.laws.proofs.TestLaws.{left, right, le-at, zeros-le, allZero-append}
 use Rattle.track.specs.declared.Track.{Track}
 use Rattle.track.specs.Track.{lawful as lawfulTrack}
-use Rattle.field_table.specs.Lines.{setLen}
-use Rattle.field_set.specs.Lawful.{Tidy, lawful as lawfulSet}
+use Rattle.field_table.specs.Lines.{lines, lineFor, setLen}
+use Rattle.field_set.specs.Lawful.{has, Tidy, lawful as lawfulSet}
+use Rattle.field_set.proofs.ValueLaws.{has-no}
 use Rattle.field_set.proofs.TidyLaws.{lawful-tidy, zeros-tidy}
 use Rattle.effective.specs.Expected.{nextTime, expectedBy}
 use Rattle.effective.proofs.ExpectedLaws.{kept-sum, same-is, zeros-next}
@@ -109,3 +110,18 @@ last-there side s l h o = go (eqb (getD s heldAt 0) 0) refl
     go false q =
         let ok : (eqb (getD s heldAt 0) 1 and prftOk s and expectedOk (trackOf s) s and lastOk (trackOf s) s and setOk (trackOf s) (drop setAt s)) ≡ true = rw q at r in
         last-small (trackOf s) (drop setAt s) (reference-long s l) (held-facts (trackOf s) s r q .1) _ (left _ _ (right _ _ (right _ _ (right _ _ ok))))
+
+-- a set that has IVs is a lawful one: where no reference is held, no field stands
+pub lawful-there : (side : Side) (s : List ℕ) → length s ≡ shareLen → lawful side s ≡ true → isOpen s ≡ true → has 9 (drop setAt s) ≡ true
+    → lawfulSet (trackOf s) (drop setAt s) ≡ true
+unfolding referenceOk
+lawful-there side s l h o e = go (eqb (getD s heldAt 0) 0) refl
+  where
+    r : referenceOk (trackOf s) s ≡ true
+    r = opened-facts side s h o .reference
+
+    go : (b : Bool) → eqb (getD s heldAt 0) 0 ≡ b → lawfulSet (trackOf s) (drop setAt s) ≡ true
+    go true q =
+        let z : allZero (drop setAt s) ≡ true = set-zero s (rw q at r) in
+        absurd (false≢true (sym (has-no 9 (drop setAt s) (omega (arith, le-at 0 (drop setAt s) (lineFor 9 lines .place) (zeros-le 0 _ z)))) ∙ e))
+    go false q = held-facts (trackOf s) s r q .1

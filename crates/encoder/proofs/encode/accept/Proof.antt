@@ -63,7 +63,7 @@ write-requires c κs =
     let q = p .choose .ensures .0 _ (b .pre) in
     let i = f .before .if1 .left in
     let l = room (a .form) _ _ _ _ _ _ (b .pre) (a .wish) (now (a .output)) _ q i _ (f .front-length .ensures) _ (c .before .before .before .if2 .left) in
-    (b .pre, (planned-sendable (a .form) q (not-false _ i), (p .choose .ensures .1, l)))
+    (b .pre, (planned-sendable (a .form) q (not-false _ i), (p .choose .ensures .1 .0, (p .choose .ensures .1 .1, l))))
 
 same-length-3 : tie.Need-same-length-3
 same-length-3 c = search needs

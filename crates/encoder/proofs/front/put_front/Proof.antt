@@ -17,7 +17,7 @@ begun c =
     let b = c .before .before .before .before .before .before .before .before in
     let a = b .args in
     parts-all (a .out .now) 0 (frontParts (rows (a .form)) (a .s .now) (a .c .now) (a .a) (c .header-of .result))
-    (front-parts (b .pre .1 .0) (c .header-of .result) (c .header-of .ensures)) (omega (arith, b .pre .1 .1 .1))
+    (front-parts (b .pre .1 .0) (c .header-of .result) (c .header-of .ensures)) (omega (arith, b .pre .1 .1 .1 .1))
 
 header-of-requires : tie.Need-header-of-requires
 header-of-requires c κs = search needs
@@ -34,7 +34,7 @@ put-block-requires c κs =
     let b₂ = b₁ .before .before .before .before in
     let b = b₂ .before .before .before .before .before .before .before .before .before in
     let p = b .pre .1 .0 in
-    (b .pre .0, (p .held, (b .pre .1 .1 .0, (p .all-fit, parts-room (parts-then (parts-then (begun (b₂ .before)) (b₂ .put .ensures)) (b₁ .put2 .ensures))))))
+    (b .pre .0, ((p .held, b .pre .1 .1 .0), (b .pre .1 .1 .1 .0, (p .all-fit, parts-room (parts-then (parts-then (begun (b₂ .before)) (b₂ .put .ensures)) (b₁ .put2 .ensures))))))
 
 same-length : tie.Need-same-length
 same-length c = search needs

@@ -32,7 +32,7 @@ expected-of-requires c κs = c .before .before .before .before .before .before .
 set-size-requires : tie.Need-set-size-requires
 set-size-requires c κs =
     let b = c .before .before .before .before .before .before .before .before .before in
-    ((basis-own (writable (b .pre .0 .1) _ (b .pre .1 .0)) (c .before .before .basis-of .ensures), expected-is (b .pre .0 .1) (c .before .expected-of .ensures)), b .pre .1 .1)
+    ((basis-own (writable (b .pre .0 .1) _ (b .pre .1 .0)) (c .before .before .basis-of .ensures), expected-is (b .pre .0 .1) (c .before .expected-of .ensures)), b .pre .1 .1 .1)
 
 times-size-requires : tie.Need-times-size-requires
 times-size-requires c κs = c .before .before .before .before .before .before .before .before .before .before .before .before .pre .0 .1 .on-share .share
@@ -128,17 +128,18 @@ returns c =
     let g = c .before .before .before .before .before .before in
     let e = g .before in
     let f = e .before .before .before .before .before .before .before .before in
-    let b = f .before .before .before .basis-of .ensures in (
+    let b = f .before .before .before .basis-of .ensures in
+    let y = c .before .before .before .before .before .before .before .before .before .before .before .before .before .before .before .before .before .before .before .before .before .before .before .before .before .pre .1 .1 .0 in (
       λ o h.
-          block-weighed h _ b (f .set-size .ensures .0) (e .before .before .before .before .before .times-size .ensures) (e .before .before .before .before .version-size .ensures)
+          block-weighed h _ y b (f .set-size .ensures .0) (e .before .before .before .before .before .times-size .ensures) (e .before .before .before .before .version-size .ensures)
           (e .before .before .before .brands-size .ensures _ (names-length o _ (h .brand-bytes) (brands-inside h))) (e .before .before .flags-size .ensures)
           (e .events-size .ensures o (recorded h)) (g .deletions-size .ensures _) _ _ _ _ _ _ (c .before .before .before .before .before .both .ensures) (c .before .before .before .before .both2 .ensures)
           (c .before .before .before .both3 .ensures) (c .before .before .both4 .ensures) (c .before .both5 .ensures) (c .both6 .ensures),
-      kept-share (c .before .before .before .before .before .before .before .before .before .before .before .before .before .before .before .before .before .before .before .before .before .before .before .before .before .args .s .now) b (keep-gone _ _ _ _ _ (f .set-size .ensures .1) (g .deletions-size .ensures _)),
+      kept-share (c .before .before .before .before .before .before .before .before .before .before .before .before .before .before .before .before .before .before .before .before .before .before .before .before .before .args .s .now) b (keep-gone _ _ _ _ _ _ (f .set-size .ensures .1) (g .deletions-size .ensures _)),
     )
 
 same-length : tie.Need-same-length
-same-length c = returns c .1 .fields .lines .long ∙ sym (c .before .before .before .before .before .before .before .before .before .before .before .before .before .before .before .before .before .before .before .before .before .before .before .before .before .pre .1 .1)
+same-length c = returns c .1 .fields .lines .long ∙ sym (c .before .before .before .before .before .before .before .before .before .before .before .before .before .before .before .before .before .before .before .before .before .before .before .before .before .pre .1 .1 .1)
 
 pub block-size-spec : {M : Type 1} → statement M
 block-size-spec =

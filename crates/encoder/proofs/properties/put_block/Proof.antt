@@ -19,7 +19,7 @@ shared-slice-read-t21 : tie.Need-shared-slice-read-t21
 shared-slice-read-t21 c = let z = c .before .before .before .before .before .before .before .before .pre .0 .set-long in search needs
 
 basis-of-requires : tie.Need-basis-of-requires
-basis-of-requires c κs = let b = c .before .before .before .before .before .before .before .before in writable (b .pre .0) _ (b .pre .1 .0)
+basis-of-requires c κs = let b = c .before .before .before .before .before .before .before .before in writable (b .pre .0) _ (b .pre .1 .0 .0)
 
 expected-of-requires : tie.Need-expected-of-requires
 expected-of-requires c κs = c .before .before .before .before .before .before .before .before .before .pre .0 .on-share .share
@@ -28,9 +28,9 @@ put-set-requires : tie.Need-put-set-requires
 put-set-requires c κs =
     let d = c .before .before in
     let b = d .before .before .before .before .before .before .before .before .before in
-    let h = before-set (b .pre .0) (b .args .delta) (d .basis-of .ensures) (b .args .out .now) _ (b .pre .1 .1 .1) in
+    let h = before-set (b .pre .0) (b .args .delta) (b .pre .1 .0 .1) (d .basis-of .ensures) (b .args .out .now) _ (b .pre .1 .1 .1) in
     let k = kept-lent (b .args .s .now) (d .basis-of .ensures) (b .pre .1 .1 .0) in
-    ((basis-own (writable (b .pre .0) _ (b .pre .1 .0)) (d .basis-of .ensures), expected-is (b .pre .0) (c .before .expected-of .ensures)), (k .fields, left-first _ _ _ _ _ _ _ _ h))
+    ((basis-own (writable (b .pre .0) _ (b .pre .1 .0 .0)) (d .basis-of .ensures), expected-is (b .pre .0) (c .before .expected-of .ensures)), (k .fields, left-first _ _ _ _ _ _ _ _ h))
 
 put-outside-requires : tie.Need-put-outside-requires
 put-outside-requires c κs =
@@ -38,7 +38,7 @@ put-outside-requires c κs =
     let d = b₁ .before .before .before in
     let b = d .before .before .before .before .before .before .before .before .before in
     let e = b .pre .0 in
-    let h = before-outside e (b .args .delta) (d .basis-of .ensures) (b .args .out .now) _ (b .pre .1 .1 .1) (b₁ .put-set .ensures) in
+    let h = before-outside e (b .args .delta) (b .pre .1 .0 .1) (d .basis-of .ensures) (b .args .out .now) _ (b .pre .1 .1 .1) (b₁ .put-set .ensures) in
     (e .on-share .share, ((e .brand-bytes, brands-inside e), (recorded e, left-first _ _ _ _ _ _ _ _ h)))
 
 shared-slice-read-put-deletions : tie.Need-shared-slice-read-put-deletions
@@ -50,9 +50,9 @@ put-deletions-requires c κs =
     let b₁ = b₂ .before .before .before .before in
     let d = b₁ .before .before .before in
     let b = d .before .before .before .before .before .before .before .before .before in
-    let h = before-gone (b .pre .0) (b .args .delta) (d .basis-of .ensures) (b .args .out .now) _ (b .pre .1 .1 .1)
+    let h = before-gone (b .pre .0) (b .args .delta) (b .pre .1 .0 .1) (d .basis-of .ensures) (b .args .out .now) _ (b .pre .1 .1 .1)
     (b₁ .put-set .ensures) (b₂ .put-outside .ensures) in
-    let w = writable (b .pre .0) _ (b .pre .1 .0) in
+    let w = writable (b .pre .0) _ (b .pre .1 .0 .0) in
     ((w .old-words, w .new-words), (b .args .t, h .fits, kept-lent (b .args .s .now) (d .basis-of .ensures) (b .pre .1 .1 .0) .gone (h .fits), h .room))
 
 same-length : tie.Need-same-length
@@ -65,7 +65,7 @@ returns c =
     let b₁ = b₂ .before .before .before .before in
     let d = b₁ .before .before .before in
     let b = d .before .before .before .before .before .before .before .before .before in
-    let h = before-gone (b .pre .0) (b .args .delta) (d .basis-of .ensures) (b .args .out .now) _ (b .pre .1 .1 .1)
+    let h = before-gone (b .pre .0) (b .args .delta) (b .pre .1 .0 .1) (d .basis-of .ensures) (b .args .out .now) _ (b .pre .1 .1 .1)
     (b₁ .put-set .ensures) (b₂ .put-outside .ensures) in
     h .rest _ _ (b₃ .put-deletions .ensures _)
 
