@@ -31,6 +31,8 @@ use Rattle.locmaf_read_times.specs.Bmdt.{bmdtOf}
 use Rattle.cmaf_read_chunk.specs.Accepted.{brands, fields}
 use Rattle.locmaf_write_block.specs.Fields.{bmdtStands, countStands, goneOf}
 use Rattle.reread.specs.Sayings.{lineSays, SetSaid}
+use Rattle.encoder.specs.Object.{leavesOut}
+use Rattle.cmaf_read_facts.specs.Given.{F}
 use Rattle.reread.specs.Block.{saidIf, blockSays}
 use Rattle.reread.proofs.Known.{Known}
 
@@ -58,6 +60,9 @@ module _ {s c : List ℕ} {delta : Bool} (k : Known s c delta) where
   abbrev x : List ℕ
   x = fields t c
 
+  abbrev follow : Bool
+  follow = leavesOut F s c delta
+
   abbrev f : Says
   f = blockSays s c delta
 
@@ -65,7 +70,7 @@ module _ {s c : List ℕ} {delta : Bool} (k : Known s c delta) where
   n = getD x countAt 0
 
   -- what is said of a field
-  pub line-said : (i : ℕ) → i < lineCount → f (getD lines i spare .id) ≡ lineSays t delta r x (getD lines i spare)
+  pub line-said : (i : ℕ) → i < lineCount → f (getD lines i spare .id) ≡ lineSays t delta follow r x (getD lines i spare)
   unfolding blockSays
   line-said i lt = rw (moof-line i lt, line-of-id i lt)
 
@@ -97,12 +102,12 @@ module _ {s c : List ℕ} {delta : Bool} (k : Known s c delta) where
       by true false q = back (codingFor true) (getD r countAt 0) n samplesMost few
 
   -- all that the set is read from; brands that stand have four bytes each
-  pub set-said : SetSaid t delta r x f
+  pub set-said : SetSaid t delta follow r x f
   unfolding blockSays moofField brandsFit
   set-said =
       record {
         line = line-said;
-        gone = said-some (goneOf t delta r x lines);
+        gone = said-some (goneOf t delta follow r x lines);
         count = count-back (lawful-facts t x (k .sets .new) .count);
         brands =
             said-by (λ (o : Option (List ℕ)). brandsFit o ≡ true) (not delta && not (eqb (length (brands c)) 0)) (brands c)

@@ -36,7 +36,7 @@ use Rattle.locmaf_write_tuples.specs.Items.{listOf}
 use Rattle.locmaf_write_block.specs.Changes.{changeOf, lineItems}
 use Rattle.locmaf_write_block.specs.Fields.{linesItems, bmdtIf, bmdtItems, countItems, fieldItems, deletionItems}
 use Rattle.locmaf_write_prft.specs.Prft.{timesItems, unlessItems, versionItems, flagsItems}
-use Rattle.encoder.specs.Object.{brandItems, eventItems, blockItems}
+use Rattle.encoder.specs.Object.{brandItems, eventItems, leavesOut, blockItems}
 use Rattle.cmaf_read_facts.specs.Given.{F}
 use Rattle.reread.specs.Telling.{Tell, Tells}
 use Rattle.reread.specs.Sayings.{numbersBy, sentNumbers, lineSays}
@@ -63,9 +63,9 @@ unfolding every lines lineReads numeric bytesAs odd known _and_
 all-read = refl
 
 -- nothing is said of a field that doesn't stand, deleted or not
-unsaid : (t : Track) (delta : Bool) (r x : List ℕ) (l : Line) → eqb (getD x (l .place) 0) 0 ≡ true → lineSays t delta r x l ≡ none
+unsaid : (t : Track) (delta follow : Bool) (r x : List ℕ) (l : Line) → eqb (getD x (l .place) 0) 0 ≡ true → lineSays t delta follow r x l ≡ none
 unfolding lineSays changeOf
-unsaid t delta r x l e = rw e (by (stood delta r l))
+unsaid t delta follow r x l e = rw e (by (stood delta r l))
   where
     by : (old : Bool) → numbersBy (cond old Deleted Omitted) (sentNumbers t delta r x l) ≡ none
     by true = refl
@@ -76,17 +76,17 @@ module _ {s c : List ℕ} {delta : Bool} (k : Known s c delta) where
   f = blockSays s c delta
 
   line : (i : ℕ) → ltb i lineCount ≡ true → let l = getD lines i spare in
-      Tells f (l .id) (suc (l .id)) (lineItems (trackOf s) delta (drop setAt s) (fields (trackOf s) c) l F)
+      Tells f (l .id) (suc (l .id)) (lineItems (trackOf s) delta (leavesOut F s c delta) (drop setAt s) (fields (trackOf s) c) l F)
   line i e =
       let lt : i < lineCount = ltb-true _ _ e in
-      line-tells _ _ _ _ (getD lines i spare) (every-at lineReads lines i spare all-read (omega (arith, line-count))) (line-said k i lt)
+      line-tells _ _ _ _ _ (getD lines i spare) (every-at lineReads lines i spare all-read (omega (arith, line-count))) (line-said k i lt)
 
   -- nothing is said of id 16, which no chunk has
   no-sixteen : f 16 ≡ none
   unfolding has lines lineFor
   no-sixteen =
       line-said k 13 (omega arith)
-      ∙ unsaid (trackOf s) delta (drop setAt s) (fields (trackOf s) c) (getD lines ivSizeLine spare) (not-false _ (k .given .set .no-iv-size))
+      ∙ unsaid (trackOf s) delta (leavesOut F s c delta) (drop setAt s) (fields (trackOf s) c) (getD lines ivSizeLine spare) (not-false _ (k .given .set .no-iv-size))
 
   -- nothing is said of an id past the last
   past : (id : ℕ) → idCount ≤ id → f id ≡ none
@@ -95,7 +95,7 @@ module _ {s c : List ℕ} {delta : Bool} (k : Known s c delta) where
 
   -- ---- the parts
 
-  fields-tell : Tells f 1 17 (fieldItems F (trackOf s) delta (drop setAt s) (fields (trackOf s) c))
+  fields-tell : Tells f 1 17 (fieldItems F (trackOf s) delta (leavesOut F s c delta) (drop setAt s) (fields (trackOf s) c))
   unfolding fieldItems linesItems lines bmdtIf bmdtItems countItems blockSays moofField numeric known wireOf _and_
   fields-tell =
       (line 0 refl then line 1 refl then line 2 refl then line 3 refl then line 4 refl

@@ -27,16 +27,16 @@ use Rattle.reread.specs.Sayings.{numbersBy, sentNumbers, lineSays, SetSa
 use Rattle.reread.proofs.BlockSaid.{moof-line}
 
 -- no deletion is refused, where each of them may be, those of `seen` being below them
-deletions-from : (t : Track) (delta : Bool) (r x : List ℕ) (says : Says) (lo : ℕ) (ls : List Line) → ascends lo ls ≡ true
-    → ((i : ℕ) → i < length ls → isDeleted (changeOf t delta r x (getD ls i spare)) ≡ true
+deletions-from : (t : Track) (delta follow : Bool) (r x : List ℕ) (says : Says) (lo : ℕ) (ls : List Line) → ascends lo ls ≡ true
+    → ((i : ℕ) → i < length ls → isDeleted (changeOf t delta follow r x (getD ls i spare)) ≡ true
     → (moofField (getD ls i spare .id) ≡ true) × (has (getD ls i spare .id) r ≡ true) × (isNone (says (getD ls i spare .id)) ≡ true))
-    → (seen : List ℕ) → ((d : ℕ) → lo ≤ d → among d seen ≡ false) → deletionsOk r says seen (goneOf t delta r x ls) ≡ true
+    → (seen : List ℕ) → ((d : ℕ) → lo ≤ d → among d seen ≡ false) → deletionsOk r says seen (goneOf t delta follow r x ls) ≡ true
 unfolding goneOf deletionsOk ascends among
-deletions-from t delta r x says lo [] a g seen u = refl
-deletions-from t delta r x says lo (l ∷ ls) a g seen u =
+deletions-from t delta follow r x says lo [] a g seen u = refl
+deletions-from t delta follow r x says lo (l ∷ ls) a g seen u =
     let low : lo ≤ l .id = leb-true _ _ (left _ _ a) in
-    let rest = deletions-from t delta r x says (suc (l .id)) ls (right _ _ a) (λ i lt. g (suc i) (omega arith)) in
-    cases (isDeleted (changeOf t delta r x l))
+    let rest = deletions-from t delta follow r x says (suc (l .id)) ls (right _ _ a) (λ i lt. g (suc i) (omega arith)) in
+    cases (isDeleted (changeOf t delta follow r x l))
     (λ e.
     let k = g 0 (omega arith) e in
     rw e
@@ -50,16 +50,16 @@ deleted-none Omitted zs e = absurd (false≢true e)
 deleted-none Deleted zs e = refl
 deleted-none Sent zs e = absurd (false≢true e)
 
-module _ {t : Track} {delta : Bool} {r x : List ℕ} {f : Says} (h : SetSaid t delta r x f) where
+module _ {t : Track} {delta follow : Bool} {r x : List ℕ} {f : Says} (h : SetSaid t delta follow r x f) where
   -- a field that is deleted may be
-  struck : (i : ℕ) → i < lineCount → isDeleted (changeOf t delta r x (getD lines i spare)) ≡ true
+  struck : (i : ℕ) → i < lineCount → isDeleted (changeOf t delta follow r x (getD lines i spare)) ≡ true
       → (moofField (getD lines i spare .id) ≡ true) × (has (getD lines i spare .id) r ≡ true) × (isNone (f (getD lines i spare .id)) ≡ true)
   unfolding has lineSays
   struck i lt e =
       let l : Line = getD lines i spare in
-      let was = and-left _ _ (and-right delta _ (deleted-by t delta r x l ∙ e)) in
-      (moof-line i lt, rw (line-of-id i lt) was, rw (h .line i lt) (deleted-none (changeOf t delta r x l) (sentNumbers t delta r x l) e))
+      let was = and-left _ _ (and-right delta _ (deleted-by t delta follow r x l ∙ e)) in
+      (moof-line i lt, rw (line-of-id i lt) was, rw (h .line i lt) (deleted-none (changeOf t delta follow r x l) (sentNumbers t delta r x l) e))
 
   pub deletions-hold : deletionsOk r f [] (numbers (f 27)) ≡ true
   unfolding among
-  deletions-hold = rw (h .gone) (deletions-from t delta r x f 0 lines lines-ascend (λ i lt e. struck i (omega (arith, line-count)) e) [] (λ d le. refl))
+  deletions-hold = rw (h .gone) (deletions-from t delta follow r x f 0 lines lines-ascend (λ i lt e. struck i (omega (arith, line-count)) e) [] (λ d le. refl))

@@ -1,15 +1,15 @@
--- A field that was written is read as the field of the new set, whichever it is, sent, deleted or omitted. Assumes nothing.
+-- A field that was written is read as the field of the new set, whichever it is, sent, deleted or omitted; of IVs that are left out there is room alone. Assumes nothing.
 use Prim.Native.Nat.{ℕ, _+_, _*_, _<_}
 use native.Mathlib.Nat.{add-sub-cancel-left}
 use native.Mathlib.Omega.{arith}
 use mathlib.Core.Path.{_≡_, refl, sym, _∙_, ap}
-use mathlib.Core.Bool.{Bool, true, false, false≢true, not, _&&_, _||_}
+use mathlib.Core.Bool.{Bool, true, false, false≢true, cond, not, _&&_, _||_}
 use mathlib.Core.List.{List, [], _∷_}
-use mathlib.Core.Option.{some}
+use mathlib.Core.Option.{none, some}
 use borrow.Author.Tests.{leb-true, eqb-true, eq-eqb, ne-eqb, not-true}
 use borrow.Table.Steps.{cases}
 use lib.Dec.{eqb}
-use lib.ListN.{length, getD}
+use lib.ListN.{length, getD, replicate}
 use lib.Seq.{length-slice}
 use Rattle.laws.specs.Tests.{_and_, allLe, same}
 use Rattle.laws.proofs.TestLaws.{left, both-of, same-is}
@@ -27,12 +27,12 @@ use Rattle.field_table.proofs.LineLaws.{line-count, every-at}
 use Rattle.field_set.proofs.LawfulLaws.{lawful-region}
 use Rattle.field_set.proofs.RegionLaws.{used}
 use Rattle.field_rules.proofs.SetWords.{fieldIn}
-use Rattle.locmaf_read_said.specs.Said.{Saying, omitted, sent}
+use Rattle.locmaf_read_said.specs.Said.{Saying, omitted, deleted, sent}
 use Rattle.locmaf_read_field.specs.Cells.{Came, well, carried, sentOne, sentList, cellOf}
-use Rattle.field_rules.specs.Fields.{codingFor, codingOf, isIvs, packed, stood, oldValues}
+use Rattle.field_rules.specs.Fields.{Held, codingFor, codingOf, isIvs, packed, stood, oldValues}
 use Rattle.field_rules.specs.Words.{wasOf}
 use Rattle.locmaf_write_tuples.specs.Items.{wideBytes}
-use Rattle.locmaf_write_block.specs.Changes.{basisOf, stands, news, olds, changeOf, Writable}
+use Rattle.locmaf_write_block.specs.Changes.{basisOf, stands, news, olds, omits, changeOf, Writable}
 use Rattle.locmaf_write_block.proofs.FieldLaws.{Field, field-of}
 use Rattle.locmaf_write_block.proofs.WideLaws.{wide-length, packed-back}
 use Rattle.reread.specs.Sayings.{sentNumbers, lineSays, lineSaying}
@@ -51,12 +51,17 @@ all-wide : every ivsWide lines ≡ true
 unfolding every lines ivsWide _and_
 all-wide = refl
 
-module _ {t : Track} {delta : Bool} {r x : List ℕ} (w : Writable t delta r x) (i : ℕ) (lt : i < lineCount) where
+-- a field as the object tells it: zeros keep the room of IVs that are left out
+abbrev pub toldField : Track → Bool → Bool → List ℕ → List ℕ → Line → Held
+toldField t delta follow r x l =
+    cond (stands t delta r x l && (isIvs (l .want) && omits t delta follow r x l)) (some (replicate (wanted (l .want) (measureOf t x)) 0)) (fieldIn t x l)
+
+module _ {t : Track} {delta follow : Bool} {r x : List ℕ} (w : Writable t delta r x) (i : ℕ) (lt : i < lineCount) where
   abbrev l : Line
   l = getD lines i spare
 
-  f : Field t (basisOf t delta r x) r x l
-  f = field-of t (basisOf t delta r x) r x i l (w, refl) (lt, refl)
+  f : Field t (basisOf t delta follow r x) r x l
+  f = field-of t (basisOf t delta follow r x) r x i l (w, refl) (lt, refl)
 
   -- the values, as many as there were and are to be
   abbrev old : List ℕ
@@ -103,14 +108,18 @@ module _ {t : Track} {delta : Bool} {r x : List ℕ} (w : Writable t delta r x) 
   wide-bound e = eqb-true _ _ (rw e at (every-at ivsWide lines i spare all-wide (omega (arith, line-count))))
 
   -- a field that is omitted is what it was
-  kept-back : (stood delta r l && (not (isIvs (l .want)) && same old new)) ≡ true → cell omitted ≡ well (some new)
+  kept-back : isIvs (l .want) ≡ false → omits t delta follow r x l ≡ true → cell omitted ≡ well (some new)
   unfolding cellOf carried
-  kept-back e =
-      let (s, more) = both-of (stood delta r l) (not (isIvs (l .want)) && same old new) e in
-      let (v, is) = both-of (not (isIvs (l .want))) (same old new) more in
-      let q : old ≡ new = same-is _ _ is in
+  kept-back v e =
+      let (s, more) = both-of (stood delta r l) (cond (isIvs (l .want)) follow (same old new)) e in
+      let q : old ≡ new = same-is _ _ (rw v at more) in
       let m : j ≡ k = sym (old-length s) ∙ ap length q ∙ new-length in
-      rw (s, not-true (isIvs (l .want)) v, eq-eqb j k m, q)
+      rw (s, v, eq-eqb j k m, q)
+
+  -- but for IVs, which get room
+  room-back : isIvs (l .want) ≡ true → omits t delta follow r x l ≡ true → cell omitted ≡ well (some (replicate k 0))
+  unfolding cellOf carried
+  room-back v e = let s : stood delta r l ≡ true = both-of (stood delta r l) (cond (isIvs (l .want)) follow (same old new)) e .0 in rw (s, v)
 
   -- one that is sent: IVs, a value, or a list
   sent-back : stands t delta r x l ≡ true → cell (sent (sentNumbers t delta r x l)) ≡ well (some new)
@@ -133,10 +142,51 @@ module _ {t : Track} {delta : Bool} {r x : List ℕ} (w : Writable t delta r x) 
       let n : length (wires coding base old new) ≡ k = wires-length coding base old new ∙ new-length in
       rw (a, o, eq-eqb (length (wires coding base old new)) k n, steps-back coding base (l .bound) old new (within s))))
 
-  -- whichever; one that is deleted, or was never there, isn't there
-  pub field-back : cell (lineSaying t delta r x l) ≡ well (fieldIn t x l)
-  unfolding lineSaying lineSays changeOf cellOf
+  -- what is said of it
+  said-omitted : stands t delta r x l ≡ true → omits t delta follow r x l ≡ true → lineSaying t delta follow r x l ≡ omitted
+  unfolding lineSaying lineSays changeOf
+  said-omitted a e = rw (a, e)
+
+  said-sent : stands t delta r x l ≡ true → omits t delta follow r x l ≡ false → lineSaying t delta follow r x l ≡ sent (sentNumbers t delta r x l)
+  unfolding lineSaying lineSays changeOf
+  said-sent a e = rw (a, e)
+
+  said-deleted : stands t delta r x l ≡ false → stood delta r l ≡ true → lineSaying t delta follow r x l ≡ deleted
+  unfolding lineSaying lineSays changeOf
+  said-deleted a o = rw (a, o)
+
+  said-never : stands t delta r x l ≡ false → stood delta r l ≡ false → lineSaying t delta follow r x l ≡ omitted
+  unfolding lineSaying lineSays changeOf
+  said-never a o = rw (a, o)
+
+  -- one that is deleted, or was never there, isn't there
+  none-deleted : cell deleted ≡ well none
+  unfolding cellOf
+  none-deleted = refl
+
+  none-there : stood delta r l ≡ false → cell omitted ≡ well none
+  unfolding cellOf
+  none-there o = rw o
+
+  -- whichever
+  pub field-back : cell (lineSaying t delta follow r x l) ≡ well (toldField t delta follow r x l)
   field-back =
       cases (stands t delta r x l)
-      (λ a. cases (stood delta r l && (not (isIvs (l .want)) && same old new)) (λ e. rw (a, e) (kept-back e)) (λ e. rw (a, e) (sent-back a)))
-      (λ a. cases (stood delta r l) (λ o. rw (a, o)) (λ o. rw (a, o) (rw o)))
+      (λ a.
+      cases (omits t delta follow r x l)
+      (λ e.
+      cases (isIvs (l .want))
+      (λ v. ap cell (said-omitted a e) ∙ room-back v e ∙ sym (ap well (rw (a, v, e))))
+      (λ v. ap cell (said-omitted a e) ∙ kept-back v e ∙ sym (ap well (rw (a, v)))))
+      (λ e. ap cell (said-sent a e) ∙ sent-back a ∙ sym (ap well (told-sent a e))))
+      (λ a.
+      cases (stood delta r l)
+      (λ o. ap cell (said-deleted a o) ∙ none-deleted ∙ sym (ap well (rw a)))
+      (λ o. ap cell (said-never a o) ∙ none-there o ∙ sym (ap well (rw a))))
+    where
+      never : (b : Bool) → (b && false) ≡ false
+      never true = refl
+      never false = refl
+
+      told-sent : stands t delta r x l ≡ true → omits t delta follow r x l ≡ false → toldField t delta follow r x l ≡ some new
+      told-sent a e = rw (a, e, never (isIvs (l .want)))

@@ -130,7 +130,7 @@ module _ {f : Says} where
 
   -- ---- a field of the set
 
-  module _ (t : Track) (delta : Bool) (r x : List ℕ) (l : Line) (k : lineReads l ≡ true) where
+  module _ (t : Track) (delta follow : Bool) (r x : List ℕ) (l : Line) (k : lineReads l ≡ true) where
     sent-tells : f (l .id) ≡ some (sentNumbers t delta r x l) → Tells f (l .id) (suc (l .id)) (sentItems t delta r x l F)
     unfolding sentItems sentNumbers lineReads
     sent-tells e =
@@ -140,9 +140,9 @@ module _ {f : Says} where
         (λ b. rw (a, b) (list-tells (l .id) _ _ _ _ (rw (a, b) at k) (rw (a, b) at e))))
 
     -- whatever became of it
-    pub line-tells : f (l .id) ≡ lineSays t delta r x l → Tells f (l .id) (suc (l .id)) (lineItems t delta r x l F)
+    pub line-tells : f (l .id) ≡ lineSays t delta follow r x l → Tells f (l .id) (suc (l .id)) (lineItems t delta follow r x l F)
     unfolding lineItems lineSays
-    line-tells e = by (changeOf t delta r x l) e
+    line-tells e = by (changeOf t delta follow r x l) e
       where
         by : (c : Change) → f (l .id) ≡ numbersBy c (sentNumbers t delta r x l)
             → Tells f (l .id) (suc (l .id)) (onChange c (sentItems t delta r x l F) nothing)

@@ -26,7 +26,8 @@ use Rattle.prft_value.specs.Prft.{mediaMost, keptFor}
 use Rattle.cmaf_read_chunk.specs.Accepted.{prft, fields}
 use Rattle.locmaf_write_block.specs.Fields.{goneOf, bmdtStands, countStands}
 use Rattle.locmaf_write_block.proofs.GoneLaws.{gone-full}
-use Rattle.cmaf_read_facts.specs.Given.{BoxedPrft}
+use Rattle.encoder.specs.Object.{leavesOut}
+use Rattle.cmaf_read_facts.specs.Given.{F, BoxedPrft}
 use Rattle.reread.specs.Block.{saidIf, blockSays}
 use Rattle.reread.proofs.Known.{Known}
 use Rattle.reread.proofs.BlockSaid.{said-by}
@@ -92,6 +93,6 @@ module _ {s c : List ℕ} {delta : Bool} (k : Known s c delta) where
   pub ids-back : idsOk delta (not (eqb (getD s prftAt 0) 0)) (λ id. isSome (f id)) ≡ true
   unfolding idsOk blockSays moofField bmdtStands countStands
   ids-back =
-      let gone : List ℕ = goneOf (trackOf s) delta (drop setAt s) (fields (trackOf s) c) lines in
-      let full : delta ≡ false → eqb (length gone) 0 ≡ true = λ e. rw (gone-full (trackOf s) delta (drop setAt s) (fields (trackOf s) c) e lines) in
+      let gone : List ℕ = goneOf (trackOf s) delta (leavesOut F s c delta) (drop setAt s) (fields (trackOf s) c) lines in
+      let full : delta ≡ false → eqb (length gone) 0 ≡ true = λ e. rw (gone-full (trackOf s) delta (leavesOut F s c delta) (drop setAt s) (fields (trackOf s) c) e lines) in
       simp some-if (ids-by delta (p .stands) _ _ _ (eqb (length gone) 0) _ _ _ (k .prft-held) full)

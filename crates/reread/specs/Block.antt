@@ -19,6 +19,7 @@ use Rattle.locmaf_read_said.specs.Deletions.{moofField}
 use Rattle.prft_value.specs.Prft.{keptFor}
 use Rattle.cmaf_read_chunk.specs.Accepted.{prft, brands, events, fields}
 use Rattle.locmaf_write_block.specs.Fields.{goneOf, bmdtStands, countStands}
+use Rattle.encoder.specs.Object.{leavesOut}
 use Rattle.cmaf_read_facts.specs.Given.{F}
 use Rattle.reread.specs.Sayings.{lineSays}
 
@@ -41,6 +42,10 @@ module _ (s c : List ℕ) (delta : Bool) where
   abbrev x : List ℕ
   x = fields t c
 
+  -- the ids that are deleted
+  abbrev gone : List ℕ
+  gone = goneOf t delta (leavesOut F s c delta) r x lines
+
   -- a number against the one that was
   abbrev against : ℕ → ℕ → List ℕ
   against old new = wireOf (codingFor delta) old new ∷ []
@@ -51,7 +56,7 @@ module _ (s c : List ℕ) (delta : Bool) where
 
   unfoldable pub blockSays : Says
   blockSays id =
-      cond (moofField id) (lineSays t delta r x (lineFor id lines))
+      cond (moofField id) (lineSays t delta (leavesOut F s c delta) r x (lineFor id lines))
       (cond (leb idCount id) none
       (cond (eqb id 10) (saidIf (bmdtStands t delta r x) (getD x bmdtAt 0 ∷ []))
       (cond (eqb id 14) (saidIf (countStands delta r x) (against (getD r countAt 0) (getD x countAt 0)))
@@ -61,5 +66,5 @@ module _ (s c : List ℕ) (delta : Bool) where
       (cond (eqb id 23) (saidIf (not delta && not (eqb (length (brands c)) 0)) (brands c))
       (cond (eqb id 24) (unless (keptFor delta (getD s prftFlagsAt 0) 0) (prft c .flags))
       (cond (eqb id 25) (eventSays (events t c))
-      (cond (eqb id 27) (saidIf (not (eqb (length (goneOf t delta r x lines)) 0)) (goneOf t delta r x lines))
+      (cond (eqb id 27) (saidIf (not (eqb (length gone) 0)) gone)
       none))))))))))

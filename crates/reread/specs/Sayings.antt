@@ -39,17 +39,18 @@ module _ (t : Track) (delta : Bool) (r x : List ℕ) (l : Line) where
       (cond (eqb (l .room) 1) (wireOf coding (first base (olds t delta r x l)) (first 0 (news t delta r x l)) ∷ [])
       (wires coding base (olds t delta r x l) (news t delta r x l)))
 
+module _ (t : Track) (delta follow : Bool) (r x : List ℕ) (l : Line) where
   -- what stands for its id
   unfoldable pub lineSays : Option (List ℕ)
-  lineSays = numbersBy (changeOf t delta r x l) sentNumbers
+  lineSays = numbersBy (changeOf t delta follow r x l) (sentNumbers t delta r x l)
 
   -- and what is said of it, with the ids that are deleted
   unfoldable pub lineSaying : Saying
-  lineSaying = saying lineSays (isDeleted (changeOf t delta r x l))
+  lineSaying = saying lineSays (isDeleted (changeOf t delta follow r x l))
 
 -- all that a set x is read from: its fields, the ids that are deleted, how many samples there are, and brands that fit
-pub record SetSaid (t : Track) (delta : Bool) (r x : List ℕ) (f : Says) : Type 0 where
-  pub line : (i : ℕ) → i < lineCount → f (getD lines i spare .id) ≡ lineSays t delta r x (getD lines i spare)
-  pub gone : numbers (f 27) ≡ goneOf t delta r x lines
+pub record SetSaid (t : Track) (delta follow : Bool) (r x : List ℕ) (f : Says) : Type 0 where
+  pub line : (i : ℕ) → i < lineCount → f (getD lines i spare .id) ≡ lineSays t delta follow r x (getD lines i spare)
+  pub gone : numbers (f 27) ≡ goneOf t delta follow r x lines
   pub count : countReached t delta r f ≡ To (getD x countAt 0)
   pub brands : brandsFit (f 23) ≡ true
