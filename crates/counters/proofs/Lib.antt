@@ -1,6 +1,11 @@
+pub mod CounterLaws
+pub mod ProtectedLaws
+pub mod LastLaws
 pub mod OutsideLaws
 pub mod BesideLaws
-pub mod LastLaws
 pub mod IvsLaws
+pub mod WalkLaws
+pub mod FollowLaws
+pub mod DeriveLaws
 pub mod BackLaws
 pub mod RoomLaws

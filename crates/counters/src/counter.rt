@@ -1,6 +1,8 @@
 // An IV as a big-endian counter of 8 or 16 bytes, for both sizes alike: two words, of which the first is 0 where there is room for one.
 // Letters: `w` the words of a set, `x` those of a new one, `c` a counter, `k` how many words an IV has, `i` which one, counted from 0.
 ghost use mathlib.Core.Path.{_≡_};
+ghost use mathlib.Core.Bool.{true};
+ghost use mathlib.Core.List.{List};
 ghost use mathlib.Core.Logic.{_⊎_};
 ghost use Prim.Native.Nat.{ℕ, _+_, _*_, _^_, _≤_};
 ghost use lib.ListN.{length};
@@ -52,7 +54,7 @@ pub fn counter_at(w: &[u64], k: usize, i: usize) -> Counter
 // The one that follows it by so many protected bytes. It never goes round: past its size it is none.
 pub fn next(top: u64, c: Counter, bytes: u64) -> Counter
     requires { ⌜ bytes ≤ 2 ^ 48 ⌝ }
-    ensures { λ d. ⌜ ((k n : ℕ) → top ≡ topOf k → Counts k n c → Counts k (n + blocks bytes) d) ⌝ }
+    ensures { λ d. ⌜ ((k n : ℕ) → (k ≡ 1) ⊎ (k ≡ 2) → top ≡ topOf k → Counts k n c → Counts k (n + blocks bytes) d) ⌝ }
 {
     let blocks = (bytes + 15) / 16;
     let room = U64 - blocks;
@@ -81,6 +83,7 @@ pub fn next(top: u64, c: Counter, bytes: u64) -> Counter
 pub fn put_counter(c: Counter, k: usize, i: usize, x: &mut [u64])
     requires { ⌜ (length (now x) ≡ setLen) × ((k ≡ 1) ⊎ (k ≡ 2)) × (i + 1 ≤ samplesMost) ⌝ }
     ensures { λ _. ⌜ (length (now (x .exit)) ≡ length (now (x .entry)))
+        × ((vs : List ℕ) × (length vs ≡ k) × (now (x .exit) ≡ sets (now (x .entry)) (ivsAt + 1 + i * k) vs))
         × ((n : ℕ) → Counts k n c → c .ok ≡ true
         → now (x .exit) ≡ sets (now (x .entry)) (ivsAt + 1 + i * k) (counterWords k n)) ⌝ }
 {

@@ -1,0 +1,135 @@
+-- The protected bytes of a sample, case by case as code finds them. Assumes nothing.
+use Prim.Native.Nat.{ℕ, _+_, _-_, _^_, _≤_, _<_}
+use native.Mathlib.Omega.{arith}
+use mathlib.Core.Path.{_≡_, sym, _∙_, ap}
+use mathlib.Core.Bool.{true, false, not, _&&_}
+use mathlib.Core.List.{List}
+use borrow.Author.Tests.{not-true, lt-ltb, eqb-false}
+use lib.Dec.{eqb, leb}
+use lib.ListN.{length, getD}
+use lib.Seq.{slice}
+use Rattle.constants.specs.Maxima.{subsamplesMost, payloadMost}
+use Rattle.laws.specs.Tests.{sum}
+use Rattle.laws.proofs.SliceLaws.{slice-none, slice-join}
+use Rattle.laws.proofs.TestLaws.{and-right, sum-append, sum-next}
+use Rattle.track.specs.declared.Track.{Track}
+use Rattle.track.specs.Track.{cenc}
+use Rattle.field_table.specs.Lines.{lines, lineFor, sizesAt, subsamplesAt, protectedAt}
+use Rattle.field_set.specs.Lawful.{has, inUse, valueAt, countIn, valuesOf, lawful}
+use Rattle.field_set.proofs.RuleLaws.{ruled}
+use Rattle.told_sizes.specs.Sums.{bytesOf, Summable}
+use Rattle.told_sizes.specs.Told.{mayHave}
+use Rattle.told_sizes.proofs.SumLaws.{part-most}
+use Rattle.effective.specs.Sizes.{lastSize}
+use Rattle.effective.proofs.SizesAdd.{size-is}
+use Rattle.counters.specs.Protected.{protectedOf, counted, lastPairs, lastBytes, lastProtected, lastFits}
+
+-- ---- of a sample that isn't the last
+
+-- a size that id 1 lists is small
+pub listed-small : {w : List ℕ} → Summable w → (i : ℕ) → i + 1 < countIn w → getD w (sizesAt + 1 + i) 0 ≤ 2 ^ 48
+unfolding lines lineFor
+listed-small {w} s i h =
+    let at : ℕ = sizesAt + 1 + i in
+    let l : at + 1 ≤ length w = omega (arith, s .words, s .few) in
+    let most = part-most 0xffff_ffff 3 66 at (at + 1) w (s .sizes) (omega (arith, s .words)) (omega arith) (omega arith) (omega (arith, s .few)) in
+    omega (arith, most, sum-next w at (at + 1) (omega arith) l)
+
+module _ (t : Track) (w : List ℕ) (payload i j : ℕ) where
+  -- by its subsamples
+  pub own-pairs : has 11 w ≡ true → (r : ℕ) → r ≡ sum (slice (protectedAt + 1 + j) (protectedAt + 1 + j + valueAt 11 i w) w) → r ≡ protectedOf t w payload i j
+  unfolding protectedOf bytesOf lines lineFor
+  own-pairs on r e = e ∙ rw on
+
+  module _ (off : has 11 w ≡ false) (early : i + 1 < countIn w) where
+    -- by the size that id 1 lists
+    pub own-listed : has 1 w ≡ true → valueAt 1 i w ≡ protectedOf t w payload i j
+    unfolding protectedOf
+    own-listed h = rw (off, size-is t w payload (omega arith) i, h, lt-ltb i (countIn w - 1) (omega arith))
+
+    -- by that of all samples
+    pub own-default : has 1 w ≡ false → has 6 w ≡ true → valueAt 6 0 w ≡ protectedOf t w payload i j
+    unfolding protectedOf
+    own-default h g = rw (off, size-is t w payload (omega arith) i, h, g)
+
+    -- by trex
+    pub own-trex : has 1 w ≡ false → has 6 w ≡ false → t .size ≡ protectedOf t w payload i j
+    unfolding protectedOf
+    own-trex h g = rw (off, size-is t w payload (omega arith) i, h, g)
+
+-- ---- of the last sample, by its subsamples
+
+-- the subsample counts of the first n samples
+counts-are : (w : List ℕ) (n : ℕ) → has 11 w ≡ true → valuesOf 11 n w ≡ slice (subsamplesAt + 1) (subsamplesAt + 1 + n) w
+unfolding has valuesOf inUse lines lineFor
+counts-are w n h = rw (not-true (eqb (getD w subsamplesAt 0) 0) h)
+
+module _ {w : List ℕ} (s : Summable w) (on : has 11 w ≡ true) (some : 1 ≤ countIn w) where
+  abbrev end : ℕ
+  end = subsamplesAt + countIn w
+
+  -- all before it have theirs before
+  before-is : lastPairs w ≡ sum (slice (subsamplesAt + 1) end w)
+  before-is =
+      let e : subsamplesAt + 1 + (countIn w - 1) ≡ end = omega arith in
+      ap sum (counts-are w (countIn w - 1) on ∙ ap (λ (to : ℕ). slice (subsamplesAt + 1) to w) e)
+
+  -- with its own they are no more than all
+  pub last-room : sum (slice (subsamplesAt + 1) end w) + getD w end 0 ≤ subsamplesMost
+  unfolding sum
+  last-room =
+      let l : end + 1 ≤ length w = omega (arith, s .words, s .few) in
+      let e : subsamplesAt + 1 + countIn w ≡ end + 1 = omega arith in
+      let z : sum (slice (end + 1) (end + 1) w) ≡ 0 = ap sum (slice-none (end + 1) (end + 1) w (omega arith)) in
+      let all : sum (valuesOf 11 (countIn w) w) ≡ sum (slice (subsamplesAt + 1) end w) + sum (slice end (end + 1) w) =
+      ap sum (counts-are w (countIn w) on ∙ ap (λ (to : ℕ). slice (subsamplesAt + 1) to w) e ∙ slice-join (subsamplesAt + 1) end (end + 1) w (omega arith) (omega arith) l)
+      ∙ sum-append (slice (subsamplesAt + 1) end w) (slice end (end + 1) w) in
+      omega (arith, all, z, sum-next w end (end + 1) (omega arith) l, s .subsamples)
+
+  -- what code adds up
+  pub last-is : (j r : ℕ) → j ≡ sum (slice (subsamplesAt + 1) end w) → r ≡ sum (slice (protectedAt + 1 + j) (protectedAt + 1 + j + getD w end 0) w) → r ≡ lastBytes w
+  unfolding lastBytes bytesOf lines lineFor
+  last-is j r e d =
+      let at : subsamplesAt + 1 + (countIn w - 1) ≡ end = omega arith in
+      d ∙ rw (at, before-is, e)
+
+-- ---- of a chunk's last sample
+
+module _ (t : Track) (w : List ℕ) (law : lawful t w ≡ true) where
+  -- id 9 stands where there are IVs to be counted
+  stands : has 9 w ≡ counted t w
+  stands = ruled t w law .ivs
+
+  -- then there are samples
+  pub some-samples : has 9 w ≡ true → 1 ≤ countIn w
+  some-samples h =
+      let no : countIn w ≡ 0 → ⊥ = eqb-false (countIn w) 0 (not-true (eqb (countIn w) 0) (and-right (eqb (t .protection) cenc) (not (eqb (countIn w) 0)) (sym stands ∙ h))) in
+      omega arith
+
+  -- none
+  pub none-last : (payload : ℕ) → has 9 w ≡ false → 0 ≡ lastProtected t w payload
+  unfolding lastProtected
+  none-last payload h = rw (sym stands ∙ h)
+
+  pub none-fits : (last : ℕ) → has 9 w ≡ false → eqb last 0 ≡ lastFits t w last
+  unfolding lastFits
+  none-fits last h = rw (sym stands ∙ h)
+
+  module _ (on : has 9 w ≡ true) where
+    -- by its subsamples
+    pub paired-last : (payload : ℕ) → has 11 w ≡ true → lastBytes w ≡ lastProtected t w payload
+    unfolding lastProtected protectedOf lastBytes
+    paired-last payload h = rw (sym stands ∙ on, h)
+
+    pub paired-fits : (last : ℕ) → has 11 w ≡ true → eqb last (lastBytes w) ≡ lastFits t w last
+    unfolding lastFits
+    paired-fits last h = rw (sym stands ∙ on, h)
+
+    -- by its size
+    pub whole-last : (payload : ℕ) → has 11 w ≡ false → lastSize t w payload ≡ lastProtected t w payload
+    unfolding lastProtected protectedOf lastSize
+    whole-last payload h = rw (sym stands ∙ on, h)
+
+    pub whole-fits : (last : ℕ) → has 11 w ≡ false → (leb last payloadMost && mayHave t w (countIn w - 1) last) ≡ lastFits t w last
+    unfolding lastFits
+    whole-fits last h = rw (sym stands ∙ on, h)
