@@ -6,6 +6,7 @@ use borrow.Author.Needs.{needs}
 use borrow.Rule.Slice.PartAt.{part-to-end}
 use Rattle.share_words.specs.Share.{setAt}
 use Rattle.effective.specs.Expected.{nextTime, expectedBy}
+use Rattle.counters.specs.Protected.{lastProtected}
 use Rattle.reference.specs.declared.keep.Replaced.{Replaced}
 use Rattle.reference.proofs.KeepLaws.{three-stored}
 use Rattle.reference.proofs.keep.renew.Statement.{statement}
@@ -14,17 +15,20 @@ use Rattle.reference.proofs.keep.renew.Tie as tie
 replaced-by-requires : tie.Need-replaced-by-requires
 replaced-by-requires c κs = search needs
 
-sub-expected-behind : tie.Need-sub-expected-behind
-sub-expected-behind c = search needs
+sub-w : tie.Need-sub-w
+sub-w c = search needs
 
-part-expected-behind-start : tie.Need-part-expected-behind-start
-part-expected-behind-start c = search needs
+part-w-start : tie.Need-part-w-start
+part-w-start c = search needs
 
-part-expected-behind-end : tie.Need-part-expected-behind-end
-part-expected-behind-end c = search needs
+part-w-end : tie.Need-part-w-end
+part-w-end c = search needs
 
 expected-behind-requires : tie.Need-expected-behind-requires
-expected-behind-requires c κs = let b = c .before .before .before .before .before in rw (part-to-end (now (b .args .s)) setAt) (b .pre .1)
+expected-behind-requires c κs = let b = c .before .before .before .before .before in rw (part-to-end (now (b .args .s)) setAt) (b .pre .0 .1)
+
+last-protected-requires : tie.Need-last-protected-requires
+last-protected-requires c κs = let b = c .before .before .before .before .before .before in rw (part-to-end (now (b .args .s)) setAt) (b .pre .1)
 
 slice-write-s : tie.Need-slice-write-s
 slice-write-s c = search needs
@@ -32,14 +36,19 @@ slice-write-s c = search needs
 slice-write-s-2 : tie.Need-slice-write-s-2
 slice-write-s-2 c = search needs
 
+slice-write-s-3 : tie.Need-slice-write-s-3
+slice-write-s-3 c = search needs
+
 same-length : tie.Need-same-length
 same-length c = search needs
 
 returns : tie.Need-returns
 returns c =
-    let b = c .before .before .before .before .before .before in
+    let b = c .before .before .before .before .before .before .before in
     let s = now (b .args .s) in
-    two-stored (b .args .t) s _ (b .pre .0) (c .expected-behind .ensures ∙ ap (λ w. expectedBy (nextTime (b .args .t) w)) (part-to-end s setAt))
+    let t = b .args .t in
+    three-stored t (b .args .payload) s _ _ (b .pre .0 .0) (c .before .expected-behind .ensures ∙ ap (λ w. expectedBy (nextTime t w)) (part-to-end s setAt))
+    (c .last-protected .ensures ∙ ap (λ w. lastProtected t w (b .args .payload)) (part-to-end s setAt))
 
 -- no object leaves it as it was
 returns-2 : tie.Need-returns-2
@@ -50,12 +59,14 @@ renew-spec =
     tie.close
     (tie.spec
     replaced-by-requires
-    sub-expected-behind
-    part-expected-behind-start
-    part-expected-behind-end
+    sub-w
+    part-w-start
+    part-w-end
     expected-behind-requires
+    last-protected-requires
     slice-write-s
     slice-write-s-2
+    slice-write-s-3
     same-length
     returns
     returns-2)

@@ -42,6 +42,15 @@ shared-slice-read-expected-by c = let l = lent-long (now (c .before .before .bef
 expected-by-requires : tie.Need-expected-by-requires
 expected-by-requires c κs = tt
 
+shared-slice-read-last-fits : tie.Need-shared-slice-read-last-fits
+shared-slice-read-last-fits c = search needs
+
+last-fits-requires : tie.Need-last-fits-requires
+last-fits-requires c κs =
+    let l = lent-long (now (c .before .before .before .before .before .before .before .before .before .args .s)) (c .before .before .before .before .before .before .before .before .before .pre .0) in
+    let g = held (c .before .before .before .before .before .before .test-set .ensures .right) (c .before .before .before .before .if1 .left) in
+    (lawful-summable _ _ l g, g)
+
 expected-of-requires : tie.Need-expected-of-requires
 expected-of-requires c κs = search needs
 
@@ -50,13 +59,13 @@ is-same-requires c κs = tt
 
 sizes-agree-requires : tie.Need-sizes-agree-requires
 sizes-agree-requires c κs =
-    lawful-summable _ _ (lent-long (now (c .before .before .before .before .before .before .before .before .before .before .args .s)) (c .before .before .before .before .before .before .before .before .before .before .pre .0)) (held (c .before .before .before .before .before .before .before .test-set .ensures .right) (c .before .before .before .before .before .if1 .left))
+    lawful-summable _ _ (lent-long (now (c .before .before .before .before .before .before .before .before .before .before .before .before .args .s)) (c .before .before .before .before .before .before .before .before .before .before .before .before .pre .0)) (held (c .before .before .before .before .before .before .before .before .before .test-set .ensures .right) (c .before .before .before .before .before .before .before .if1 .left))
 
 returns-2 : tie.Need-returns-2
 returns-2 c =
-    let s = now (c .before .before .before .before .before .before .before .before .before .before .before .args .s) in
-    set-lawful _ s _ (part-to-end s setAt) (held (c .before .before .before .before .before .before .before .before .test-set .ensures .right) (c .before .before .before .before .before .before .if1 .left)) _ _ _ _ (c .before .before .expected-of .ensures)
-    _ (c .before .before .before .before .before .durations-by .ensures) (c .before .before .before .expected-by .ensures) (c .before .is-same .ensures) (c .sizes-agree .ensures)
+    let s = now (c .before .before .before .before .before .before .before .before .before .before .before .before .before .args .s) in
+    set-lawful _ s _ (part-to-end s setAt) (held (c .before .before .before .before .before .before .before .before .before .before .test-set .ensures .right) (c .before .before .before .before .before .before .before .before .if1 .left)) _ _ _ _ _ (c .before .before .expected-of .ensures)
+    _ (c .before .before .before .before .before .before .before .durations-by .ensures) (c .before .before .before .before .before .expected-by .ensures) (c .before .is-same .ensures) (c .before .before .before .last-fits .ensures) (c .sizes-agree .ensures)
 
 pub set-ok-spec : {M : Type 1} → statement M
 set-ok-spec =
@@ -70,6 +79,8 @@ set-ok-spec =
     durations-by-requires
     shared-slice-read-expected-by
     expected-by-requires
+    shared-slice-read-last-fits
+    last-fits-requires
     expected-of-requires
     is-same-requires
     sizes-agree-requires
