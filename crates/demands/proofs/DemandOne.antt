@@ -1,12 +1,10 @@
 -- Demand 1: what is known of each call on a share, carried over to the table. Assumes nothing.
 use Prim.Native.Nat.{ℕ}
 use native.Mathlib.Omega.{arith}
-use native.Mathlib.Decide.{decLt}
 use mathlib.Core.Path.{_≡_, refl, sym, _∙_, ap, subst}
-use mathlib.Core.Bool.{Bool, true, false, false≢true, not, _&&_}
+use mathlib.Core.Bool.{Bool, true, false, false≢true, not}
 use mathlib.Core.List.{List, [], _∷_, List·Memᴰ, List·Memᴰ·head, List·Memᴰ·tail}
-use borrow.Author.Tests.{le-leb, lt-leb, not-true}
-use lib.Dec.{leb}
+use borrow.Author.Tests.{not-true}
 use lib.ListN.{length}
 use lib.Seq.{drop-length}
 use Rattle.laws.specs.Tests.{_and_}
@@ -17,6 +15,7 @@ use Rattle.slots.specs.Table.{Out, out, shareAt, putShare}
 use Rattle.slots.proofs.TableLaws.{by-cases, share-back}
 use Rattle.slots.proofs.Apart.{table-long, others-stay, shares-lawful}
 use Rattle.slots.proofs.StaysLawful.{all-fresh, open-refuses, close-refuses, group-refuses}
+use Rattle.answers.specs.Refusals.{droppedBy}
 use Rattle.answers.specs.Took.{Took, refused, PastStays}
 use Rattle.answers.proofs.TookLaws.{refused-past}
 use Rattle.encoder.specs.Laws.{Refused as Kept}
@@ -34,35 +33,28 @@ carried : (a : Call) (slot : ℕ) (t : List ℕ) (P : Out Took → Type 0)
     → P (out (onShare a (shareAt t slot) .answer) (putShare t slot (onShare a (shareAt t slot) .words))) → P (gives a slot t)
 carried a slot t P r q =
     subst P (sym (gives-is a slot t))
-    (by-cases (refused (outputOf a)) (onShare a) t slot P (r 18 (λ z. omega arith) (λ d. omega (arith, d .1)))
-    (r 1 (λ z. omega arith) (λ d. omega (arith, d .0))) (λ l h. q))
+    (by-cases (refused (outputOf a)) (onShare a) t slot P (r 18 (λ z. omega arith) (λ d. false≢true d))
+    (r 1 (λ z. omega arith) (λ d. false≢true d)) (λ l h. q))
 
 -- ---- refusals
 
--- 12 to 16, by the test
-within : (k : ℕ) → Drops k → leb 12 k && leb k 16 ≡ true
-within k d = rw (le-leb 12 k (d .0), le-leb k 16 (d .1))
-
-outside : (k : ℕ) → (Drops k → ⊥) → leb 12 k && leb k 16 ≡ false
-outside k n =
-    elim (decLt k 12) [
-      | yes h ↦ rw (lt-leb 12 k h)
-      | no h ↦
-          elim (decLt 16 k) [
-            | yes m ↦ rw (le-leb 12 k (omega arith), lt-leb k 16 m)
-            | no m ↦ absurd (n (omega arith, omega arith))
-          ]
-    ]
+-- a number that isn't one of those that drop the reference
+outside : (k : ℕ) → (Drops k → ⊥) → droppedBy k ≡ false
+outside k n = go (droppedBy k) refl
+  where
+    go : (b : Bool) → droppedBy k ≡ b → b ≡ false
+    go true e = absurd (n e)
+    go false e = refl
 
 -- none of these numbers is one of them
 unfoldable spared : List ℕ → Bool
 spared [] = true
-spared (n ∷ ns) = not (leb 12 n && leb n 16) and spared ns
+spared (n ∷ ns) = not (droppedBy n) and spared ns
 
 none-drops : (k : ℕ) (ns : List ℕ) → spared ns ≡ true → List·Memᴰ k ns → Drops k → ⊥
 unfolding spared
 none-drops k (n ∷ ns) e (List·Memᴰ·head q) d =
-    false≢true (sym (not-true _ (left _ _ e)) ∙ ap (λ (m : ℕ). leb 12 m && leb m 16) (sym q) ∙ within k d)
+    false≢true (sym (not-true _ (left _ _ e)) ∙ ap droppedBy (sym q) ∙ d)
 none-drops k (n ∷ ns) e (List·Memᴰ·tail m) d = none-drops k ns (right _ _ e) m d
 
 -- a call that keeps the share that it refuses, and answers none of them
@@ -102,7 +94,7 @@ refuses (receives o output) slot t =
       untouched = q .untouched;
       front = q .front;
       payload = q .payload;
-      drops = λ d. ap (putShare t slot) (q .drops (d .0) (d .1));
+      drops = λ d. ap (putShare t slot) (q .drops d);
       kept = λ d. ap (putShare t slot) (q .kept (outside _ d)) ∙ share-back t slot;
     })
 

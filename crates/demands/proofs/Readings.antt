@@ -3,9 +3,8 @@
 use Prim.Native.Nat.{ℕ}
 use native.Mathlib.Omega.{arith}
 use mathlib.Core.Path.{_≡_, sym, _∙_, ap, subst}
-use mathlib.Core.Bool.{true, false, _&&_}
+use mathlib.Core.Bool.{true, false}
 use mathlib.Core.List.{List}
-use lib.Dec.{leb}
 use lib.ListN.{length, drop}
 use Rattle.laws.specs.Tests.{allLe}
 use Rattle.slots.specs.declared.lawful.Side.the-variants.{Encoder, Receiver}
@@ -16,6 +15,7 @@ use Rattle.slots.proofs.ShareParts.{joined, joined-long, joined-front, joined-r
 use Rattle.answers.specs.Took.{Took}
 use Rattle.encoder.specs.Encode.{encoding}
 use Rattle.receiver.specs.Laws.{Alike}
+use Rattle.answers.specs.Refusals.{droppedBy}
 use Rattle.receiver.specs.Receive.{chunk, receiving}
 use Rattle.receiver.proofs.Theorems.{receive-refuses}
 use Rattle.receiver.proofs.AlikeTheorems.{done-is, full-forgets}
@@ -128,7 +128,7 @@ module _ (p : Send) (s s′ : List ℕ) (low : allLe 255 (p .chunk) ≡ true) (h
         record {
           number = number;
           nothing = ap gave e ∙ there .nothing;
-          words = refused .kept (ap (λ (k : ℕ). leb 12 k && leb k 16) number);
+          words = refused .kept (ap droppedBy number);
         }
 
     pub full-reads : Reads p s s′

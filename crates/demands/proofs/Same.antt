@@ -12,7 +12,7 @@ use Rattle.slots.specs.Calls.{openedRungs}
 use Rattle.answers.specs.Took.{Took, refused}
 use Rattle.cmaf_read_chunk.specs.Accepted.{bmdt, prft, brands, boxes, events, payload, fields, acceptRungs}
 use Rattle.locmaf_write_tuples.specs.Items.{itemsIf}
-use Rattle.encoder.specs.Object.{brandItems, blockItems, mayDelta, givesDelta, fitsOk, objectOf, front}
+use Rattle.encoder.specs.Object.{brandItems, leavesOut, blockItems, mayDelta, givesDelta, fitsOk, objectOf, front}
 use Rattle.encoder.specs.Encode.{refusing, lastRungs, chunkRungs, encodeRungs, done, encoding}
 use Rattle.cmaf_read_facts.specs.Given.{F}
 
@@ -23,11 +23,11 @@ module _ (wish : Bool) (c c′ s room : List ℕ) (set : fields (trackOf s) c �
   events-same = rw (start, list)
 
   delta-same : blockItems F s c true ≡ blockItems F s c′ true
-  unfolding blockItems brandItems itemsIf
-  delta-same = rw (set, time, events-same)
+  unfolding blockItems leavesOut brandItems itemsIf
+  delta-same = rw (set, time, events-same, rest)
 
   full-same : brands c ≡ brands c′ → blockItems F s c false ≡ blockItems F s c′ false
-  unfolding blockItems
+  unfolding blockItems leavesOut
   full-same e = rw (set, time, events-same, e)
 
   gives-same : givesDelta F s c wish ≡ givesDelta F s c′ wish

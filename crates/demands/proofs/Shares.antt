@@ -38,13 +38,13 @@ module _ (s : List ℕ) (l : length s ≡ shareLen) where
   encode-parameters : (wish : Bool) (c room : List ℕ) → Same (encoding F wish c room s)
   unfolding encoding kept
   encode-parameters wish c room =
-      climbs-all Same (refusing room s) (encodeRungs F wish c room s) (done F wish c room s) (λ k. refl) (λ h. kept-parameters _ _ _ _ s l)
+      climbs-all Same (refusing room s) (encodeRungs F wish c room s) (done F wish c room s) (λ k. refl) (λ h. kept-parameters _ _ _ _ _ s l)
 
   pub receive-parameters : (o room : List ℕ) → Same (receiving F o room s)
   unfolding receiving accepted
   receive-parameters o room =
       climbs-all Same (refusingObject room s) (receiveRungs F o room s) (doneObject F o room s)
-      (λ k. refusal-either s (λ x. take acceptedAt x ≡ take acceptedAt s) k refl (dropped-parameters s l)) (λ h. kept-parameters _ _ _ _ s l)
+      (λ k. refusal-either s (λ x. take acceptedAt x ≡ take acceptedAt s) k refl (dropped-parameters s l)) (λ h. kept-parameters _ _ _ _ _ s l)
 
 -- ---- after a chunk, and after an object
 

@@ -31,7 +31,8 @@ use Rattle.cmaf_read_chunk.specs.Accepted.{bmdt, prft, brands, boxes, payload, 
 use Rattle.encoder.specs.Encode.{kept, encoding}
 use Rattle.cmaf_read_chunk.proofs.ChunkFacts.{fields-bmdt}
 use Rattle.encoder.proofs.EncodeLaws.{iv-right}
-use Rattle.encoder.proofs.Theorems.{Passed, bmdt-small, set-kept, prft-kept}
+use Rattle.encoder.proofs.Theorems.{Passed, bmdt-small, set-kept, last-fits, prft-kept}
+use Rattle.counters.specs.Protected.{lastProtected, lastFits}
 use Rattle.receiver.specs.Receive.{heldOk, sequence, chunk, accepted, done}
 use Rattle.meaning.specs.Meaning.{meaningOf, unbranded}
 use Rattle.cmaf_read_facts.specs.Given.{F, Given}
@@ -140,9 +141,9 @@ module _ (p : Send) (s s′ room : List ℕ) (pair : Paired s s′) (low : allLe
   kept-same : drop heldAt (accepted F o s′) ≡ drop heldAt (kept F (p .wish) c (p .room) s)
   unfolding accepted kept
   kept-same =
-      rw (back .kind, back .time, back .set)
+      rw (back .kind, back .time, back .set, back .rest)
       (sym
-      (kept-reference (isDelta p s) (getD s acceptedAt 0) n (prft c) (fields t c) s s′ (pair .beside .encoder-long) (pair .beside .receiver-long)
+      (kept-reference (isDelta p s) (getD s acceptedAt 0) n (prft c) (fields t c) (length (payload c)) s s′ (pair .beside .encoder-long) (pair .beside .receiver-long)
       (pair .beside .parameters) (pair .reference)))
 
   held-too : isDelta p s ≡ true → eqb (getD s′ heldAt 0) 0 ≡ false
@@ -156,10 +157,12 @@ module _ (p : Send) (s s′ room : List ℕ) (pair : Paired s s′) (low : allLe
       let f = opened-facts Receiver s′ (pair .beside .receiver-lawful) (also-open p s s′ pair low h) in
       let good : setOk (trackOf s′) (fields t c) ≡ true =
       rw (← same-track s s′ (pair .beside .parameters)) (set-kept F (p .wish) c (p .room) s (pair .beside .encoder-long) ok low) in
-      rw (back .kind, back .time, back .set)
-      (accepted-lawful s′ (pair .beside .receiver-long) (isDelta p s) n (prft c) (fields t c) Receiver (also-open p s s′ pair low h) f
+      let kept : lastFits (trackOf s′) (fields t c) (lastProtected (trackOf s′) (fields t c) (length (payload c))) ≡ true =
+      rw (← same-track s s′ (pair .beside .parameters)) (last-fits F (p .wish) c (p .room) s (pair .beside .encoder-long) ok low) in
+      rw (back .kind, back .time, back .set, back .rest)
+      (accepted-lawful s′ (pair .beside .receiver-long) (isDelta p s) n (prft c) (fields t c) (length (payload c)) Receiver (also-open p s s′ pair low h) f
       (le-leb n 0xffff_ffff (omega (arith, few))) (λ e. held-facts (trackOf s′) s′ (f .reference) (held-too e) .0)
-      (prft-kept F (p .wish) c (p .room) s (pair .beside .encoder-long) ok (limit-most Rfc9000) low) good)
+      (prft-kept F (p .wish) c (p .room) s (pair .beside .encoder-long) ok (limit-most Rfc9000) low) kept good)
 
   -- ---- with room
 

@@ -6,7 +6,7 @@ use mathlib.Core.List.{List, [], _∷_, _++_}
 use lib.Dec.{leb}
 use Rattle.laws.specs.ByLength.{within, byLength}
 use Rattle.laws.specs.Bytes.{de}
-use Rattle.laws.specs.Tests.{_and_, allLe, sum}
+use Rattle.laws.specs.Tests.{_and_, allLe, sum, same}
 use Rattle.laws.specs.Ladder.{Hold}
 use Rattle.laws.proofs.TestLaws.{both}
 use Rattle.wire.specs.Form.{byValue, limit}
@@ -43,10 +43,11 @@ use Rattle.laws.specs.Options.{isSome}
 use Rattle.cmaf_read_chunk.specs.Accepted.{brandsOf, bmdt, boxes, prft, brands, payload, events, fields, countsOk, maximaOk, lateRungs, acceptRungs}
 use Rattle.cmaf_read_boxes.specs.Right.{boxesOk}
 use Rattle.locmaf_write_tuples.specs.Items.{_before_, itemsIf, numberItem, runItem}
-use Rattle.locmaf_write_block.specs.Changes.{same, changeOf, sentItems, lineItems}
+use Rattle.locmaf_write_block.specs.Changes.{changeOf, sentItems, lineItems}
+use Rattle.counters.specs.Follow.{ivsFollow}
 use Rattle.locmaf_write_block.specs.Fields.{goneOf, bmdtStands, countStands, linesItems, bmdtIf, bmdtItems, countItems, fieldItems, deletionItems}
 use Rattle.locmaf_write_prft.specs.Prft.{timesItems, unlessItems, versionItems, flagsItems}
-use Rattle.encoder.specs.Object.{brandItems, eventItems, blockItems, givesDelta, fitsOk}
+use Rattle.encoder.specs.Object.{brandItems, eventItems, leavesOut, blockItems, givesDelta, fitsOk}
 use Rattle.meaning.specs.Meaning.{meaningOf}
 use Rattle.cmaf_read_facts.specs.Given.{F}
 use Rattle.false_codecs.specs.Example.{parameters, example}
@@ -70,7 +71,7 @@ unfolding example within byLength de _and_ allLe sum byValue limit zigzag wireOf
     minorVersion prftOk prftTrack prftOf emsgsOk emsgWords fieldsIn tfhdFlagsOk tfhdOk isField fieldOf mfhdOk tfdtOk bmdtOf columnsIn runFlagsOk runHead runWidth trunOk
     firstFlags isColumn hasColumn cell sizeAt eachFrom columnOf sizesOf sencOk sencCount sencFilled entriesIn entriesOf subsamples saizOk saizCount saioOk oldValues regionOf
     regionsOf setWords heldIf allSame heldFor chunkSet listBytes clocksOk allOnly outerOk offsetOk flagsOk offsetsOk sizesOk unprotectedOk rulesOk brandsOf bmdt boxes prft
-    brands payload events fields boxesOk countsOk maximaOk lateRungs acceptRungs _before_ itemsIf numberItem runItem same changeOf sentItems lineItems goneOf bmdtStands
+    brands payload events fields boxesOk countsOk maximaOk lateRungs acceptRungs _before_ itemsIf numberItem runItem same changeOf sentItems lineItems goneOf leavesOut ivsFollow bmdtStands
     countStands linesItems bmdtIf bmdtItems countItems fieldItems deletionItems timesItems unlessItems versionItems flagsItems brandItems eventItems blockItems meaningOf
 computed = (
   record {

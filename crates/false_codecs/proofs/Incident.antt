@@ -18,7 +18,8 @@ use Rattle.field_set.specs.Lawful.{inUse, has, valuesOf, sameIvSize, lawful as 
 use Rattle.field_table.specs.Lines.{lineFor, lineNumber, absentValue, wanted, lines, marksOf, every}
 use Rattle.told_sizes.specs.Told.{mayHave, sizesAgree, samplesAgree, toldSum}
 use Rattle.share_words.specs.Share.{shareLen, heldAt, dropped}
-use Rattle.slots.specs.Share.{askedOf, openOk, lawful as lawfulShare, setOk, referenceOk, prftOk, expectedOk, opened, isOpen}
+use Rattle.slots.specs.Share.{askedOf, openOk, lawful as lawfulShare, setOk, referenceOk, prftOk, expectedOk, lastOk, opened, isOpen}
+use Rattle.counters.specs.Protected.{lastProtected, lastFits}
 use Rattle.locmaf_read_block.specs.Entries.{entry, body, entriesAt, says, readable, content, member, lawful as lawfulEntries, known}
 use Rattle.locmaf_read_block.specs.Front.{wholly, taken}
 use Rattle.locmaf_read_block.specs.Numbers.{numbersRun, numberFront, numbersF}
@@ -43,9 +44,9 @@ use Rattle.locmaf_read_head.specs.Ids.{idsOk}
 use Rattle.locmaf_read_times.specs.Prft.{prftOf}
 use Rattle.effective.specs.Sums.{samplesOk, sizesOk, protectedOk}
 use Rattle.locmaf_read_events.specs.Values.{allFit, listed, fits, boxed}
-use Rattle.reference.specs.Kept.{prftWords, expectedAfter, keptWords}
+use Rattle.reference.specs.Kept.{prftWords, expectedAfter, lastAfter, keptWords}
 use Rattle.receiver.specs.Object.{tuples, lengthAt, reads, isDelta, blockReads, headerId, blockEnd, entries, payload, headerReads, headRungs, blockAt, blockLength}
-use Rattle.receiver.specs.Receive.{receiving, newSet, sumsOk, splitRungs, heldOk, idsRight, valuesOk, accepted, bmdt, sequence, valueRungs, receiveRungs, events, chunk, prft}
+use Rattle.receiver.specs.Receive.{receiving, toldSet, leftOut, ivsFit, newSet, sumsOk, splitRungs, heldOk, idsRight, valuesOk, accepted, bmdt, sequence, valueRungs, receiveRungs, events, chunk, prft}
 use Rattle.answers.specs.Refusals.{afterRefusal}
 use Rattle.cmaf_read_facts.specs.Given.{F}
 use Rattle.false_codecs.specs.Example.{parameters}
@@ -90,12 +91,12 @@ record Computed : Type 0 where
 computed : Computed
 unfolding flagsAt be de gate ladder sum allZero allLe _and_ byFirst readF reached ranged unzigzag wideOf lawful inUse has valuesOf sameIvSize lawfulSet regionsOk
     marksOf regionOk saizOk setRules lineFor lineNumber absentValue wanted lines every mayHave sizesAgree samplesAgree toldSum openOk lawfulShare dropped setOk
-    referenceOk prftOk expectedOk expectedBy opened isOpen entry body entriesAt says readable content member lawfulEntries wholly taken known numbersRun numberFront numbersF number
+    referenceOk prftOk expectedOk expectedBy lastOk lastFits opened isOpen entry body entriesAt says readable content member lawfulEntries wholly taken known numbersRun numberFront numbersF number
     tupleFront tupleF bodyF tuplesF kindOf tuplesRun fullBox box protection trunFlags emsgBoxes stypBox moofWhole tfhdBox plain sizeOf prftBox mfhdBox trunRows
     tfhdFlags trunBox tfdtBox trunRow front moofBox sentList packed sentOne carried oldValues cellOf sayingOf among regionsOf regionOf setWords moofField deletionsOk
     countReached stands subsamples countFrom setRungs brandsFit came cameOf fieldRungs countOf durationsOf bmdtOf idsOk prftOf samplesOk sizesOk protectedOk allFit
-    listed fits boxed prftWords keptWords expectedAfter tuples lengthAt reads isDelta blockReads headerId blockEnd entries payload headerReads headRungs blockAt blockLength receiving
-    newSet sumsOk splitRungs heldOk idsRight valuesOk afterRefusal accepted bmdt sequence valueRungs receiveRungs events chunk prft
+    listed fits boxed prftWords keptWords expectedAfter lastAfter lastProtected tuples lengthAt reads isDelta blockReads headerId blockEnd entries payload headerReads headRungs blockAt blockLength receiving
+    newSet toldSet leftOut ivsFit sumsOk splitRungs heldOk idsRight valuesOk afterRefusal accepted bmdt sequence valueRungs receiveRungs events chunk prft
 computed = record { long = refl; full = refl; done = refl; stands = refl; lacks = refl; shows = refl; right = refl }
 
 -- it doesn't join: the flags of the first object stay in the reference of the one share, and were never in that of the other

@@ -18,7 +18,7 @@ use Rattle.slots.specs.Table.{Out, out}
 use Rattle.slots.proofs.StaysLawful.{dropped-long, dropped-lawful}
 use Rattle.answers.specs.Took.{Took}
 use Rattle.reference.specs.Kept.{keptWords}
-use Rattle.receiver.specs.Object.{isDelta}
+use Rattle.receiver.specs.Object.{isDelta, payload}
 use Rattle.receiver.specs.Receive.{prft, newSet, sequence, chunk, accepted, receiving}
 use Rattle.receiver.proofs.PassedLaws.{passed}
 use Rattle.receiver.proofs.AlikeTheorems.{full-forgets, done-holds, done-is}
@@ -65,7 +65,7 @@ module _ (F : List Row) (o room s : List ℕ) (l : length s ≡ shareLen) (z : r
   count-kept : countOf (accepted F o s) ≡ sequence F o s
   unfolding accepted keptWords
   count-kept =
-      ap (λ (x : List ℕ). countOf (keptWords (isDelta F o) (sequence F o s) (prft F o s .prft) (newSet F o s) x)) (parted s (omega arith))
+      ap (λ (x : List ℕ). countOf (keptWords (isDelta F o) (sequence F o s) (prft F o s .prft) (newSet F o s) (length (payload F o)) x)) (parted s (omega arith))
 
   -- an accepted object is counted
   pub counts-one : countOf (receiving F o room s .words) ≡ (countOf s + 1) % 2 ^ 32

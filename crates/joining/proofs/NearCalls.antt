@@ -18,10 +18,10 @@ use Rattle.slots.specs.Share.{isOpen, lawful, opened}
 use Rattle.slots.specs.Table.{Out, out, onShare}
 use Rattle.slots.specs.Calls.{openRungs, openedRungs, opening, grouping}
 use Rattle.answers.specs.Took.{Took}
-use Rattle.reference.specs.Kept.{prftWords, expectedWords, expectedAfter, referenceWords, keptWords}
-use Rattle.receiver.specs.Object.{isDelta}
-use Rattle.receiver.specs.Receive.{bmdt, prft, newSet, sequence, chunk, accepted, refusing, done, receiveRungs, receiving}
-use Rattle.answers.specs.Refusals.{afterRefusal}
+use Rattle.reference.specs.Kept.{prftWords, besideWords, expectedAfter, lastAfter, referenceWords, keptWords}
+use Rattle.receiver.specs.Object.{isDelta, payload}
+use Rattle.receiver.specs.Receive.{bmdt, prft, toldSet, leftOut, newSet, sequence, chunk, accepted, refusing, done, receiveRungs, receiving}
+use Rattle.answers.specs.Refusals.{droppedBy, afterRefusal}
 use Rattle.receiver.proofs.PassedLaws.{passed}
 use Rattle.joining.specs.Number.{numberAt, unnumbered}
 use Rattle.joining.specs.Matches.{frontBytes, countOf}
@@ -65,7 +65,7 @@ module _ (a : Asked) (d n m : ℕ) (r : List ℕ) (small : m ≤ u32) (apart : n
 
   refusal-near : (k : ℕ) → Near a d (afterRefusal k (made a n r)) (afterRefusal k (made a m r))
   unfolding afterRefusal
-  refusal-near k = by (leb 12 k && leb k 16)
+  refusal-near k = by (droppedBy k)
     where
       by : (b : Bool) → Near a d (cond b (dropped (made a n r)) (made a n r)) (cond b (dropped (made a m r)) (made a m r))
       by true = forgotten
@@ -79,11 +79,11 @@ module _ (a : Asked) (d n m : ℕ) (r : List ℕ) (small : m ≤ u32) (apart : n
     -- what is kept from the mark of the reference on
     abbrev kept : List ℕ
     kept =
-        referenceWords (cond (isDelta F o) (slice (prftAt - heldAt) (prftEnd - heldAt) r) (prftWords (prft F o (made a n r) .prft))) (expectedWords (expectedAfter (newSet F o (made a n r)) (made a n r)))
+        referenceWords (cond (isDelta F o) (slice (prftAt - heldAt) (prftEnd - heldAt) r) (prftWords (prft F o (made a n r) .prft))) (besideWords (expectedAfter (newSet F o (made a n r)) (made a n r)) (lastAfter (newSet F o (made a n r)) (length (payload F o)) (made a n r)))
         (newSet F o (made a n r))
 
     accepted-near : Near a d (accepted F o (made a n r)) (accepted F o (made a m r))
-    unfolding accepted keptWords expectedAfter newSet bmdt
+    unfolding accepted keptWords expectedAfter lastAfter newSet leftOut toldSet bmdt
     accepted-near =
         record {
           count = sequence F o (made a n r);
@@ -94,7 +94,7 @@ module _ (a : Asked) (d n m : ℕ) (r : List ℕ) (small : m ≤ u32) (apart : n
               sym
               (λ j.
               made a (sequence F o (made a m r))
-              (referenceWords (cond (isDelta F o) (slice (prftAt - heldAt) (prftEnd - heldAt) r) (prftWords (time-same F o a n m r j .prft))) (expectedWords (expectedAfter (newSet F o (made a n r)) (made a n r)))
+              (referenceWords (cond (isDelta F o) (slice (prftAt - heldAt) (prftEnd - heldAt) r) (prftWords (time-same F o a n m r j .prft))) (besideWords (expectedAfter (newSet F o (made a n r)) (made a n r)) (lastAfter (newSet F o (made a n r)) (length (payload F o)) (made a n r)))
               (newSet F o (made a n r))));
           small = sequence-few F o (made a m r);
           apart = counts-on F o;

@@ -16,7 +16,7 @@ use Rattle.track.specs.declared.Asked.{Asked}
 use Rattle.track.specs.Track.{u32}
 use Rattle.slots.specs.declared.lawful.Side.the-variants.{Receiver}
 use Rattle.share_words.specs.Share.{acceptedAt, heldAt}
-use Rattle.slots.specs.Share.{askedOf, isOpen, prftOk, expectedOk, referenceOk, openOk, lawful}
+use Rattle.slots.specs.Share.{askedOf, isOpen, prftOk, expectedOk, lastOk, referenceOk, openOk, lawful}
 use Rattle.cmaf_write_front.specs.Front.{front}
 use Rattle.locmaf_read_said.specs.Said.{Says}
 use Rattle.field_rules.specs.Fields.{numbers}
@@ -25,7 +25,7 @@ use Rattle.locmaf_read_times.specs.Prft.{timesOf, prftOf}
 use Rattle.locmaf_read_events.specs.Values.{allFit, boxes}
 use Rattle.locmaf_read_times.proofs.PrftLaws.{prft-none, prft-some}
 use Rattle.receiver.specs.Object.{isDelta, headRungs, saying, payload}
-use Rattle.receiver.specs.Receive.{track, reference, bmdt, prft, events, brands, newSet, valuesOk, sumsOk, heldOk, idsRight, splitRungs, valueRungs, sequence, chunk, receiveRungs}
+use Rattle.receiver.specs.Receive.{track, reference, bmdt, prft, events, brands, toldSet, leftOut, ivsFit, newSet, valuesOk, sumsOk, heldOk, idsRight, splitRungs, valueRungs, sequence, chunk, receiveRungs}
 use Rattle.joining.specs.Number.{numberAt, numberIn, unnumbered}
 use Rattle.joining.specs.Near.{made}
 use Rattle.joining.proofs.NumberLaws.{front-place, front-unnumbered, front-number, front-long}
@@ -48,7 +48,7 @@ parted (a ∷ b ∷ c ∷ d ∷ e ∷ f ∷ g ∷ h ∷ []) l = absurd (omega ar
 -- an open share is lawful whatever its count of 32 bits is
 pub lawful-near : (a : Asked) (n m : ℕ) (r : List ℕ) → eqb (a .track) 0 ≡ false → n ≤ u32 → m ≤ u32
     → lawful Receiver (made a n r) ≡ lawful Receiver (made a m r)
-unfolding lawful openOk referenceOk prftOk expectedOk
+unfolding lawful openOk referenceOk prftOk expectedOk lastOk
 lawful-near a n m r e h k = rw (e, le-leb n u32 h, le-leb m u32 k)
 
 -- ---- an object on two shares that differ in their counts
@@ -87,7 +87,7 @@ module _ (F : List Row) (o : List ℕ) (a : Asked) (n m : ℕ) (r : List ℕ) wh
   frontWith z k = front (track F o z) k (newSet F o z) (length (payload F o)) (prft F o z .prft) (boxes (track F o z) (bmdt F o z) (events F o z)) (brands F o z)
 
   pub front-same : (k : ℕ) → frontWith s k ≡ frontWith s′ k
-  unfolding newSet bmdt events
+  unfolding newSet leftOut toldSet bmdt events
   front-same k =
       λ j. front (track F o s) k (newSet F o s) (length (payload F o)) (time-same j .prft) (boxes (track F o s) (bmdt F o s) (events F o s)) (brands F o s)
 
@@ -97,14 +97,14 @@ module _ (F : List Row) (o : List ℕ) (a : Asked) (n m : ℕ) (r : List ℕ) wh
 
   -- the rules of both are the same, one by one
   pub rungs-same : (room : List ℕ) → lawful Receiver s ≡ lawful Receiver s′ → receiveRungs F o room s ≡ receiveRungs F o room s′
-  unfolding receiveRungs isOpen heldOk splitRungs idsRight valueRungs sumsOk newSet bmdt
+  unfolding receiveRungs isOpen heldOk splitRungs idsRight valueRungs sumsOk ivsFit leftOut toldSet bmdt
   rungs-same room e =
       λ j.
       (e j else 18)
       ∷ (isOpen s else 2)
       ∷ (headRungs F o
       ++ ((heldOk F o s else 11)
-      ∷ ((splitRungs F o s ++ (setRungs (track F o s) (isDelta F o) (reference F o s) (saying F o) ++ ((values-same j else 15) ∷ (sumsOk F o s else 16) ∷ [])))
+      ∷ ((splitRungs F o s ++ (setRungs (track F o s) (isDelta F o) (reference F o s) (saying F o) ++ ((values-same j else 15) ∷ (sumsOk F o s else 16) ∷ (ivsFit F o s else 21) ∷ [])))
       ++ ((leb (chunk-long j) (length room) else 17) ∷ []))))
 
 -- ---- the number of an object

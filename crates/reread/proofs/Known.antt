@@ -10,6 +10,7 @@ use Rattle.laws.specs.Tests.{allLe}
 use Rattle.wire.specs.declared.form.Form.the-variants.{Rfc9000}
 use Rattle.laws.specs.Options.{isSome}
 use Rattle.block_items.specs.Events.{AllSayable}
+use Rattle.track.specs.Track.{ivOk}
 use Rattle.track.proofs.TrackLaws.{ranges}
 use Rattle.slots.specs.declared.lawful.Side.the-variants.{Encoder}
 use Rattle.share_words.specs.Share.{heldAt, prftAt, setAt, shareLen}
@@ -33,6 +34,7 @@ pub record Known (s c : List ℕ) (delta : Bool) : Type 0 where
   pub small : bmdt c ≤ 2 ^ 62 - 1
   -- the sets that are written, and written against
   pub sets : Writable (trackOf s) delta (drop setAt s) (fields (trackOf s) c)
+  pub iv : ivOk (trackOf s .protection) (trackOf s .«iv_size») ≡ true
   -- a delta has a reference, and a `prft` only where the reference has one
   pub held : delta ≡ true → eqb (getD s heldAt 0) 0 ≡ false
   pub prft-held : delta ≡ true → prft c .stands ≡ true → not (eqb (getD s prftAt 0) 0) ≡ true
@@ -62,6 +64,7 @@ known wish c s room low long zero =
             new = g .set .is-lawful;
             iv = ranges (askedOf s) (o .track) .iv-size;
           };
+      iv = iv-right s (o .track);
       held = delta-held F s c wish;
       prft-held = delta-prft F s c wish;
       fits = fits;

@@ -5,6 +5,7 @@ pub mod PartsTell
 pub mod BlockSaid
 pub mod BlockTells
 pub mod FieldRead
+pub mod ToldSet
 pub mod DeletionsRead
 pub mod SetRead
 pub mod PrftRead

@@ -1,36 +1,54 @@
 -- The encoder's object, read by the receiver: no rule refuses it, and what is read is what the chunk said. Assumes nothing.
-use Prim.Native.Nat.{ℕ, _+_, _-_, _≤_}
+use Prim.Native.Nat.{ℕ, _+_, _-_, _*_, _≤_}
 use native.Mathlib.Omega.{arith}
-use mathlib.Core.Path.{_≡_, sym, _∙_, ap}
-use mathlib.Core.Bool.{Bool, true, false, false≢true, not, cond}
+use mathlib.Core.Path.{_≡_, refl, sym, _∙_, ap}
+use mathlib.Core.Bool.{Bool, true, false, false≢true, not, cond, _&&_}
 use mathlib.Core.List.{List, [], _++_}
-use borrow.Author.Tests.{le-leb, not-false}
-use lib.ListN.{length, getD, drop, length-map}
-use Rattle.constants.specs.Maxima.{eventsMost, eventBytesMost, brandBytesMost}
+use borrow.Author.Tests.{le-leb, not-true, not-false}
+use borrow.Table.Steps.{cases}
+use lib.Dec.{eqb}
+use lib.ListN.{length, getD, drop, replicate, length-map, length-replicate}
+use lib.Seq.{sets}
+use Rattle.constants.specs.Maxima.{eventsMost, eventBytesMost, brandBytesMost, samplesMost}
+use Rattle.laws.specs.Tests.{allLe}
 use Rattle.laws.specs.Ladder.{Hold}
+use Rattle.laws.specs.Options.{isSome}
 use Rattle.laws.proofs.LadderLaws.{hold-append}
-use Rattle.laws.proofs.TestLaws.{both, neither, unless}
+use Rattle.laws.proofs.TestLaws.{both, neither, unless, and-left, and-right}
 use Rattle.track.specs.declared.Track.{Track}
-use Rattle.share_words.specs.Share.{heldAt, prftAt, setAt}
+use Rattle.field_table.specs.Lines.{lines, spare, lineFor, ivsLine, ivsAt, subsamplesAt}
+use Rattle.field_set.specs.Lawful.{has, countIn}
+use Rattle.field_set.proofs.LawfulLaws.{lawful-facts}
+use Rattle.effective.specs.Sums.{sizesOk, protectedOk}
+use Rattle.counters.specs.Counter.{counters}
+use Rattle.counters.specs.Follow.{ivWords, ivsFollow, derivedFit}
+use Rattle.counters.proofs.IvsLaws.{ivs-in}
+use Rattle.counters.proofs.BesideLaws.{beside-has, beside-derived, beside-sizes, beside-protected}
+use Rattle.counters.proofs.BackLaws.{follow-fit, follow-back}
+use Rattle.share_words.specs.Share.{heldAt, prftAt, lastAt, setAt}
 use Rattle.slots.specs.Share.{trackOf}
 use Rattle.slots.proofs.ShareParts.{same-track, same-kept, same-set}
-use Rattle.field_rules.specs.Fields.{numbers}
+use Rattle.field_rules.specs.Fields.{numbers, stood}
 use Rattle.locmaf_read_said.specs.Deletions.{moofField}
 use Rattle.locmaf_read_set.specs.Read.{setRungs}
-use Rattle.locmaf_read_times.specs.declared.prft.Told.{Told}
+use Rattle.locmaf_read_times.specs.declared.prft.Told.{Told as ToldPrft}
 use Rattle.receiver.specs.Object.{isDelta, reads, saying}
-use Rattle.receiver.specs.Receive.{heldOk, newSet, valuesOk, sumsOk, idsRight, splitRungs, valueRungs, judgeRungs}
+use Rattle.receiver.specs.Receive.{heldOk, toldSet, leftOut, ivsFit, newSet, valuesOk, sumsOk, idsRight, splitRungs, valueRungs, judgeRungs}
 use Rattle.receiver.specs.Receive as Receive
 use Rattle.locmaf_write_events.specs.Records.{sent, listBytes}
+use Rattle.locmaf_write_block.specs.declared.cells.Change.the-variants.{Omitted, Deleted, Sent}
+use Rattle.locmaf_write_block.specs.Changes.{changeOf}
 use Rattle.cmaf_read_chunk.specs.Accepted.{bmdt, prft, brands, boxes, events, payload, fields}
-use Rattle.encoder.specs.Object.{objectOf}
+use Rattle.encoder.specs.Object.{leavesOut, objectOf}
 use Rattle.cmaf_read_chunk.proofs.ChunkFacts.{fields-bmdt}
 use Rattle.cmaf_read_facts.specs.Given.{F}
+use Rattle.reread.specs.Sayings.{numbersBy, lineSays}
 use Rattle.reread.specs.Block.{blockSays}
 use Rattle.reread.specs.Read.{Alike, ReadAs, ObjectReads}
-use Rattle.reread.proofs.BlockSaid.{bmdt-back, brands-back, set-said}
+use Rattle.reread.proofs.BlockSaid.{line-said, bmdt-back, brands-back, set-said}
 use Rattle.reread.proofs.BlockTells.{tell-block}
 use Rattle.reread.proofs.ObjectParts.{kind-is, heads-hold, tuples-are, entries-are, said, payload-is}
+use Rattle.reread.proofs.ToldSet.{Told, told-all, told-left, has-nine}
 use Rattle.reread.proofs.SetRead.{set-back, set-holds}
 use Rattle.reread.proofs.PrftRead.{prft-back, ids-back}
 use Rattle.reread.proofs.EventsRead.{listed-back, listed-bytes, boxes-back, all-fit}
@@ -67,9 +85,123 @@ module _ {s c : List ℕ} {delta : Bool} (k : Known s c delta) where
     unfolding Receive.bmdt
     bmdt-is = rw (said k, track-is, reference-is) (bmdt-back k ∙ fields-bmdt t c)
 
-    set-is : newSet F o s′ ≡ fields t c
-    unfolding newSet
-    set-is = rw (bmdt-is, said k, track-is, reference-is, kind-is k, ← fields-bmdt t c) (set-back (k .sets) (set-said k))
+    -- ---- the set: as it is told, and with the IVs that were left out
+
+    abbrev x : List ℕ
+    x = fields t c
+
+    abbrev n : ℕ
+    n = length (payload c)
+
+    last-is : getD s′ lastAt 0 ≡ getD s lastAt 0
+    last-is = word (lastAt - heldAt)
+
+    -- what is said of the IVs
+    nine : saying F o 9 ≡ lineSays t delta (leavesOut F s c delta) (drop setAt s) x (getD lines ivsLine spare)
+    unfolding lines
+    nine = rw (said k) (line-said k ivsLine (omega arith))
+
+    -- the set is told as some other is; then no rule on it refuses
+    module _ {y : List ℕ} (w : Told t delta (leavesOut F s c delta) (drop setAt s) x y) where
+      told-is : toldSet F o s′ ≡ y
+      unfolding toldSet
+      told-is = rw (bmdt-is, said k, track-is, reference-is, kind-is k, ← fields-bmdt t c, ← w .start) (set-back (k .sets) (set-said k) w)
+
+      told-holds : Hold (setRungs (trackOf s′) (isDelta F o) (drop setAt s′) (saying F o))
+      told-holds = rw (track-is, reference-is, kind-is k, said k) (set-holds (k .sets) (set-said k) w)
+
+    -- what is read of the set: no rule refuses it, its sums are right, no IV passes its size, and it is the chunk's
+    record SetIs : Type 0 where
+      holds : Hold (setRungs (trackOf s′) (isDelta F o) (drop setAt s′) (saying F o))
+      sums : sumsOk F o s′ ≡ true
+      fit : ivsFit F o s′ ≡ true
+      same : newSet F o s′ ≡ x
+
+    sums-right : (y : List ℕ) → toldSet F o s′ ≡ y → sizesOk t y n ≡ sizesOk t x n → protectedOk t y n ≡ protectedOk t x n → sumsOk F o s′ ≡ true
+    unfolding sumsOk
+    sums-right y q a b = rw (track-is, q, payload-is k) (both _ _ (a ∙ k .given .set .sizes) (b ∙ k .given .set .protected))
+
+    -- all IVs are sent
+    sent-left : leavesOut F s c delta ≡ false → toldSet F o s′ ≡ x → leftOut F o s′ ≡ false
+    unfolding leftOut lineSays changeOf has lines lineFor
+    sent-left e q = rw (kind-is k, nine, reference-is, q, e) (by delta (eqb (getD x ivsAt 0) 0) (stood delta (drop setAt s) (getD lines ivsLine spare)) _ _)
+      where
+        by : (d a o h : Bool) (zs : List ℕ) → (d && (not (isSome (numbersBy (cond (not a) (cond (o && false) Omitted Sent) (cond o Deleted Omitted)) zs)) && (h && not a))) ≡ false
+        by false a o h zs = refl
+        by true false true h zs = refl
+        by true false false h zs = refl
+        by true true true true zs = refl
+        by true true true false zs = refl
+        by true true false true zs = refl
+        by true true false false zs = refl
+
+    sent-set : leavesOut F s c delta ≡ false → SetIs
+    unfolding ivsFit newSet
+    sent-set e =
+        let w = told-all t delta (leavesOut F s c delta) (drop setAt s) x (k .sets .new-words) (k .sets .new) e in
+        let q = told-is w in
+        let l = sent-left e q in
+        record { holds = told-holds w; sums = sums-right x q refl refl; fit = rw l; same = rw l q }
+
+    -- they are left out
+    module _ (e : leavesOut F s c delta ≡ true) where
+      is-delta : delta ≡ true
+      unfolding leavesOut
+      is-delta = and-left delta _ e
+
+      follows : ivsFollow t (getD s lastAt 0) (drop setAt s) x n ≡ true
+      unfolding leavesOut
+      follows = and-right delta _ e
+
+      old-has : has 9 (drop setAt s) ≡ true
+      unfolding ivsFollow
+      old-has = and-left (has 9 (drop setAt s)) _ follows
+
+      new-has : has 9 x ≡ true
+      unfolding ivsFollow
+      new-has = and-left (has 9 x) _ (and-right (has 9 (drop setAt s)) _ follows)
+
+      abbrev zeros : List ℕ
+      zeros = replicate (countIn x * ivWords t) 0
+
+      abbrev y : List ℕ
+      y = sets x (ivsAt + 1) zeros
+
+      w : Told t delta (leavesOut F s c delta) (drop setAt s) x y
+      w = rw (is-delta, rw is-delta at e) (told-left t (drop setAt s) x (k .sets .new-words) (k .sets .new) (k .sets .iv) old-has new-has)
+
+      much : length zeros ≡ countIn x * ivWords t
+      much = length-replicate (countIn x * ivWords t) 0
+
+      room : ivsAt + 1 + length zeros ≤ subsamplesAt
+      room = omega (arith, much, ivs-in t x (k .sets .new) new-has .room)
+
+      left : leftOut F o s′ ≡ true
+      unfolding leftOut lineSays changeOf lines
+      left =
+          let mark : eqb (getD x ivsAt 0) 0 ≡ false = not-true _ (sym (has-nine x) ∙ new-has) in
+          let old : eqb (getD (drop setAt s) ivsAt 0) 0 ≡ false = not-true _ (sym (has-nine (drop setAt s)) ∙ old-has) in
+          let here : has 9 y ≡ true = beside-has x zeros room 9 ∙ new-has in
+          rw (kind-is k, nine, reference-is, told-is w, e, is-delta, mark, old, old-has, here)
+
+      left-set : SetIs
+      unfolding ivsFit newSet
+      left-set =
+          let long = k .sets .new-words in
+          let good = k .sets .new in
+          let few : countIn x ≤ samplesMost = lawful-facts t x good .count in
+          let q = told-is w in
+          let d : derivedFit t (getD s lastAt 0) (drop setAt s) y n ≡ true =
+          ap (allLe (counters (ivWords t) - 1)) (beside-derived x zeros room few t n (getD s lastAt 0) (drop setAt s)) ∙ follow-fit t (getD s lastAt 0) (drop setAt s) x n long good (k .iv) follows in
+          record {
+            holds = told-holds w;
+            sums = sums-right y q (beside-sizes x zeros room few t n) (beside-protected x zeros room few t n);
+            fit = rw (left, track-is, last-is, reference-is, q, payload-is k) d;
+            same = rw (left, track-is, last-is, reference-is, q, payload-is k) (follow-back t (getD s lastAt 0) (drop setAt s) x n long good (k .iv) follows zeros much);
+          }
+
+    set-is : SetIs
+    set-is = cases (leavesOut F s c delta) left-set sent-set
 
     prft-is : Receive.prft F o s′ ≡ record { ok = true; prft = prft c }
     unfolding Receive.prft
@@ -120,16 +252,11 @@ module _ {s c : List ℕ} {delta : Bool} (k : Known s c delta) where
         names-few true = omega arith
         names-few false = k .given .names-few
 
-    sums : sumsOk F o s′ ≡ true
-    unfolding sumsOk
-    sums = rw (track-is, set-is, payload-is k) (both _ _ (k .given .set .sizes) (k .given .set .protected))
-
     judged : Hold (judgeRungs F o s′)
     unfolding valueRungs
     judged =
         hold-append (splitRungs F o s′) _ split
-        (hold-append (setRungs (trackOf s′) (isDelta F o) (drop setAt s′) (saying F o)) _
-        (rw (track-is, reference-is, kind-is k, said k) (set-holds (k .sets) (set-said k))) (values, (sums, tt)))
+        (hold-append (setRungs (trackOf s′) (isDelta F o) (drop setAt s′) (saying F o)) _ (set-is .holds) (values, (set-is .sums, (set-is .fit, tt))))
 
     read : ReadAs o s s′ c delta
     unfolding events
@@ -139,8 +266,8 @@ module _ {s c : List ℕ} {delta : Bool} (k : Known s c delta) where
           heads = heads-hold k;
           held = held;
           judged = judged;
-          set = set-is;
-          time = ap (λ (z : Told). z .prft) prft-is;
+          set = set-is .same;
+          time = ap (λ (z : ToldPrft). z .prft) prft-is;
           list = rw (bmdt-is, events-is) (boxes-back t (bmdt c) (boxes c) (k .given .boxed));
           names = names-is;
           rest = payload-is k;
