@@ -99,7 +99,7 @@ module _ {F : List Row} {t : Track} {s c : List ℕ} {k : Chunk} {ws x : List �
   -- the block is one part after another
   block-is : blockItems F s c delta ≡ setRead before timesRead before versionRead before brandsRead before flagsRead before eventsRead before goneRead
   unfolding blockItems
-  block-is = rw (same-sets h (fieldItems F) e, same-sets h (deletionItems F) e, leaves-is h y, prft-is h, brands-are h, events-is) refl
+  block-is = rw (same-sets h (fieldItems F) e, same-sets h (deletionItems F) e, leaves-is h delta y, prft-is h, brands-are h, events-is) refl
 
   -- all were weighed
   pub block-weighed : {p q r n f a g : Weight} → WeighedAs F setRead setMost p → WeighedAs F timesRead (pairMost + pairMost) q

@@ -145,20 +145,20 @@ module _ {F : List Row} {t : Track} {s c : List ℕ} {k : Chunk} {ws x : List �
       ∙ ap (λ (u : Track). f u delta follow (drop setAt s) (fields u c)) (h .on-share .track-is)
 
   -- whether the IVs are left out is what the chunk and the share say
-  pub leaves-is : {delta follow : Bool} → Leaves t delta s x follow → follow ≡ leavesOut F s c delta
+  pub leaves-is : (delta : Bool) {follow : Bool} → Leaves t delta s x follow → follow ≡ leavesOut F s c delta
   unfolding leavesOut
-  leaves-is {delta} y =
+  leaves-is delta y =
       y (length (payload c))
       ∙ ap (λ (w : List ℕ). delta && ivsFollow t (getD s lastAt 0) (drop setAt s) w (length (payload c))) (h .accepted .set-is)
       ∙ ap (λ (u : Track). delta && ivsFollow u (getD s lastAt 0) (drop setAt s) (fields u c) (length (payload c))) (h .on-share .track-is)
 
   -- a set behind the reference, if there is one
-  pub behind : Behind t (getD s lastAt 0) (lent s) x
+  pub behind : Behind t (getD s lastAt 0) (drop setAt s) x
   behind =
       record {
-        old-words = rw (part-to-end s setAt) (reference-long s (h .on-share .share));
+        old-words = reference-long s (h .on-share .share);
         new-words = h .set-long;
-        old = λ o. rw (part-to-end s setAt, h .on-share .track-is) (lawful-there Encoder s (h .on-share .share) (h .on-share .lawful-share) (h .on-share .opened) (rw (part-to-end s setAt) at o));
+        old = λ o. rw (h .on-share .track-is) (lawful-there Encoder s (h .on-share .share) (h .on-share .lawful-share) (h .on-share .opened) o);
         new = h .lawful-set;
         iv = rw (h .on-share .track-is) (lawful-iv (askedOf s) (facts .track));
         small = last-there Encoder s (h .on-share .share) (h .on-share .lawful-share) (h .on-share .opened);

@@ -83,12 +83,7 @@ fn accept(
         (now (c .entry)) a (now (output .exit)) (now (s .exit)) ⌝ }
 {
     let mut kept = [0usize; KEPT];
-    // a full object has all its IVs, so that it is not asked for one
-    let follow = if wish {
-        counters::follow::ivs_follow(t, s[share::LAST], &s[share::SET..], x)
-    } else {
-        false
-    };
+    let follow = front::follows(t, wish, s, x);
     let a = front::choose(form, t, wish, follow, s, k, events, x, &mut kept);
     if !a.fits {
         return answer::refused(9);

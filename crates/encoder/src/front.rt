@@ -4,10 +4,11 @@
 ghost use mathlib.Core.Path.{_≡_};
 ghost use mathlib.Core.Bool.{true};
 ghost use Prim.Native.Nat.{_≤_};
-ghost use lib.ListN.{length, drop};
+ghost use lib.ListN.{length, getD, drop};
 ghost use Rattle.laws.specs.Writes.{Wrote};
 ghost use Rattle.wire.specs.Form.{rows};
-ghost use Rattle.share_words.specs.Share.{shareLen, setAt};
+ghost use Rattle.share_words.specs.Share.{shareLen, lastAt, setAt};
+ghost use Rattle.counters.specs.Follow.{Behind};
 ghost use Rattle.locmaf_write_tuples.specs.Items.{weightMost};
 ghost use Rattle.locmaf_write_block.specs.Fields.{keptLen, Kept};
 ghost use Rattle.encoder.specs.Object.{headerOf, mayDelta, objectOf};
@@ -34,6 +35,17 @@ fn may_delta(wish: bool, s: &[u64], p: Prft) -> bool
     ensures { λ b. ⌜ b ≡ mayDelta (now (s .entry)) p wish ⌝ }
 {
     wish & ((s[share::HELD] != 0) & (!p.stands | (s[share::PRFT] != 0)))
+}
+
+// Whether the IVs follow from the reference's. A full object has all of them, so that it is asked only where a delta is wished for.
+pub fn follows(t: Track, wish: bool, s: &[u64], x: &[u64]) -> bool
+    requires { ⌜ (length (now s) ≡ shareLen) × Behind t (getD (now s) lastAt 0) (drop setAt (now s)) (now x) ⌝ }
+    ensures { λ f. ⌜ (wish ≡ true → Leaves t true (now (s .entry)) (now (x .entry)) f) ⌝ }
+{
+    if !wish {
+        return false;
+    }
+    counters::follow::ivs_follow(t, s[share::LAST], &s[share::SET..], x)
 }
 
 // A delta where one is wished for and possible, else a full object, else none. `follow` says whether the IVs follow, if a delta is wished for.

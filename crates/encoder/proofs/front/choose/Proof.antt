@@ -34,7 +34,7 @@ block-size-requires : tie.Need-block-size-requires
 block-size-requires c κs =
     let b = c .before .before .before .before .before .before .before .before in
     let m = may-so _ (b .pre .0 .1) (c .before .before .may-delta .ensures) ∙ c .before .if1 .taken in
-    (b .pre .0, ((λ d. may-held (rows (b .args .form)) _ _ _ m), (b .pre .1 .0 (may-wished _ _ _ m), b .pre .1 .1)))
+    (b .pre .0, ((λ d. may-held (rows (b .args .form)) _ _ _ m), b .pre .1 .0 (may-wished _ _ _ m), b .pre .1 .1))
 
 returns : tie.Need-returns
 returns c =
@@ -43,22 +43,23 @@ returns c =
     let may = c .before .before .before .before .before .before .may-delta .ensures in
     let yes = c .before .before .before .before .before .if1 .taken in (
       λ o h. planned-delta _ _ _ _ (bmdt-small h) (may-so _ h may ∙ yes) (p .0 o h) (c .if2 .taken),
-      (b .pre .1 .0 (may-wished _ _ _ (may-so _ (b .pre .0 .1) may ∙ yes)), p .1),
+      b .pre .1 .0 (may-wished _ _ _ (may-so _ (b .pre .0 .1) may ∙ yes)),
+      p .1,
     )
 
 same-length : tie.Need-same-length
-same-length c = returns c .1 .1 .fields .lines .long ∙ sym (c .before .before .before .before .before .before .before .before .before .before .before .before .pre .1 .1)
+same-length c = returns c .2 .fields .lines .long ∙ sym (c .before .before .before .before .before .before .before .before .before .before .before .before .pre .1 .1)
 
 block-size-requires-2 : tie.Need-block-size-requires-2
-block-size-requires-2 c κs = (c .before .before .before .before .before .before .before .before .pre .0, ((λ d. absurd (false≢true d)), ((λ payload. refl), still-long (c .before))))
+block-size-requires-2 c κs = (c .before .before .before .before .before .before .before .before .pre .0, ((λ d. absurd (false≢true d)), (λ payload. refl), still-long (c .before)))
 
 returns-2 : tie.Need-returns-2
 returns-2 c =
     let p = c .before .before .block-size2 .ensures in
-    (λ o h. planned-full _ _ _ _ (bmdt-small h) (no-delta (c .before .before .before .before) o h) (p .0 o h), ((λ payload. refl), p .1))
+    (λ o h. planned-full _ _ _ _ (bmdt-small h) (no-delta (c .before .before .before .before) o h) (p .0 o h), (λ payload. refl), p .1)
 
 same-length-2 : tie.Need-same-length-2
-same-length-2 c = returns-2 c .1 .1 .fields .lines .long ∙ sym (c .before .before .before .before .before .before .before .before .before .before .before .pre .1 .1)
+same-length-2 c = returns-2 c .2 .fields .lines .long ∙ sym (c .before .before .before .before .before .before .before .before .before .before .before .pre .1 .1)
 
 pub choose-spec : {M : Type 1} → statement M
 choose-spec =

@@ -32,7 +32,7 @@ expected-of-requires c κs = c .before .before .before .before .before .before .
 set-size-requires : tie.Need-set-size-requires
 set-size-requires c κs =
     let b = c .before .before .before .before .before .before .before .before .before in
-    ((basis-own (writable (b .pre .0 .1) _ (b .pre .1 .0)) (c .before .before .basis-of .ensures), expected-is (b .pre .0 .1) (c .before .expected-of .ensures)), b .pre .1 .1 .1)
+    ((basis-own (writable (b .pre .0 .1) _ (b .pre .1 .0)) (c .before .before .basis-of .ensures), expected-is (b .pre .0 .1) (c .before .expected-of .ensures)), b .pre .1 .2)
 
 times-size-requires : tie.Need-times-size-requires
 times-size-requires c κs = c .before .before .before .before .before .before .before .before .before .before .before .before .pre .0 .1 .on-share .share
@@ -46,8 +46,8 @@ brands-size-requires c κs = c .before .before .before .before .before .before .
 flags-size-requires : tie.Need-flags-size-requires
 flags-size-requires c κs = c .before .before .before .before .before .before .before .before .before .before .before .before .before .before .before .pre .0 .1 .on-share .share
 
-shared-slice-read-t27 : tie.Need-shared-slice-read-t27
-shared-slice-read-t27 c = let z = c .before .before .before .before .before .before .before .before .before .before .before .before .before .before .before .before .before .pre .0 .1 .set-long in search needs
+shared-slice-read-t28 : tie.Need-shared-slice-read-t28
+shared-slice-read-t28 c = let z = c .before .before .before .before .before .before .before .before .before .before .before .before .before .before .before .before .before .pre .0 .1 .set-long in search needs
 
 events-size-requires : tie.Need-events-size-requires
 events-size-requires c κs = let e = recorded (c .before .before .before .before .before .before .before .before .before .before .before .before .before .before .before .before .before .pre .0 .1) in (e .words, e .short)
@@ -129,7 +129,7 @@ returns c =
     let e = g .before in
     let f = e .before .before .before .before .before .before .before .before in
     let b = f .before .before .before .basis-of .ensures in
-    let y = c .before .before .before .before .before .before .before .before .before .before .before .before .before .before .before .before .before .before .before .before .before .before .before .before .before .pre .1 .1 .0 in (
+    let y = c .before .before .before .before .before .before .before .before .before .before .before .before .before .before .before .before .before .before .before .before .before .before .before .before .before .pre .1 .1 in (
       λ o h.
           block-weighed h _ y b (f .set-size .ensures .0) (e .before .before .before .before .before .times-size .ensures) (e .before .before .before .before .version-size .ensures)
           (e .before .before .before .brands-size .ensures _ (names-length o _ (h .brand-bytes) (brands-inside h))) (e .before .before .flags-size .ensures)
@@ -139,7 +139,7 @@ returns c =
     )
 
 same-length : tie.Need-same-length
-same-length c = returns c .1 .fields .lines .long ∙ sym (c .before .before .before .before .before .before .before .before .before .before .before .before .before .before .before .before .before .before .before .before .before .before .before .before .before .pre .1 .1 .1)
+same-length c = returns c .1 .fields .lines .long ∙ sym (c .before .before .before .before .before .before .before .before .before .before .before .before .before .before .before .before .before .before .before .before .before .before .before .before .before .pre .1 .2)
 
 pub block-size-spec : {M : Type 1} → statement M
 block-size-spec =
@@ -155,7 +155,7 @@ block-size-spec =
     version-size-requires
     brands-size-requires
     flags-size-requires
-    shared-slice-read-t27
+    shared-slice-read-t28
     events-size-requires
     deletions-size-requires
     slice-write-kept

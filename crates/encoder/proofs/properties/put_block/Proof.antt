@@ -15,8 +15,8 @@ part-r-start c = search needs
 part-r-end : tie.Need-part-r-end
 part-r-end c = search needs
 
-shared-slice-read-t21 : tie.Need-shared-slice-read-t21
-shared-slice-read-t21 c = let z = c .before .before .before .before .before .before .before .before .pre .0 .set-long in search needs
+shared-slice-read-t22 : tie.Need-shared-slice-read-t22
+shared-slice-read-t22 c = let z = c .before .before .before .before .before .before .before .before .pre .0 .set-long in search needs
 
 basis-of-requires : tie.Need-basis-of-requires
 basis-of-requires c κs = let b = c .before .before .before .before .before .before .before .before in writable (b .pre .0) _ (b .pre .1 .0 .0)
@@ -76,7 +76,7 @@ put-block-spec =
     sub-r
     part-r-start
     part-r-end
-    shared-slice-read-t21
+    shared-slice-read-t22
     basis-of-requires
     expected-of-requires
     put-set-requires
