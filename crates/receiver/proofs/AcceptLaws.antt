@@ -14,6 +14,7 @@ use Rattle.laws.proofs.WriteLaws.{wrote-front}
 use Rattle.wire.specs.declared.form.Row.{Row}
 use Rattle.track.specs.declared.Track.{Track}
 use Rattle.track.specs.Track.{u32}
+use Rattle.field_set.specs.Lawful.{lawful as lawfulSet}
 use Rattle.slots.specs.declared.lawful.Side.the-variants.{Receiver}
 use Rattle.share_words.specs.Share.{acceptedAt}
 use Rattle.slots.specs.Share.{lawful}
@@ -56,6 +57,10 @@ module _ (F : List Row) (o s : List ℕ) (t : Track) (p : Place) (a : Judgeable 
   sequence-is = refl
 
   module _ (j : Judged) (ws x : List ℕ) (r : Ready F o s j ws x) where
+    -- the new set is lawful on the track that is lent
+    pub set-good : lawfulSet t x ≡ true
+    set-good = ap (λ (u : Track). lawfulSet u x) (a .track) ∙ r .good
+
     -- the brands as they are lent
     pub brands-lent : take (j .brands .at + j .brands .len - j .brands .at) (drop (j .brands .at) o) ≡ brands F o s
     brands-lent = slice-lent (j .brands .at) (j .brands .at + j .brands .len) o (omega arith) (r .inside) ∙ r .named
@@ -82,7 +87,7 @@ module _ (F : List Row) (o s : List ℕ) (t : Track) (p : Place) (a : Judgeable 
       need-is n q h u = h ∙ ap length (sym (ap fronted u ∙ front-is))
 
       pub done-is : (output : List ℕ) (q n : ℕ) (after kept : List ℕ) → q ≡ sequence F o s → Wrote output 0 (fronted q) after n
-          → kept ≡ keptWords (p .delta) q (j .prft) x s
+          → kept ≡ keptWords (p .delta) q (j .prft) x (length o - p .end) s
           → AnsweredAs (done F o output s) o (record { number = 0; front = n; payload = record { at = p .end; len = length o - p .end } }) after kept
       unfolding accepted
       done-is output q n after kept u f g =
@@ -90,8 +95,8 @@ module _ (F : List Row) (o s : List ℕ) (t : Track) (p : Place) (a : Judgeable 
           let l : n ≡ length (chunk F o s) = wrote-front f .0 ∙ ap length w in
           let d : p .delta ≡ isDelta F o = ap (λ (z : Place). z .delta) (a .place) in
           let y : after ≡ chunk F o s ++ drop (length (chunk F o s)) output = wrote-front f .1 ∙ (λ i. w i ++ drop (length (w i)) output) in
-          let z : kept ≡ keptWords (isDelta F o) (sequence F o s) (prft F o s .prft) (newSet F o s) s =
-          g ∙ (λ i. keptWords (d i) (u i) (r .time i) (r .words i) s) in
+          let z : kept ≡ keptWords (isDelta F o) (sequence F o s) (prft F o s .prft) (newSet F o s) (length (payload F o)) s =
+          g ∙ (λ i. keptWords (d i) (u i) (r .time i) (r .words i) (payload-long a i) s) in
           record { so = λ i. out (took 0 (l i) (behind-is i) (y i)) (z i); inside = omega (arith, rest-long) }
 
 -- there is room for so many bytes, or there isn't

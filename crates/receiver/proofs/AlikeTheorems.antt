@@ -2,12 +2,12 @@
 use Prim.Native.Nat.{ℕ, _+_, _%_, _^_, _<_}
 use native.Mathlib.Omega.{arith}
 use mathlib.Core.Path.{_≡_, refl, sym, _∙_, ap, subst}
-use mathlib.Core.Bool.{Bool, true, false, not, _&&_, _||_, Bool·beq, false≢true}
+use mathlib.Core.Bool.{Bool, true, false, cond, not, _&&_, _||_, Bool·beq, false≢true}
 use mathlib.Core.List.{List, [], _∷_, _++_, List·Permᴰ}
 use mathlib.Core.Option.{Option, none, some}
 use borrow.Author.Tests.{not-true}
 use lib.Dec.{eqb}
-use lib.ListN.{getD, take}
+use lib.ListN.{length, getD, take}
 use lib.Seq.{getD-take, take-take}
 use Rattle.laws.specs.Tests.{_and_}
 use Rattle.laws.specs.Ladder.{Rung, _else_, ladder, Hold}
@@ -17,7 +17,7 @@ use Rattle.wire.specs.declared.form.Row.{Row}
 use Rattle.track.specs.declared.Track.{Track}
 use Rattle.track.specs.Track.{narrow}
 use Rattle.slots.specs.declared.lawful.Side.the-variants.{Receiver}
-use Rattle.share_words.specs.Share.{acceptedAt, heldAt, prftAt}
+use Rattle.share_words.specs.Share.{acceptedAt, heldAt, prftAt, lastAt}
 use Rattle.slots.specs.Share.{asked, trackOf, isOpen, lawful as lawfulShare}
 use Rattle.slots.specs.Table.{Out, out}
 use Rattle.slots.specs.Calls.{openedRungs}
@@ -36,14 +36,18 @@ use Rattle.locmaf_read_times.proofs.BmdtLaws.{bmdt-sent}
 use Rattle.locmaf_read_times.proofs.PrftFacts.{full-alone}
 use Rattle.answers.specs.Took.{Took, refused}
 use Rattle.slots.proofs.ShareParts.{same-track}
-use Rattle.reference.specs.Kept.{prftWords, expectedWords, expectedAfter, referenceWords, keptWords}
+use Rattle.reference.specs.Kept.{prftWords, besideWords, expectedAfter, lastAfter, referenceWords, keptWords}
+use Rattle.field_set.specs.Lawful.{has}
 use Rattle.effective.specs.Expected.{nextTime, expectedBy}
+use Rattle.counters.specs.Protected.{lastProtected}
+use Rattle.counters.specs.Follow.{derivedFit, withDerived}
 use Rattle.receiver.specs.Object.{isDelta, headRungs, tuples, reads, entries, saying, payload}
-use Rattle.receiver.specs.Receive.{reference, bmdt, prft, events, newSet, heldOk, idsRight, splitRungs, valueRungs, sequence, accepted, refusing, done, receiveRungs, receiving}
+use Rattle.receiver.specs.Receive.{reference, bmdt, prft, events, toldSet, leftOut, ivsFit, newSet, heldOk, idsRight, splitRungs, valueRungs, sequence, accepted, refusing, done, receiveRungs, receiving}
 use Rattle.receiver.specs.Laws.{FullForgets, AnyOrder}
 use Rattle.receiver.proofs.SaidLaws.{head-inside, one-number}
 use Rattle.receiver.proofs.SameLaws.{early, late, two-parts, Same, same-late, same-took, words-full, rules-full}
 use Rattle.receiver.proofs.SplitLaws.{entries-is}
+use Rattle.receiver.proofs.LeftLaws.{full-fits, full-set}
 
 -- ---- the ladder
 
@@ -100,10 +104,14 @@ none-is none e = refl
 none-is (some zs) e = absurd (false≢true (sym e))
 
 -- what it leaves doesn't go by what was kept
-kept-full : (delta : Bool) (s s′ : List ℕ) {n n′ : ℕ} {p p′ : Prft} {w w′ : List ℕ} → delta ≡ false
-    → take acceptedAt s ≡ take acceptedAt s′ → n ≡ n′ → p ≡ p′ → w ≡ w′ → keptWords delta n p w s ≡ keptWords delta n′ p′ w′ s′
-unfolding keptWords expectedAfter
-kept-full delta s s′ d e a b c = rw d (λ j. e j ++ (a j ∷ referenceWords (prftWords (b j)) (expectedWords (expectedBy (nextTime (same-track s s′ e j) (c j)))) (c j)))
+kept-full : (delta : Bool) (s s′ : List ℕ) (bytes : ℕ) {n n′ : ℕ} {p p′ : Prft} {w w′ : List ℕ} → delta ≡ false
+    → take acceptedAt s ≡ take acceptedAt s′ → n ≡ n′ → p ≡ p′ → w ≡ w′ → keptWords delta n p w bytes s ≡ keptWords delta n′ p′ w′ bytes s′
+unfolding keptWords expectedAfter lastAfter
+kept-full delta s s′ bytes d e a b c =
+    rw d
+    (λ j.
+    let t = same-track s s′ e j in
+    e j ++ (a j ∷ referenceWords (prftWords (b j)) (besideWords (expectedBy (nextTime t (c j))) (lastProtected t (c j) bytes)) (c j)))
 
 words-forgot : (t t′ : Track) (delta : Bool) (r r′ : List ℕ) (said : Says) (b b′ : ℕ) → delta ≡ false → t ≡ t′ → b ≡ b′
     → newWords t delta r said b ≡ newWords t′ delta r′ said b′
@@ -160,12 +168,14 @@ module _ (F : List Row) (o s s′ : List ℕ) (d : isDelta F o ≡ false) (h : l
   start-same z q = rw q (bmdt-sent (trackOf s) z [] (reference F o s) ∙ sym (bmdt-sent (trackOf s′) z [] (reference F o s′)))
 
   forgot : Hold (early F o s) → Same F o o s s′
-  unfolding idsRight prft newSet events
+  unfolding idsRight prft toldSet events
   forgot k =
       let ids = ids-stand (isDelta F o) _ _ d (right _ _ (early-ids F o s k)) in
       let ten = some-is (saying F o 10) (ids .0) in
       let one = one-number F o (head-inside F o (early-head F o s k)) (ten .0) (ten .1) in
       let start : bmdt F o s ≡ bmdt F o s′ = start-same (one .0) (ten .1 ∙ ap some (one .1)) in
+      let told : toldSet F o s ≡ toldSet F o s′ =
+      words-forgot (trackOf s) (trackOf s′) (isDelta F o) (reference F o s) (reference F o s′) (saying F o) _ _ d track-same start in
       record {
         clock = track-same;
         start = start;
@@ -173,7 +183,9 @@ module _ (F : List Row) (o s s′ : List ℕ) (d : isDelta F o ≡ false) (h : l
         list = refl;
         listed = refl;
         named = refl;
-        words = words-forgot (trackOf s) (trackOf s′) (isDelta F o) (reference F o s) (reference F o s′) (saying F o) _ _ d track-same start;
+        told = told;
+        ivs = full-fits F o s d ∙ sym (full-fits F o s′ d);
+        words = full-set F o s d ∙ told ∙ sym (full-set F o s′ d);
         rules =
             rules-forgot (trackOf s) (trackOf s′) (isDelta F o) (reference F o s) (reference F o s′) (saying F o) d track-same
             (none-is (saying F o 27) (ids .1));
@@ -185,7 +197,7 @@ module _ (F : List Row) (o s s′ : List ℕ) (d : isDelta F o ≡ false) (h : l
   unfolding accepted
   accepted-same k =
       let a = forgot k in
-      kept-full (isDelta F o) s s′ d front-same count-same (ap (λ x. x .prft) (a .time)) (a .words)
+      kept-full (isDelta F o) s s′ (length (payload F o)) d front-same count-same (ap (λ x. x .prft) (a .time)) (a .words)
 
   answers-same : (output : List ℕ) → receiving F o output s .answer ≡ receiving F o output s′ .answer
   unfolding receiving
@@ -248,9 +260,12 @@ module _ (F : List Row) (o o′ s : List ℕ) (es us : List Entry) (hr : headRun
   early-turned = λ j. openedRungs Receiver s ++ (hr j ++ ((held-turned j else 11) ∷ (reads-turned j else 12) ∷ (ids-turned j else 13) ∷ []))
 
   turned : Hold (early F o s) → Same F o o′ s s
-  unfolding idsRight bmdt prft events newSet sequence
+  unfolding idsRight bmdt prft events toldSet leftOut ivsFit newSet sequence
   turned k =
       let q = says-turned (left _ _ (early-ids F o s k)) in
+      let told : toldSet F o s ≡ toldSet F o′ s
+      = λ j. newWords (trackOf s) (hd j) (reference F o s) (q j) (bmdtOf (trackOf s) (q j 10) (reference F o s)) in
+      let gone : leftOut F o s ≡ leftOut F o′ s = λ j. hd j && (not (isSome (q j 9)) && (has 9 (reference F o s) && has 9 (told j))) in
       record {
         clock = refl;
         start = λ j. bmdtOf (trackOf s) (q j 10) (reference F o s);
@@ -258,7 +273,9 @@ module _ (F : List Row) (o o′ s : List ℕ) (es us : List Entry) (hr : headRun
         list = λ j. listed F (q j 25);
         listed = λ j. numbers (q j 25);
         named = λ j. numbers (q j 23);
-        words = λ j. newWords (trackOf s) (hd j) (reference F o s) (q j) (bmdtOf (trackOf s) (q j 10) (reference F o s));
+        told = told;
+        ivs = λ j. not (gone j) || derivedFit (trackOf s) (getD s lastAt 0) (reference F o s) (told j) (length (hp j));
+        words = λ j. cond (gone j) (withDerived (trackOf s) (getD s lastAt 0) (reference F o s) (told j) (length (hp j))) (told j);
         rules = λ j. setRungs (trackOf s) (hd j) (reference F o s) (q j);
         rest = hp;
         count = refl;
@@ -266,7 +283,7 @@ module _ (F : List Row) (o o′ s : List ℕ) (es us : List Entry) (hr : headRun
 
   accepted-turned : Hold (early F o s) → accepted F o s ≡ accepted F o′ s
   unfolding accepted
-  accepted-turned k = let a = turned k in λ j. keptWords (hd j) (a .count j) (a .time j .prft) (a .words j) s
+  accepted-turned k = let a = turned k in λ j. keptWords (hd j) (a .count j) (a .time j .prft) (a .words j) (length (hp j)) s
 
 -- the order of the tuples changes nothing, be the ids lawful or not
 pub any-order : AnyOrder

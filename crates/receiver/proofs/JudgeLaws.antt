@@ -36,27 +36,28 @@ use Rattle.locmaf_read_times.specs.declared.prft.Told.{Told}
 use Rattle.locmaf_read_times.specs.declared.bmdt.Bmdt.{Bmdt}
 use Rattle.locmaf_read_times.specs.Bmdt.{bmdtOf, BmdtAs}
 use Rattle.slots.specs.declared.lawful.Side.the-variants.{Receiver}
+use Rattle.share_words.specs.Share.{lastAt}
 use Rattle.slots.specs.Share.{expectedIn}
 use Rattle.effective.specs.Expected.{nextTime, expectedBy}
 use Rattle.locmaf_read_times.specs.Prft.{prftOf}
-use Rattle.locmaf_read_events.specs.Events.{EventsRead, eventsOk}
+use Rattle.locmaf_read_events.specs.Events.{EventsRead}
 use Rattle.locmaf_read_events.specs.Values.{allFit, boxes}
 use Rattle.told_sizes.specs.Sums.{Summable}
-use Rattle.effective.specs.Sums.{sizesOk, protectedOk}
+use Rattle.counters.specs.Follow.{Behind}
 use Rattle.locmaf_read_events.proofs.ValueLaws.{EventsTold, said-count, said-size, said-told}
 use Rattle.told_sizes.proofs.SumLaws.{lawful-summable}
 use Rattle.effective.proofs.SumLaws.{sizes-sized}
 use Rattle.byte_parts.specs.declared.Part.{Part}
 use Rattle.receiver.specs.declared.judge.Judged.{Judged}
 use Rattle.receiver.specs.Object.{isDelta, blockEnd, saying, payload}
-use Rattle.receiver.specs.Receive.{track, reference, bmdt, prft, events, brands, newSet, valuesOk, sumsOk, valueRungs}
-use Rattle.receiver.specs.declared.judge.Values.{Values}
-use Rattle.receiver.specs.Judge.{partIn, sumsIn, Judgeable, Split, TestedAs, JudgedAs}
+use Rattle.receiver.specs.Receive.{track, reference, bmdt, prft, events, brands, toldSet, newSet, valuesOk, sumsOk, ivsFit, valueRungs}
+use Rattle.receiver.specs.Judge.{partIn, sumsIn, Judgeable, Split, JudgedAs}
 use Rattle.locmaf_read_times.proofs.PrftFacts.{prft-says, prft-headed}
-use Rattle.reference.proofs.OpenLaws.{reference-long, expected-there}
-use Rattle.receiver.proofs.ShareFacts.{iv-most, delta-lawful, kept-small}
+use Rattle.reference.proofs.OpenLaws.{reference-long, expected-there, last-there, lawful-there}
+use Rattle.receiver.proofs.ShareFacts.{iv-most, iv-right, delta-lawful, kept-small}
 use Rattle.receiver.proofs.SaidLaws.{raw-bytes}
 use Rattle.receiver.proofs.BrandLaws.{BrandsTold, brands-told, brands-fours}
+use Rattle.receiver.proofs.LeftLaws.{Like, new-like}
 
 -- ---- two tests, one after the other
 
@@ -121,7 +122,7 @@ module _ (F : List Row) (o s : List ℕ) where
         small = leb-true _ _ (and-right (leb (length (events F o s)) eventsMost) _ e₅);
       }
 
-  values-broken : plainOk ≡ false → valuesOk F o s ≡ false
+  pub values-broken : plainOk ≡ false → valuesOk F o s ≡ false
   unfolding valuesOk _and_
   values-broken e = rw e
 
@@ -130,17 +131,21 @@ module _ (F : List Row) (o s : List ℕ) where
   values-fit e = rw e
 
   -- the number of the first that is broken
-  fifteen : valuesOk F o s ≡ false → 15 ≡ ladder (valueRungs F o s) (λ k. k) 0
+  pub fifteen : valuesOk F o s ≡ false → 15 ≡ ladder (valueRungs F o s) (λ k. k) 0
   unfolding valueRungs
   fifteen e = broken _ _ _ _ _ e
 
-  sixteen : valuesOk F o s ≡ true → sumsOk F o s ≡ false → 16 ≡ ladder (valueRungs F o s) (λ k. k) 0
+  pub sixteen : valuesOk F o s ≡ true → sumsOk F o s ≡ false → 16 ≡ ladder (valueRungs F o s) (λ k. k) 0
   unfolding valueRungs
   sixteen e h = passed _ _ _ _ _ e (broken _ _ _ _ _ h)
 
-  nothing : valuesOk F o s ≡ true → sumsOk F o s ≡ true → 0 ≡ ladder (valueRungs F o s) (λ k. k) 0
+  pub twenty-one : valuesOk F o s ≡ true → sumsOk F o s ≡ true → ivsFit F o s ≡ false → 21 ≡ ladder (valueRungs F o s) (λ k. k) 0
   unfolding valueRungs
-  nothing e h = passed _ _ _ _ _ e (passed _ _ _ _ _ h (top _ _))
+  twenty-one e h i = passed _ _ _ _ _ e (passed _ _ _ _ _ h (broken _ _ _ _ _ i))
+
+  nothing : valuesOk F o s ≡ true → sumsOk F o s ≡ true → ivsFit F o s ≡ true → 0 ≡ ladder (valueRungs F o s) (λ k. k) 0
+  unfolding valueRungs
+  nothing e h i = passed _ _ _ _ _ e (passed _ _ _ _ _ h (passed _ _ _ _ _ i (top _ _)))
 
   -- of a refusal its number is asked alone
   pub judged-none : (rungs : List Rung) (k : ℕ) (a : Judged) (ws x : List ℕ) → a .number ≡ k → (k ≡ 0 → ⊥) → k ≡ ladder rungs (λ i. i) 0
@@ -290,8 +295,9 @@ module _ {F : List Row} {o s : List ℕ} {t : Track} {p : Place} {index ev : Lis
     stored-long = ap length stored ∙ new-words b
 
     module _ (ok : plainOk F o s ≡ true) where
-      stored-set : store x 0 b ≡ newSet F o s
-      unfolding newSet
+      -- they are those that the object tells
+      pub stored-set : store x 0 b ≡ toldSet F o s
+      unfolding toldSet
       stored-set =
           stored
           ∙ ap (λ (u : Track). newWords u (isDelta F o) (reference F o s) (saying F o) b) (w .head .track)
@@ -307,100 +313,77 @@ module _ {F : List Row} {o s : List ℕ} {t : Track} {p : Place} {index ev : Lis
       pub stored-summable : Summable (store x 0 b)
       stored-summable = lawful-summable t (store x 0 b) stored-long stored-lawful
 
-      module _ {y : Bool} {ws : List ℕ} (read : EventsRead t b o ev (getD index (manyAt 25) 0) y ws) (fit : valuesOk F o s ≡ true)
-          {z : Bool} (ez : z ≡ (sizesOk t (store x 0 b) (length o - p .end) and protectedOk t (store x 0 b) (length o - p .end))) where
-        pub sums-are : z ≡ sumsOk F o s
+      -- what IVs that are left out follow from
+      pub stored-behind : Behind t (getD s lastAt 0) (reference F o s) (store x 0 b)
+      stored-behind =
+          record {
+            old-words = long;
+            new-words = stored-long;
+            old =
+                λ e.
+                ap (λ (u : Track). lawfulSet u (reference F o s)) (w .head .track)
+                ∙ lawful-there Receiver s (w .head .share) (w .head .lawful) (w .head .opened) e;
+            new = stored-lawful;
+            iv = rw (w .head .track) (iv-right s (w .head .share) (w .head .lawful) (w .head .opened));
+            small = last-there Receiver s (w .head .share) (w .head .lawful) (w .head .opened);
+          }
+
+      -- the code's test of the sums is the rules'
+      pub sums-are : sumsIn t (store x 0 b) (length o - p .end) ≡ sumsOk F o s
+      unfolding sumsOk
+      sums-are = λ i. sumsIn (w .head .track i) (stored-set i) (payload-long (w .head) i)
+
+      -- ---- all is right
+
+      -- the new set, IVs that were left out among it
+      new : Like (track F o s) (toldSet F o s) (newSet F o s) (length (payload F o))
+      new = new-like F o s (ap length (sym stored-set) ∙ stored-long) (sym (λ i. lawfulSet (w .head .track i) (stored-set i)) ∙ stored-lawful)
+
+      headed : Headed (r .prft)
+      unfolding prft
+      headed =
+          let k = kept-small s (w .head .share) (w .head .lawful) (w .head .opened) in
+          rw prft-is (prft-headed (isDelta F o) (saying F o) s (k .0) (k .1) (plain-facts F o s ok .told))
+
+      branded : Branded (brands F o s)
+      branded =
+          record {
+            few = plain-facts F o s ok .named;
+            fours = brands-fours t (isDelta F o) (reference F o s) (saying F o) (g .hold);
+          }
+
+      module _ {y : Bool} {ws : List ℕ} (read : EventsRead t b o ev (getD index (manyAt 25) 0) y ws) (sums : sumsOk F o s ≡ true) where
+        -- it has a last size
+        sized : Sized (newSet F o s) (length (payload F o))
         unfolding sumsOk
-        sums-are =
-            ez
-            ∙ ap (λ (n : ℕ). sizesOk t (store x 0 b) n and protectedOk t (store x 0 b) n) (payload-long (w .head))
-            ∙ ap (λ (v : List ℕ). sizesOk t v (length (payload F o)) and protectedOk t v (length (payload F o))) stored-set
-            ∙ ap (λ (u : Track). sizesOk u (newSet F o s) (length (payload F o)) and protectedOk u (newSet F o s) (length (payload F o))) (w .head .track)
+        sized = sizes-sized (track F o s) (newSet F o s) (length (payload F o)) (new .sizes ∙ left _ _ sums) (plain-facts F o s ok .carried)
 
-        -- ---- all is right
-
-        headed : Headed (r .prft)
-        unfolding prft
-        headed =
-            let k = kept-small s (w .head .share) (w .head .lawful) (w .head .opened) in
-            rw prft-is (prft-headed (isDelta F o) (saying F o) s (k .0) (k .1) (plain-facts F o s ok .told))
-
-        branded : Branded (brands F o s)
-        branded =
+        -- and a front can be written from it
+        writable : Writable (track F o s) (newSet F o s) (length (payload F o)) (r .prft) o ws (getD index (manyAt 25) 0) (brands F o s)
+        writable =
             record {
-              few = plain-facts F o s ok .named;
-              fours = brands-fours t (isDelta F o) (reference F o s) (saying F o) (g .hold);
-            }
-
-        sized : sumsOk F o s ≡ true → Sized (store x 0 b) (length (payload F o))
-        sized h =
-            let e : (sizesOk t (store x 0 b) (length o - p .end) and protectedOk t (store x 0 b) (length o - p .end)) ≡ true = sym ez ∙ sums-are ∙ h in
-            rw (← payload-long (w .head)) (sizes-sized t (store x 0 b) (length o - p .end) (left _ _ e) (payload-most ok))
-
-        writable : sumsOk F o s ≡ true → Writable (track F o s) (store x 0 b) (length (payload F o)) (r .prft) o ws (getD index (manyAt 25) 0) (brands F o s)
-        writable h =
-            record {
-              set = rw (← w .head .track) (lawful-protectable t (store x 0 b) stored-long (iv-small (w .head)) stored-lawful);
-              sized = sized h;
+              set = lawful-protectable (track F o s) (newSet F o s) (new .long) (iv-most s (w .head .share) (w .head .lawful) (w .head .opened)) (new .good);
+              sized = sized;
               prft = headed;
               events = read .fits;
               brands = branded;
             }
 
-        pub accepts : sumsOk F o s ≡ true
-            → JudgedAs (valueRungs F o s) F o s (record { number = 0; prft = r .prft; events = getD index (manyAt 25) 0; brands = q }) ws (store x 0 b)
-        accepts h =
+        -- the number is 0, and all is ready
+        pub accepts : valuesOk F o s ≡ true → ivsFit F o s ≡ true → {z : List ℕ} → z ≡ newSet F o s
+            → JudgedAs (valueRungs F o s) F o s (record { number = 0; prft = r .prft; events = getD index (manyAt 25) 0; brands = q }) ws z
+        accepts fit ivs e =
             record {
-              answered = nothing F o s fit h;
+              answered = nothing F o s fit sums ivs;
               ready =
                   λ _.
                   record {
-                    words = stored-set;
+                    words = e;
                     time = ap (λ (u : Told). u .prft) prft-is;
                     list = boxes-are ok read;
                     inside = brands-are .inside;
                     named = brands-are .named;
-                    good = rw (← w .head .track) stored-lawful;
-                    writable = writable h;
+                    good = rw e (new .good);
+                    writable = rw e writable;
                   };
             }
-
--- ---- what was tested of the values decides the number
-module _ {F : List Row} {o s : List ℕ} {t : Track} {p : Place} {index ev x : List ℕ} {r : Told} (v : Values) (w : Worked F o s t p index ev (v .bmdt .0) r (v .brands))
-    (g : Gathered F o s t x) (same : v .ok ≡ plainOk F o s) {n : ℕ} {ws y : List ℕ}
-    (h : TestedAs t o v (length o - p .end) ev (getD index (manyAt 25) 0) x n ws y) where
-  abbrev judged : Judged
-  judged = record { number = n; prft = r .prft; events = getD index (manyAt 25) 0; brands = v .brands }
-
-  pub values-judged : JudgedAs (valueRungs F o s) F o s judged ws y
-  values-judged = by-value (v .ok) refl
-    where
-      refused : (k : ℕ) → n ≡ k → (k ≡ 0 → ⊥) → k ≡ ladder (valueRungs F o s) (λ i. i) 0 → JudgedAs (valueRungs F o s) F o s judged ws y
-      refused k = judged-none F o s (valueRungs F o s) k judged ws y
-
-      by-sums : (e : v .ok ≡ true) → eventsOk (v .bmdt .0) o (getD index (manyAt 25) 0) ev ≡ true → (z : Bool) → sumsIn t (store x 0 (v .bmdt .0)) (length o - p .end) ≡ z
-          → JudgedAs (valueRungs F o s) F o s judged ws y
-      by-sums e q z u = go z u
-        where
-          ok : plainOk F o s ≡ true
-          ok = sym same ∙ e
-
-          fit : valuesOk F o s ≡ true
-          fit = sym (fit-is w ok (h .read e)) ∙ q
-
-          sums : sumsIn t (store x 0 (v .bmdt .0)) (length o - p .end) ≡ sumsOk F o s
-          sums = sums-are w g ok (h .read e) fit refl
-
-          go : (z : Bool) → sumsIn t (store x 0 (v .bmdt .0)) (length o - p .end) ≡ z → JudgedAs (valueRungs F o s) F o s judged ws y
-          go false u = refused 16 (h .sums e q ∙ rw u) (λ i. omega arith) (sixteen F o s fit (sym sums ∙ u))
-          go true u =
-              let a : n ≡ 0 = h .sums e q ∙ rw u in
-              rw (a, h .stored e q) (accepts w g ok (h .read e) fit refl (sym sums ∙ u))
-
-      by-events : (e : v .ok ≡ true) (z : Bool) → eventsOk (v .bmdt .0) o (getD index (manyAt 25) 0) ev ≡ z → JudgedAs (valueRungs F o s) F o s judged ws y
-      by-events e false q = refused 15 (h .event e q) (λ i. omega arith) (fifteen F o s (sym (fit-is w (sym same ∙ e) (h .read e)) ∙ q))
-      by-events e true q = by-sums e q (sumsIn t (store x 0 (v .bmdt .0)) (length o - p .end)) refl
-
-      by-value : (z : Bool) → v .ok ≡ z → JudgedAs (valueRungs F o s) F o s judged ws y
-      by-value false e = refused 15 (h .out e) (λ i. omega arith) (fifteen F o s (values-broken F o s (sym same ∙ e)))
-      by-value true e = by-events e (eventsOk (v .bmdt .0) o (getD index (manyAt 25) 0) ev) refl

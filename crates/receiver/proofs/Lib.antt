@@ -3,7 +3,9 @@ pub mod SaidLaws
 pub mod SplitLaws
 pub mod BrandLaws
 pub mod TestedLaws
+pub mod LeftLaws
 pub mod JudgeLaws
+pub mod ValueNumber
 pub mod ClimbLaws
 pub mod HeadRungs
 pub mod AcceptLaws

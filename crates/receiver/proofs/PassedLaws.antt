@@ -16,7 +16,7 @@ use Rattle.slots.specs.Share.{trackOf, isOpen, lawful}
 use Rattle.slots.specs.Calls.{openedRungs}
 use Rattle.locmaf_read_set.specs.Read.{setRungs}
 use Rattle.receiver.specs.Object.{isDelta, headRungs, saying, payload}
-use Rattle.receiver.specs.Receive.{reference, bmdt, prft, valuesOk, sumsOk, heldOk, splitRungs, valueRungs, judgeRungs, chunk, roomRungs, receiveRungs}
+use Rattle.receiver.specs.Receive.{reference, bmdt, prft, valuesOk, sumsOk, ivsFit, heldOk, splitRungs, valueRungs, judgeRungs, chunk, roomRungs, receiveRungs}
 
 -- no rule is broken
 pub record Passed (F : List Row) (o output s : List ℕ) : Type 0 where
@@ -28,6 +28,7 @@ pub record Passed (F : List Row) (o output s : List ℕ) : Type 0 where
   pub fields : Hold (setRungs (trackOf s) (isDelta F o) (reference F o s) (saying F o))
   pub values : valuesOk F o s ≡ true
   pub sums : sumsOk F o s ≡ true
+  pub ivs : ivsFit F o s ≡ true
   pub room : length (chunk F o s) ≤ length output
 
 pub passed : (F : List Row) (o output s : List ℕ) → Hold (receiveRungs F o output s) → Passed F o output s
@@ -51,6 +52,7 @@ passed F o output s h =
       fields = hold-front set (valueRungs F o s) read;
       values = valued .0;
       sums = valued .1 .0;
+      ivs = valued .1 .1 .0;
       room = leb-true _ _ (roomy .0);
     }
 

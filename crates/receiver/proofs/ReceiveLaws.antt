@@ -116,7 +116,8 @@ module _ (F : List Row) (o s : List ℕ) where
       let r14 : _≡_ {A = ℕ} 14 0 → ⊥ = λ z. omega arith in
       let r15 : _≡_ {A = ℕ} 15 0 → ⊥ = λ z. omega arith in
       let r16 : _≡_ {A = ℕ} 16 0 → ⊥ = λ z. omega arith in
-      (r12, (r13, (r14, (r15, (r14, (r15, (r14, (r15, (r15, (r16, tt))))))))))
+      let r21 : _≡_ {A = ℕ} 21 0 → ⊥ = λ z. omega arith in
+      (r12, (r13, (r14, (r15, (r14, (r15, (r14, (r15, (r15, (r16, (r21, tt)))))))))))
 
   module _ (output : List ℕ) (j : Judged) (ws x : List ℕ) (h : JudgedAs (judgeRungs F o s) F o s j ws x) where
     pub judged-stops : (j .number ≡ 0 → ⊥) → refusing output s (j .number) ≡ taken F o output s

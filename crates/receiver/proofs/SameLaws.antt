@@ -31,7 +31,7 @@ use Rattle.locmaf_read_events.specs.Values.{allFit, boxes}
 use Rattle.effective.specs.Sums.{sizesOk, protectedOk}
 use Rattle.answers.specs.Took.{took}
 use Rattle.receiver.specs.Object.{isDelta, headRungs, saying, payload}
-use Rattle.receiver.specs.Receive.{reference, bmdt, prft, events, brands, newSet, valuesOk, sumsOk, heldOk, splitRungs, valueRungs, sequence, chunk, done, roomRungs, receiveRungs}
+use Rattle.receiver.specs.Receive.{reference, bmdt, prft, events, brands, toldSet, newSet, valuesOk, sumsOk, ivsFit, heldOk, splitRungs, valueRungs, sequence, chunk, done, roomRungs, receiveRungs}
 
 -- ---- the rungs in two parts
 
@@ -56,6 +56,8 @@ pub record Same (F : List Row) (o o′ s s′ : List ℕ) : Type 0 where
   pub list : events F o s ≡ events F o′ s′
   pub listed : numbers (saying F o 25) ≡ numbers (saying F o′ 25)
   pub named : brands F o s ≡ brands F o′ s′
+  pub told : toldSet F o s ≡ toldSet F o′ s′
+  pub ivs : ivsFit F o s ≡ ivsFit F o′ s′
   pub words : newSet F o s ≡ newSet F o′ s′
   pub rules : setRungs (trackOf s) (isDelta F o) (reference F o s) (saying F o) ≡ setRungs (trackOf s′) (isDelta F o′) (reference F o′ s′) (saying F o′)
   pub rest : payload F o ≡ payload F o′
@@ -74,7 +76,7 @@ module _ (F : List Row) (o o′ s s′ : List ℕ) (e : Same F o o′ s s′) wh
 
   same-sums : sumsOk F o s ≡ sumsOk F o′ s′
   unfolding sumsOk
-  same-sums = λ j. sizesOk (e .clock j) (e .words j) (length (e .rest j)) and protectedOk (e .clock j) (e .words j) (length (e .rest j))
+  same-sums = λ j. sizesOk (e .clock j) (e .told j) (length (e .rest j)) and protectedOk (e .clock j) (e .told j) (length (e .rest j))
 
   -- the front of the chunk
   pub same-chunk : chunk F o s ≡ chunk F o′ s′
@@ -86,7 +88,7 @@ module _ (F : List Row) (o o′ s s′ : List ℕ) (e : Same F o o′ s s′) wh
   pub same-late : (output : List ℕ) → late F o output s ≡ late F o′ output s′
   unfolding valueRungs
   same-late output =
-      λ j. (e .rules j ++ ((same-values j else 15) ∷ (same-sums j else 16) ∷ [])) ++ ((leb (length (same-chunk j)) (length output) else 17) ∷ [])
+      λ j. (e .rules j ++ ((same-values j else 15) ∷ (same-sums j else 16) ∷ (e .ivs j else 21) ∷ [])) ++ ((leb (length (same-chunk j)) (length output) else 17) ∷ [])
 
   -- what is handed back
   pub same-took : (output : List ℕ) → done F o output s .answer ≡ done F o′ output s′ .answer

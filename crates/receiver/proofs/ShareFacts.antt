@@ -11,13 +11,13 @@ use lib.Seq.{slice, getD-drop, getD-take}
 use Rattle.laws.specs.Tests.{allZero}
 use Rattle.laws.proofs.TestLaws.{and-left, and-right, zeros-are}
 use Rattle.wire.specs.declared.form.Row.{Row}
-use Rattle.track.proofs.TrackLaws.{ranges}
+use Rattle.track.proofs.TrackLaws.{ranges, lawful-iv}
 use Rattle.field_set.specs.Lawful.{lawful as lawfulSet}
 use Rattle.slots.specs.declared.lawful.Side.the-variants.{Receiver}
 use Rattle.share_words.specs.Share.{shareLen, heldAt, prftAt, ntpAt, versionAt, prftFlagsAt, mediaTimeAt, prftEnd, setAt}
 use Rattle.slots.specs.Share.{u24, u62, askedOf, trackOf, prftOk, referenceOk, isOpen, lawful}
 use Rattle.locmaf_read_index.proofs.AnswerLaws.{blank-zeros}
-use Rattle.track.specs.Track.{u32}
+use Rattle.track.specs.Track.{u32, ivOk}
 use Rattle.reference.proofs.OpenLaws.{Opened, opened-facts, held-facts}
 use Rattle.receiver.specs.Object.{isDelta}
 use Rattle.receiver.specs.Receive.{heldOk}
@@ -48,6 +48,10 @@ module _ (s : List ℕ) (l : length s ≡ shareLen) where
     -- the size of IVs
     pub iv-most : trackOf s .«iv_size» ≤ 16
     iv-most = ranges (askedOf s) (facts .track) .iv-size
+
+    -- which is one that the protection has
+    pub iv-right : ivOk (trackOf s .protection) (trackOf s .«iv_size») ≡ true
+    iv-right = lawful-iv (askedOf s) (facts .track)
 
     -- no reference is held, and then its words are zeros
     pub none-held : eqb (getD s heldAt 0) 0 ≡ true → allZero (drop prftAt s) ≡ true

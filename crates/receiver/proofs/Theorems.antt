@@ -3,11 +3,10 @@
 use Prim.Native.Nat.{ℕ, _-_, _%_, _≤_, _<_}
 use native.Mathlib.Omega.{arith}
 use mathlib.Core.Path.{_≡_, refl, sym, _∙_, ap, subst}
-use mathlib.Core.Bool.{Bool, true, false, _&&_}
+use mathlib.Core.Bool.{Bool, true, false}
 use mathlib.Core.List.{List, [], _∷_, _++_}
 use mathlib.Core.Option.{some}
 use borrow.Author.Tests.{le-leb}
-use lib.Dec.{leb}
 use lib.ListN.{length, drop}
 use lib.Seq.{drop-length}
 use Rattle.constants.specs.Maxima.{numberMost}
@@ -35,22 +34,25 @@ use Rattle.slots.specs.Calls.{openedRungs}
 use Rattle.slots.specs.Laws.{after, Keeps, Apart}
 use Rattle.slots.proofs.StaysLawful.{dropped-lawful, dropped-long}
 use Rattle.slots.proofs.Apart.{apart, others-stay}
-use Rattle.locmaf_read_set.proofs.NewSetLaws.{taken-facts, new-lawful, new-long}
+use Rattle.locmaf_read_set.proofs.NewSetLaws.{taken-facts, new-lawful, new-long as words-long}
 use Rattle.locmaf_read_times.proofs.PrftFacts.{prft-lawful}
+use Rattle.effective.specs.Sums.{sizesOk}
 use Rattle.effective.proofs.AgreeLaws.{sums-kept}
+use Rattle.counters.proofs.LastLaws.{last-kept}
 use Rattle.answers.specs.Took.{Took, refused, PastStays}
 use Rattle.answers.proofs.TookLaws.{refused-past}
 use Rattle.reference.proofs.OpenLaws.{Opened, opened-facts, held-facts, reference-long}
 use Rattle.prft_value.specs.Prft.{InRange}
 use Rattle.reference.proofs.AcceptedLaws.{accepted-long, accepted-lawful}
 use Rattle.receiver.specs.Object.{blockEnd, isDelta, headRungs, saying, payload}
-use Rattle.answers.specs.Refusals.{afterRefusal}
-use Rattle.receiver.specs.Receive.{reference, bmdt, prft, newSet, sumsOk, heldOk, judgeRungs, sequence, chunk, accepted, refusing, done, roomRungs, receiveRungs, receiving}
+use Rattle.answers.specs.Refusals.{droppedBy, afterRefusal}
+use Rattle.receiver.specs.Receive.{reference, bmdt, prft, toldSet, newSet, sumsOk, heldOk, judgeRungs, sequence, chunk, accepted, refusing, done, roomRungs, receiveRungs, receiving}
 use Rattle.receiver.specs.Laws.{ReceiveExactly, ReceiveStaysLawful, Refused, ReceiveRefuses, ReceivePast}
 use Rattle.receiver.proofs.ShareFacts.{delta-held, iv-most}
 use Rattle.receiver.proofs.PassedLaws.{Passed, passed, value-facts}
 use Rattle.receiver.proofs.SaidLaws.{raw-bytes, number-small}
-use Rattle.answers.proofs.RefusalLaws.{refusal-keeps}
+use Rattle.receiver.proofs.LeftLaws.{Like, new-long, new-like}
+use Rattle.answers.proofs.RefusalLaws.{refusal-drops, refusal-keeps}
 
 -- ---- numbers
 
@@ -69,26 +71,22 @@ receive-exactly F o output t slot =
 
 -- the share after a refusal, by its number
 module _ (s : List ℕ) where
-  refusal-drops : (k : ℕ) → leb 12 k && leb k 16 ≡ true → afterRefusal k s ≡ dropped s
-  unfolding afterRefusal
-  refusal-drops k e = rw e
-
   -- what holds of the share, and of the share without its reference
   pub refusal-either : (P : List ℕ → Type 0) (k : ℕ) → P s → P (dropped s) → P (afterRefusal k s)
-  refusal-either P k a b = go (leb 12 k && leb k 16) refl
+  refusal-either P k a b = go (droppedBy k) refl
     where
-      go : (c : Bool) → leb 12 k && leb k 16 ≡ c → P (afterRefusal k s)
-      go true e = subst P (sym (refusal-drops k e)) b
+      go : (c : Bool) → droppedBy k ≡ c → P (afterRefusal k s)
+      go true e = subst P (refusal-drops k s e) b
       go false e = subst P (refusal-keeps k s e) a
 
--- a refusal writes nothing and hands back nothing; 12 to 16 drop the reference, and any other changes nothing
+-- a refusal writes nothing and hands back nothing; 12 to 16 and 21 drop the reference, and any other changes nothing
 refusing-refused : (output s : List ℕ) (k : ℕ) → Refused output s (refusing output s k)
 refusing-refused output s k =
     record {
       front = refl;
       payload = refl;
       untouched = refl;
-      drops = λ a b. refusal-drops s k (rw (le-leb 12 k a, le-leb k 16 b));
+      drops = λ e. sym (refusal-drops k s e);
       kept = λ e. sym (refusal-keeps k s e);
     }
 
@@ -135,15 +133,15 @@ module _ (F : List Row) (o output s : List ℕ) (l : length s ≡ shareLen) (h :
   prft-good : isDelta F o ≡ true → prftOk s ≡ true
   prft-good d = held-facts (trackOf s) s (opened .reference) (delta-held F o s (h .held) d) .0
 
-  set-long : length (newSet F o s) ≡ setLen
-  unfolding newSet
-  set-long =
-      new-long (trackOf s) (isDelta F o) (reference F o s) (saying F o) (reference-long s l) set-good
+  told-long : length (toldSet F o s) ≡ setLen
+  unfolding toldSet
+  told-long =
+      words-long (trackOf s) (isDelta F o) (reference F o s) (saying F o) (reference-long s l) set-good
       (taken-facts (trackOf s) (isDelta F o) (reference F o s) (saying F o) (h .fields)) (iv-most s l (h .lawful) (h .opened)) (bmdt F o s)
 
   done-long : length (accepted F o s) ≡ shareLen
   unfolding accepted
-  done-long = accepted-long s l (isDelta F o) (sequence F o s) (prft F o s .prft) (newSet F o s) set-long
+  done-long = accepted-long s l (isDelta F o) (sequence F o s) (prft F o s .prft) (newSet F o s) (length (payload F o)) (new-long F o s ∙ told-long)
 
 -- a share's length stays, whatever the object's bytes are
 pub receive-keeps : (F : List Row) (o output : List ℕ) → Keeps (receiving F o output)
@@ -195,18 +193,21 @@ full-ranged form o s b e d =
 
 done-lawful : (form : Form) (o output s : List ℕ) → allLe 255 o ≡ true → length s ≡ shareLen → Passed (rows form) o output s
     → lawful Receiver (accepted (rows form) o s) ≡ true
-unfolding accepted newSet setOk sumsOk
+unfolding accepted toldSet setOk sumsOk
 done-lawful form o output s b l h =
     let F : List Row = rows form in
     let v = value-facts F o s (h .values) in
-    let good : lawfulSet (trackOf s) (newSet F o s) ≡ true =
+    let good : lawfulSet (trackOf s) (toldSet F o s) ≡ true =
     new-lawful (trackOf s) (isDelta F o) (reference F o s) (saying F o) (h .fields) (bmdt F o s) (v .0) (iv-most s l (h .lawful) (h .opened))
     (reference-long s l) (set-good F o output s l h) (raw-bytes F o b) in
+    let new : Like (trackOf s) (toldSet F o s) (newSet F o s) (length (payload F o)) = new-like F o s (told-long F o output s l h) good in
+    let sizes : sizesOk (trackOf s) (newSet F o s) (length (payload F o)) ≡ true = new .sizes ∙ left _ _ (h .sums) in
     let agree : sizesAgree (trackOf s) (newSet F o s) ≡ true =
-    sums-kept (trackOf s) (newSet F o s) (length (payload F o)) (lawful-summable (trackOf s) (newSet F o s) (set-long F o output s l h) good) (v .2)
-    (left _ _ (h .sums)) (right _ _ (h .sums)) in
-    accepted-lawful s l (isDelta F o) (sequence F o s) (prft F o s .prft) (newSet F o s) Receiver (h .opened) (opened F o output s l h) (count-ok F o s)
-    (prft-good F o output s l h) (full-ranged form o s b (v .1)) (both _ _ good agree)
+    sums-kept (trackOf s) (newSet F o s) (length (payload F o)) (lawful-summable (trackOf s) (newSet F o s) (new .long) (new .good)) (v .2)
+    sizes (new .sums ∙ right _ _ (h .sums)) in
+    accepted-lawful s l (isDelta F o) (sequence F o s) (prft F o s .prft) (newSet F o s) (length (payload F o)) Receiver (h .opened)
+    (opened F o output s l h) (count-ok F o s) (prft-good F o output s l h) (full-ranged form o s b (v .1))
+    (last-kept (trackOf s) (newSet F o s) (new .long) (new .good) (length (payload F o)) (v .2) sizes) (both _ _ (new .good) agree)
 
 pub receive-stays-lawful : ReceiveStaysLawful
 unfolding receiving receiveRungs

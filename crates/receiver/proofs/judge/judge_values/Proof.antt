@@ -1,17 +1,25 @@
 -- `receiver::judge::judge_values` meets its contract: what it was told decides the number, and what it leaves is ready. Assumes nothing.
 use borrow.Author.Needs.{needs}
+use Prim.Native.Nat.{ℕ, _+_, _-_}
+use native.Mathlib.Omega.{arith}
 use mathlib.Core.Path.{_≡_, sym, _∙_, ap}
+use mathlib.Core.Logic.{⊎-elim}
 use mathlib.Core.List.{List}
-use lib.ListN.{take, drop}
+use borrow.Rule.Slice.PartAt.{part-to-end}
+use lib.ListN.{length, take, drop, length-drop}
 use Rattle.laws.proofs.TestLaws.{all-bytes}
+use Rattle.laws.proofs.HalvesLaws.{front-in, front-stays, rest-new}
+use Rattle.field_table.specs.Lines.{setLen}
 use Rattle.wire.specs.declared.form.Row.{Row}
 use Rattle.event_value.specs.Events.{eventsLen}
 use Rattle.prft_value.specs.declared.Prft.{Prft}
 use Rattle.locmaf_read_said.specs.Said.{scalarIn}
 use Rattle.locmaf_read_times.specs.Prft.{prftOf}
 use Rattle.locmaf_read_times.specs.declared.prft.Told.{Told}
-use Rattle.receiver.specs.Judge.{SetRead}
-use Rattle.receiver.proofs.JudgeLaws.{Worked, Gathered, plainOk, lent-expected, end-inside, plain-is, events-lent, payload-most, some-words, stored-summable, values-judged}
+use Rattle.receiver.specs.Judge.{SetRead, IvsAs}
+use Rattle.receiver.proofs.JudgeLaws.{Worked, Gathered, plainOk, lent-expected, end-inside, plain-is, events-lent, payload-most, some-words, stored-summable}
+use Rattle.receiver.proofs.TestedLaws.{ivs-same}
+use Rattle.receiver.proofs.ValueNumber.{ivs-lent, values-judged}
 use Rattle.receiver.proofs.judge.judge_values.Statement.{statement}
 use Rattle.receiver.proofs.judge.judge_values.Tie as tie
 
@@ -83,15 +91,80 @@ values-number-requires c κs =
       start g .pre .1,
     )
 
+-- all words as `values_number` leaves them
+abbrev back : tie.After-words → List ℕ
+back w = w .before .values-number .last .1 .1 .1 .1 .0
+
+-- they are as many as before
+back-long : (w : tie.After-words) → length (back w) ≡ eventsLen + setLen
+back-long w = w .words .given ∙ start (w .before .before .before) .pre .1
+
+-- what `ivs_number` is lent of them
+lent : (w : tie.After-words) → take (length (back w) - eventsLen) (drop eventsLen (back w)) ≡ drop eventsLen (back w)
+lent w = part-to-end (back w) eventsLen
+
+sub-ivs-number : tie.Need-sub-ivs-number
+sub-ivs-number c = let w = c .before .before in front-in eventsLen setLen (back w) (back-long w)
+
+part-ivs-number-start : tie.Need-part-ivs-number-start
+part-ivs-number-start c = let w = c .before .before in front-in eventsLen setLen (back w) (back-long w)
+
+part-ivs-number-end : tie.Need-part-ivs-number-end
+part-ivs-number-end c = search needs
+
+ivs-number-requires : tie.Need-ivs-number-requires
+ivs-number-requires c κs =
+    let w = c .before .before .before in
+    let g = w .before .before .before in
+    let v = start g .pre .0 in
+    let l : length (drop eventsLen (back w)) ≡ setLen = omega (arith, length-drop eventsLen (back w), back-long w) in
+    rw (lent w) (
+      (v .1 .head .share, v .1 .split .telling .words, l),
+      λ _.
+          ivs-lent (g .values-of .result) (worked g (v .0) (v .1)) (gathered g (v .0) (v .1)) (within g (v .0) (v .1)) (w .before .values-number .ensures) (c .before .if1 .taken),
+    )
+
+-- ---- the IVs were asked, or not
+
+module _ (c : tie.Joined1) where
+  abbrev words : tie.After-words
+  words = c .before .before
+
+  -- the events stay
+  events-stay : take eventsLen (c .if1 .words) ≡ take eventsLen (back words)
+  events-stay =
+      ⊎-elim (λ w. ap (take eventsLen) (w .5) ∙ front-stays eventsLen setLen (back words) (back-long words) (w .2 .last .1 .1 .1 .1 .0))
+      (λ w. ap (take eventsLen) (w .1)) (c .if1 .came)
+
+  -- the number is that of the values and sums, where it isn't 0
+  not-asked : (words .before .values-number .result ≡ 0 → ⊥) → c .if1 .number ≡ words .before .values-number .result
+  not-asked d = ⊎-elim (λ w. absurd (d (w .0 .taken))) (λ w. w .2) (c .if1 .came)
+
+  -- and that of the IVs, where it is
+  asked : words .before .values-number .result ≡ 0 → (bytes : ℕ)
+      → let a = start (words .before .before .before) .args in
+      IvsAs (a .t) (a .p .delta) (a .s .now) (a .index .now) (drop eventsLen (back words)) bytes (c .if1 .number) (drop eventsLen (c .if1 .words))
+  asked z bytes =
+      ⊎-elim
+      (λ w.
+      ivs-same (lent words) (w .6) (ap (drop eventsLen) (w .5) ∙ rest-new eventsLen setLen (back words) (back-long words) (w .2 .last .1 .1 .1 .1 .0))
+      (w .2 .ensures bytes))
+      (λ w. absurd (w .0 .left z)) (c .if1 .came)
+
+  -- there are as many words
+  all-stay : length (c .if1 .words) ≡ length (back words)
+  all-stay = ⊎-elim (λ w. ap length (w .5) ∙ w .3 .given .1) (λ w. ap length (w .1)) (c .if1 .came)
+
 same-length : tie.Need-same-length
-same-length c = search needs
+same-length c = all-stay (c .before .before) ∙ c .before .before .before .before .words .given
 
 returns : tie.Need-returns
 returns c =
     λ F v.
-    let n = c .before .before .before .before in
-    let g = n .before .before in
-    values-judged (g .values-of .result) (worked g F v) (gathered g F v) (within g F v) (n .values-number .ensures)
+    let j = c .before .before in
+    let w = j .before .before in
+    let g = w .before .before .before in
+    values-judged (g .values-of .result) (worked g F v) (gathered g F v) (within g F v) (w .before .values-number .ensures) (not-asked j) (asked j) (events-stay j)
 
 pub judge-values-spec : {M : Type 1} → statement M
 judge-values-spec =
@@ -101,5 +174,9 @@ judge-values-spec =
     sub-payload
     values-of-requires
     values-number-requires
+    sub-ivs-number
+    part-ivs-number-start
+    part-ivs-number-end
+    ivs-number-requires
     same-length
     returns)

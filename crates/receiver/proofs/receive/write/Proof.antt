@@ -2,11 +2,12 @@
 use denote.Ref.{now}
 use Rattle.field_set.proofs.TidyLaws.{lawful-tidy}
 use Rattle.slots.specs.declared.lawful.Side.the-variants.{Receiver}
+use Rattle.told_sizes.proofs.SumLaws.{lawful-summable}
 use Rattle.effective.proofs.DurationLaws.{lawful-timed}
 use Rattle.reference.proofs.OpenLaws.{share-tidy}
 use Rattle.reference.proofs.AcceptedLaws.{renewable, all-kept}
 use Rattle.receiver.proofs.JudgeLaws.{end-inside}
-use Rattle.receiver.proofs.AcceptLaws.{count-small, sequence-is, writable, need-is, done-is}
+use Rattle.receiver.proofs.AcceptLaws.{count-small, sequence-is, set-good, writable, need-is, done-is}
 use borrow.Author.Needs.{needs}
 use Rattle.receiver.proofs.receive.write.Statement.{statement}
 use Rattle.receiver.proofs.receive.write.Tie as tie
@@ -39,9 +40,13 @@ keep-requires c κs =
 renew-requires : tie.Need-renew-requires
 renew-requires c κs =
     let b = c .before .before .before .before .before .before .before .before .before .before .before .before .before .before .before .before .before in
-    let v = b .pre .1 .acceptable in
-    let l = v .ready .writable .set .long in
-    renewable (now (b .args .s)) (v .head .share) _ _ _ (now (b .args .x)) _ (c .before .before .before .keep .ensures) l (lawful-timed _ _ l (v .ready .good))
+    let v = b .pre .1 in
+    let h = v .acceptable .head in
+    let r = v .acceptable .ready in
+    let l = r .writable .set .long in
+    let g = set-good _ _ _ _ _ h _ _ _ r in
+    renewable (now (b .args .s)) (h .share) _ _ _ (now (b .args .x)) _ _ (c .before .before .before .keep .ensures) l (lawful-timed _ _ l g) (lawful-summable _ _ l g)
+    (writable _ _ _ _ _ h _ _ _ r (v .named) .sized) (b .args .t) g
 
 same-length : tie.Need-same-length
 same-length c = search needs
@@ -57,7 +62,7 @@ returns c =
     λ F v.
     let h = v .acceptable .head in
     done-is _ _ _ _ _ h _ _ _ (v .acceptable .ready) (v .named) (now (a .output)) _ _ _ _ (sequence-is _ _ _ _ _ h) (w .put-front .ensures)
-    (all-kept (now (a .s)) (h .share) _ _ _ (now (a .x)) _ (d .keep .ensures) _ (h .track) _ (c .before .before .renew .ensures))
+    (all-kept (now (a .s)) (h .share) _ _ _ (now (a .x)) _ _ (d .keep .ensures) _ (h .track) _ (c .before .before .renew .ensures))
 
 pub write-spec : {M : Type 1} → statement M
 write-spec =
