@@ -56,12 +56,12 @@ abbrev pub toldField : Track → Bool → Bool → List ℕ → List ℕ → Lin
 toldField t delta follow r x l =
     cond (stands t delta r x l && (isIvs (l .want) && omits t delta follow r x l)) (some (replicate (wanted (l .want) (measureOf t x)) 0)) (fieldIn t x l)
 
-module _ {t : Track} {delta follow : Bool} {r x : List ℕ} (w : Writable t delta r x) (i : ℕ) (lt : i < lineCount) where
+module _ {t : Track} {delta : Bool} {r x : List ℕ} (w : Writable t delta r x) (i : ℕ) (lt : i < lineCount) where
   abbrev l : Line
   l = getD lines i spare
 
-  f : Field t (basisOf t delta follow r x) r x l
-  f = field-of t (basisOf t delta follow r x) r x i l (w, refl) (lt, refl)
+  f : Field t (basisOf t delta false r x) r x l
+  f = field-of t (basisOf t delta false r x) r x i l (w, refl) (lt, refl)
 
   -- the values, as many as there were and are to be
   abbrev old : List ℕ
@@ -107,20 +107,6 @@ module _ {t : Track} {delta follow : Bool} {r x : List ℕ} (w : Writable t delt
   unfolding ivsWide
   wide-bound e = eqb-true _ _ (rw e at (every-at ivsWide lines i spare all-wide (omega (arith, line-count))))
 
-  -- a field that is omitted is what it was
-  kept-back : isIvs (l .want) ≡ false → omits t delta follow r x l ≡ true → cell omitted ≡ well (some new)
-  unfolding cellOf carried
-  kept-back v e =
-      let (s, more) = both-of (stood delta r l) (cond (isIvs (l .want)) follow (same old new)) e in
-      let q : old ≡ new = same-is _ _ (rw v at more) in
-      let m : j ≡ k = sym (old-length s) ∙ ap length q ∙ new-length in
-      rw (s, v, eq-eqb j k m, q)
-
-  -- but for IVs, which get room
-  room-back : isIvs (l .want) ≡ true → omits t delta follow r x l ≡ true → cell omitted ≡ well (some (replicate k 0))
-  unfolding cellOf carried
-  room-back v e = let s : stood delta r l ≡ true = both-of (stood delta r l) (cond (isIvs (l .want)) follow (same old new)) e .0 in rw (s, v)
-
   -- one that is sent: IVs, a value, or a list
   sent-back : stands t delta r x l ≡ true → cell (sent (sentNumbers t delta r x l)) ≡ well (some new)
   unfolding cellOf sentNumbers sentList sentOne allLe
@@ -142,23 +128,6 @@ module _ {t : Track} {delta follow : Bool} {r x : List ℕ} (w : Writable t delt
       let n : length (wires coding base old new) ≡ k = wires-length coding base old new ∙ new-length in
       rw (a, o, eq-eqb (length (wires coding base old new)) k n, steps-back coding base (l .bound) old new (within s))))
 
-  -- what is said of it
-  said-omitted : stands t delta r x l ≡ true → omits t delta follow r x l ≡ true → lineSaying t delta follow r x l ≡ omitted
-  unfolding lineSaying lineSays changeOf
-  said-omitted a e = rw (a, e)
-
-  said-sent : stands t delta r x l ≡ true → omits t delta follow r x l ≡ false → lineSaying t delta follow r x l ≡ sent (sentNumbers t delta r x l)
-  unfolding lineSaying lineSays changeOf
-  said-sent a e = rw (a, e)
-
-  said-deleted : stands t delta r x l ≡ false → stood delta r l ≡ true → lineSaying t delta follow r x l ≡ deleted
-  unfolding lineSaying lineSays changeOf
-  said-deleted a o = rw (a, o)
-
-  said-never : stands t delta r x l ≡ false → stood delta r l ≡ false → lineSaying t delta follow r x l ≡ omitted
-  unfolding lineSaying lineSays changeOf
-  said-never a o = rw (a, o)
-
   -- one that is deleted, or was never there, isn't there
   none-deleted : cell deleted ≡ well none
   unfolding cellOf
@@ -168,25 +137,77 @@ module _ {t : Track} {delta follow : Bool} {r x : List ℕ} (w : Writable t delt
   unfolding cellOf
   none-there o = rw o
 
-  -- whichever
-  pub field-back : cell (lineSaying t delta follow r x l) ≡ well (toldField t delta follow r x l)
-  field-back =
-      cases (stands t delta r x l)
-      (λ a.
-      cases (omits t delta follow r x l)
-      (λ e.
-      cases (isIvs (l .want))
-      (λ v. ap cell (said-omitted a e) ∙ room-back v e ∙ sym (ap well (rw (a, v, e))))
-      (λ v. ap cell (said-omitted a e) ∙ kept-back v e ∙ sym (ap well (rw (a, v)))))
-      (λ e. ap cell (said-sent a e) ∙ sent-back a ∙ sym (ap well (told-sent a e))))
-      (λ a.
-      cases (stood delta r l)
-      (λ o. ap cell (said-deleted a o) ∙ none-deleted ∙ sym (ap well (rw a)))
-      (λ o. ap cell (said-never a o) ∙ none-there o ∙ sym (ap well (rw a))))
-    where
-      never : (b : Bool) → (b && false) ≡ false
-      never true = refl
-      never false = refl
+  -- `follow` says that the IVs follow
+  module _ (follow : Bool) where
+    -- a field that is omitted is what it was
+    kept-back : isIvs (l .want) ≡ false → omits t delta follow r x l ≡ true → cell omitted ≡ well (some new)
+    unfolding cellOf carried
+    kept-back v e =
+        let (s, more) = both-of (stood delta r l) (cond (isIvs (l .want)) follow (same old new)) e in
+        let q : old ≡ new = same-is _ _ (rw v at more) in
+        let m : j ≡ k = sym (old-length s) ∙ ap length q ∙ new-length in
+        rw (s, v, eq-eqb j k m, q)
 
-      told-sent : stands t delta r x l ≡ true → omits t delta follow r x l ≡ false → toldField t delta follow r x l ≡ some new
-      told-sent a e = rw (a, e, never (isIvs (l .want)))
+    -- but for IVs, which get room
+    room-back : isIvs (l .want) ≡ true → omits t delta follow r x l ≡ true → cell omitted ≡ well (some (replicate k 0))
+    unfolding cellOf carried
+    room-back v e = let s : stood delta r l ≡ true = both-of (stood delta r l) (cond (isIvs (l .want)) follow (same old new)) e .0 in rw (s, v)
+
+    -- what is said of it
+    said-omitted : stands t delta r x l ≡ true → omits t delta follow r x l ≡ true → lineSaying t delta follow r x l ≡ omitted
+    unfolding lineSaying lineSays changeOf
+    said-omitted a e = rw (a, e)
+
+    said-sent : stands t delta r x l ≡ true → omits t delta follow r x l ≡ false → lineSaying t delta follow r x l ≡ sent (sentNumbers t delta r x l)
+    unfolding lineSaying lineSays changeOf
+    said-sent a e = rw (a, e)
+
+    said-deleted : stands t delta r x l ≡ false → stood delta r l ≡ true → lineSaying t delta follow r x l ≡ deleted
+    unfolding lineSaying lineSays changeOf
+    said-deleted a o = rw (a, o)
+
+    said-never : stands t delta r x l ≡ false → stood delta r l ≡ false → lineSaying t delta follow r x l ≡ omitted
+    unfolding lineSaying lineSays changeOf
+    said-never a o = rw (a, o)
+
+    -- how it is told
+    told-room : stands t delta r x l ≡ true → isIvs (l .want) ≡ true → omits t delta follow r x l ≡ true → toldField t delta follow r x l ≡ some (replicate k 0)
+    told-room a v e = λ z. cond (a z && (v z && e z)) (some (replicate k 0)) (fieldIn t x l)
+
+    told-own : (stands t delta r x l && (isIvs (l .want) && omits t delta follow r x l)) ≡ false → toldField t delta follow r x l ≡ fieldIn t x l
+    told-own e = ap (λ (b : Bool). cond b (some (replicate k 0)) (fieldIn t x l)) e
+
+    own-new : stands t delta r x l ≡ true → fieldIn t x l ≡ some new
+    own-new a = ap (λ (b : Bool). cond b (some new) none) a
+
+    own-none : stands t delta r x l ≡ false → fieldIn t x l ≡ none
+    own-none a = ap (λ (b : Bool). cond b (some new) none) a
+
+    -- whichever
+    pub field-back : cell (lineSaying t delta follow r x l) ≡ well (toldField t delta follow r x l)
+    field-back =
+        cases (stands t delta r x l)
+        (λ a.
+        cases (omits t delta follow r x l)
+        (λ e.
+        cases (isIvs (l .want))
+        (λ v. ap cell (said-omitted a e) ∙ room-back v e ∙ sym (ap well (told-room a v e)))
+        (λ v. ap cell (said-omitted a e) ∙ kept-back v e ∙ sym (ap well (told-own (other (stands t delta r x l) (isIvs (l .want)) _ v) ∙ own-new a))))
+        (λ e. ap cell (said-sent a e) ∙ sent-back a ∙ sym (ap well (told-own (last (stands t delta r x l) (isIvs (l .want)) _ e) ∙ own-new a))))
+        (λ a.
+        cases (stood delta r l)
+        (λ o. ap cell (said-deleted a o) ∙ none-deleted ∙ sym (ap well (told-own (first-of a) ∙ own-none a)))
+        (λ o. ap cell (said-never a o) ∙ none-there o ∙ sym (ap well (told-own (first-of a) ∙ own-none a))))
+      where
+        never : (b : Bool) → (b && false) ≡ false
+        never true = refl
+        never false = refl
+
+        other : (b v q : Bool) → v ≡ false → (b && (v && q)) ≡ false
+        other b v q e = ap (λ (z : Bool). b && (z && q)) e ∙ never b
+
+        last : (b v q : Bool) → q ≡ false → (b && (v && q)) ≡ false
+        last b v q e = ap (λ (z : Bool). b && (v && z)) e ∙ ap (λ (z : Bool). b && z) (never v) ∙ never b
+
+        first-of : stands t delta r x l ≡ false → (stands t delta r x l && (isIvs (l .want) && omits t delta follow r x l)) ≡ false
+        first-of a = ap (λ (z : Bool). z && (isIvs (l .want) && omits t delta follow r x l)) a

@@ -21,7 +21,7 @@ use Rattle.field_set.specs.Lawful.{has, countIn}
 use Rattle.field_set.proofs.LawfulLaws.{lawful-facts}
 use Rattle.effective.specs.Sums.{sizesOk, protectedOk}
 use Rattle.counters.specs.Counter.{counters}
-use Rattle.counters.specs.Follow.{ivWords, ivsFollow, derivedFit}
+use Rattle.counters.specs.Follow.{ivWords, ivsFollow, derived, derivedFit}
 use Rattle.counters.proofs.IvsLaws.{ivs-in}
 use Rattle.counters.proofs.BesideLaws.{beside-has, beside-derived, beside-sizes, beside-protected}
 use Rattle.counters.proofs.BackLaws.{follow-fit, follow-back}
@@ -42,7 +42,7 @@ use Rattle.cmaf_read_chunk.specs.Accepted.{bmdt, prft, brands, boxes, events, p
 use Rattle.encoder.specs.Object.{leavesOut, objectOf}
 use Rattle.cmaf_read_chunk.proofs.ChunkFacts.{fields-bmdt}
 use Rattle.cmaf_read_facts.specs.Given.{F}
-use Rattle.reread.specs.Sayings.{numbersBy, lineSays}
+use Rattle.reread.specs.Sayings.{numbersBy, sentNumbers, lineSays}
 use Rattle.reread.specs.Block.{blockSays}
 use Rattle.reread.specs.Read.{Alike, ReadAs, ObjectReads}
 use Rattle.reread.proofs.BlockSaid.{line-said, bmdt-back, brands-back, set-said}
@@ -124,7 +124,7 @@ module _ {s c : List ℕ} {delta : Bool} (k : Known s c delta) where
     -- all IVs are sent
     sent-left : leavesOut F s c delta ≡ false → toldSet F o s′ ≡ x → leftOut F o s′ ≡ false
     unfolding leftOut lineSays changeOf has lines lineFor
-    sent-left e q = rw (kind-is k, nine, reference-is, q, e) (by delta (eqb (getD x ivsAt 0) 0) (stood delta (drop setAt s) (getD lines ivsLine spare)) _ _)
+    sent-left e q = rw (kind-is k, nine, reference-is, q, e) (by delta (eqb (getD x ivsAt 0) 0) (stood delta (drop setAt s) (getD lines ivsLine spare)) (has 9 (drop setAt s)) (sentNumbers t delta (drop setAt s) x (getD lines ivsLine spare)))
       where
         by : (d a o h : Bool) (zs : List ℕ) → (d && (not (isSome (numbersBy (cond (not a) (cond (o && false) Omitted Sent) (cond o Deleted Omitted)) zs)) && (h && not a))) ≡ false
         by false a o h zs = refl
@@ -184,6 +184,12 @@ module _ {s c : List ℕ} {delta : Bool} (k : Known s c delta) where
           let here : has 9 y ≡ true = beside-has x zeros room 9 ∙ new-has in
           rw (kind-is k, nine, reference-is, told-is w, e, is-delta, mark, old, old-has, here)
 
+      -- what fits goes by the counters alone
+      fit-same : derived t (getD s lastAt 0) (drop setAt s) y n ≡ derived t (getD s lastAt 0) (drop setAt s) x n
+          → derivedFit t (getD s lastAt 0) (drop setAt s) y n ≡ derivedFit t (getD s lastAt 0) (drop setAt s) x n
+      unfolding derivedFit
+      fit-same q = ap (allLe (counters (ivWords t) - 1)) q
+
       left-set : SetIs
       unfolding ivsFit newSet
       left-set =
@@ -192,7 +198,7 @@ module _ {s c : List ℕ} {delta : Bool} (k : Known s c delta) where
           let few : countIn x ≤ samplesMost = lawful-facts t x good .count in
           let q = told-is w in
           let d : derivedFit t (getD s lastAt 0) (drop setAt s) y n ≡ true =
-          ap (allLe (counters (ivWords t) - 1)) (beside-derived x zeros room few t n (getD s lastAt 0) (drop setAt s)) ∙ follow-fit t (getD s lastAt 0) (drop setAt s) x n long good (k .iv) follows in
+          fit-same (beside-derived x zeros room few t n (getD s lastAt 0) (drop setAt s)) ∙ follow-fit t (getD s lastAt 0) (drop setAt s) x n long good (k .iv) follows in
           record {
             holds = told-holds w;
             sums = sums-right y q (beside-sizes x zeros room few t n) (beside-protected x zeros room few t n);

@@ -48,12 +48,12 @@ module _ {t : Track} {delta follow : Bool} {r x y : List ℕ} {f : Says} (w : Wr
 
   -- ---- the fields
 
+  came-told : (i : ℕ) → i < lineCount → cameOf t delta r f (measureOf t x) (getD lines i spare) ≡ well (toldField t delta follow r x (getD lines i spare))
+  unfolding cameOf sayingOf lineSaying
+  came-told i lt = rw (h .line i lt, h .gone, gone-is t delta follow r x i lt) (field-back w i lt follow)
+
   came-is : (i : ℕ) → i < lineCount → cameOf t delta r f (measureOf t y) (getD lines i spare) ≡ well (fieldIn t y (getD lines i spare))
-  came-is i lt = ap (λ (m : Measure). cameOf t delta r f m (getD lines i spare)) (k .same) ∙ came-told ∙ ap well (sym (k .field i lt))
-    where
-      came-told : cameOf t delta r f (measureOf t x) (getD lines i spare) ≡ well (toldField t delta follow r x (getD lines i spare))
-      unfolding cameOf sayingOf lineSaying
-      came-told = rw (h .line i lt, h .gone, gone-is t delta follow r x i lt) (field-back w i lt)
+  came-is i lt = ap (λ (m : Measure). cameOf t delta r f m (getD lines i spare)) (k .same) ∙ came-told i lt ∙ ap well (sym (k .field i lt))
 
   -- the subsample counts, on which the lengths of two fields go
   counts-are : subsamples t delta r f ≡ valuesOf 11 n y

@@ -11,14 +11,14 @@ use borrow.Table.Steps.{cases}
 use lib.Dec.{eqb, leb}
 use lib.ListN.{length, getD, replicate, length-replicate}
 use lib.Seq.{sets, slice}
-use Rattle.laws.specs.Tests.{_and_, sum}
+use Rattle.laws.specs.Tests.{_and_, sum, same}
 use Rattle.laws.proofs.TestLaws.{either, zeros-le, allZero-zeros}
 use Rattle.track.specs.declared.Track.{Track}
 use Rattle.field_table.specs.declared.lines.Want.{Want}
 use Rattle.field_table.specs.declared.lines.Want.the-variants.{Ivs, One, LessOne, Count, Sum}
 use Rattle.field_table.specs.declared.lines.Line.{Line}
 use Rattle.field_table.specs.declared.lines.Measure.{Measure}
-use Rattle.field_table.specs.Lines.{lines, spare, every, wanted, ivsAt, subsamplesAt, bmdtAt, setLen, lineCount, u64, Small}
+use Rattle.field_table.specs.Lines.{lines, spare, lineFor, every, wanted, ivsAt, subsamplesAt, bmdtAt, setLen, lineCount, u64, Small}
 use Rattle.field_table.proofs.LineLaws.{line-count, every-at}
 use Rattle.field_set.specs.Lawful.{has, countIn, valuesOf, measureOf, lawful}
 use Rattle.field_set.proofs.LawfulLaws.{lawful-facts}
@@ -30,7 +30,7 @@ use Rattle.counters.proofs.OutsideLaws.{sets-there}
 use Rattle.counters.proofs.BesideLaws.{beside-word, beside-slice, beside-count, beside-counts, beside-length}
 use Rattle.counters.proofs.IvsLaws.{ivs-in}
 use Rattle.counters.proofs.RoomLaws.{beside-lawful}
-use Rattle.locmaf_write_block.specs.Changes.{stands, omits}
+use Rattle.locmaf_write_block.specs.Changes.{stands, news, olds, omits}
 use Rattle.reread.proofs.FieldRead.{toldField}
 
 -- the set y is what is told of the set x: lawful, of the same lengths, with each field as it is told
@@ -78,7 +78,7 @@ is-ivs Sum e = let no : _≡_ {A = ℕ} 0 1 = cc in absurd (omega arith)
 
 -- where IVs stand
 pub has-nine : (w : List ℕ) → has 9 w ≡ not (eqb (getD w ivsAt 0) 0)
-unfolding has lines
+unfolding has lines lineFor
 has-nine w = refl
 
 module _ (t : Track) (r x : List ℕ) (long : length x ≡ setLen) (good : lawful t x ≡ true) (iv : t .«iv_size» ≤ 16) (old : has 9 r ≡ true) (new : has 9 x ≡ true) where
@@ -89,7 +89,7 @@ module _ (t : Track) (r x : List ℕ) (long : length x ≡ setLen) (good : lawfu
   abbrev vs : List ℕ
   vs = replicate much 0
 
-  pub abbrev y : List ℕ
+  abbrev pub y : List ℕ
   y = sets x (ivsAt + 1) vs
 
   many : length vs ≡ much
@@ -130,14 +130,24 @@ module _ (t : Track) (r x : List ℕ) (long : length x ≡ setLen) (good : lawfu
         values (inl h) = inl (omega (arith, fits))
         values (inr h) = inr (omega arith)
 
-    ivs-told : isIvs (l .want) ≡ true → l .place ≡ ivsAt → fieldIn t y l ≡ toldField t true true r x l
+    -- as many words as IVs have
+    ivs-much : l .want ≡ Ivs → wanted (l .want) (measureOf t x) ≡ much
     unfolding wanted
+    ivs-much w = ap (λ (q : Want). wanted q (measureOf t x)) w
+
+    ivs-told : isIvs (l .want) ≡ true → l .place ≡ ivsAt → fieldIn t y l ≡ toldField t true true r x l
     ivs-told v p =
         let w : l .want ≡ Ivs = is-ivs (l .want) v in
-        let m : getD y ivsAt 0 ≡ getD x ivsAt 0 = beside-word x vs room ivsAt (inl (omega arith)) in
-        let s : slice (ivsAt + 1) (ivsAt + 1 + much) y ≡ vs =
-        ap (λ (n : ℕ). slice (ivsAt + 1) (ivsAt + 1 + n) y) (sym many) ∙ sets-there x vs (ivsAt + 1) (omega (arith, room, long)) in
-        rw (p, w, same-measure, m, sym (has-nine x) ∙ new, sym (has-nine r) ∙ old, s)
+        let n : wanted (l .want) (measureOf t x) ≡ much = ivs-much w in
+        let u : wanted (l .want) (measureOf t y) ≡ much = ap (wanted (l .want)) same-measure ∙ n in
+        let m : getD y (l .place) 0 ≡ getD x (l .place) 0 = beside-word x vs room (l .place) (inl (omega arith)) in
+        let on : not (eqb (getD x (l .place) 0) 0) ≡ true = ap (λ (q : ℕ). not (eqb (getD x q 0) 0)) p ∙ sym (has-nine x) ∙ new in
+        let was : not (eqb (getD r (l .place) 0) 0) ≡ true = ap (λ (q : ℕ). not (eqb (getD r q 0) 0)) p ∙ sym (has-nine r) ∙ old in
+        let s : slice (l .place + 1) (l .place + 1 + wanted (l .want) (measureOf t y)) y ≡ vs =
+        (λ z. slice (p z + 1) (p z + 1 + u z) y) ∙ ap (λ (q : ℕ). slice (ivsAt + 1) (ivsAt + 1 + q) y) (sym many) ∙ sets-there x vs (ivsAt + 1) (omega (arith, room, long)) in
+        (λ z. cond (not (eqb (m z) 0)) (some (s z)) none)
+        ∙ ap (λ (b : Bool). cond b (some vs) none) on
+        ∙ sym (λ z. cond (on z && (v z && (was z && cond (v z) true (same (olds t true r x l) (news t true r x l))))) (some (replicate (n z) 0)) (fieldIn t x l))
 
     told : placed l ≡ true → fieldIn t y l ≡ toldField t true true r x l
     unfolding placed
