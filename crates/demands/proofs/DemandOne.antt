@@ -21,6 +21,7 @@ use Rattle.answers.proofs.TookLaws.{refused-past}
 use Rattle.encoder.specs.Laws.{Refused as Kept}
 use Rattle.encoder.proofs.Theorems.{encode-refuses}
 use Rattle.receiver.proofs.Theorems.{receive-refuses}
+use Rattle.receiver.specs.Receive.{receiving}
 use Rattle.receiver.proofs.AlikeTheorems.{full-forgets}
 use Rattle.cmaf_read_facts.specs.Given.{F}
 use Rattle.demands.specs.One.{Call, opens, closes, starts, encodes, receives, alone, gives, sideOf, lentTo, outputOf, order, Drops, Refused, Done, DemandOne}
@@ -95,7 +96,7 @@ refuses (receives o output) slot t =
       front = q .front;
       payload = q .payload;
       drops = λ d. ap (putShare t slot) (q .drops d);
-      kept = λ d. ap (putShare t slot) (q .kept (outside _ d)) ∙ share-back t slot;
+      kept = λ d. ap (putShare t slot) (q .kept (outside (receiving F o output (shareAt t slot) .answer .number) d)) ∙ share-back t slot;
     })
 
 -- ---- what is done
