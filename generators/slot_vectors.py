@@ -7,13 +7,15 @@ docs/DECISIONS.md, and not from the code:
 - "A share is lawful if its numbers keep this page's rules and every place not in use is 0";
 - "Store the expected BMDT in each share, encoder's and receiver's: the sum it replaces wherever a reference is held, else 0; a sum past 2^64-1
   is kept as a mark from which no BMDT is derived. A share where it differs is unlawful, 18." (document 02, order 7)
+- "The last sample's protected bytes (0 without a reference, off cenc and without samples; never above the payload's maximum; with subsamples that
+  sample's sum) join the reference in both shares .. A share where they aren't so is unlawful, 18." (document 02, order 6)
 """
 
 NONE, CENC, CBCS = 0, 1, 2
 U5, U8, U16, U24, U32, U62, U64 = (2 ** bits - 1 for bits in (5, 8, 16, 24, 32, 62, 64))
 
 # The words of a share, the last 981 of them a set's
-DURATION, ACCEPTED, HELD, PRFT, PRFT_END, PAST, EXPECTED, SET = 3, 8, 9, 10, 15, 15, 16, 17
+DURATION, ACCEPTED, HELD, PRFT, PRFT_END, PAST, EXPECTED, LAST, SET = 3, 8, 9, 10, 15, 15, 16, 17, 18
 SHARE = SET + 981
 
 # The words of a set: BMDT, the sample count, and a region for each other id: mark at, room, values in use, largest value
@@ -119,6 +121,19 @@ def expected(share):
     return [0, time] if time <= U64 else [1, 0]
 
 
+def lawful_last(words, last, trex_size, protection):
+    """The last sample's protected bytes: its subsamples' sum, or its whole size as far as the words tell it."""
+    count = words[COUNT]
+    if protection != CENC or count == 0:
+        return last == 0
+    if words[REGIONS[11][0]]:
+        counts = field(words, 11, count)
+        return last == sum(field(words, 15, sum(counts))[sum(counts[:-1]):])
+    if count > 1 and not words[REGIONS[1][0]]:
+        return last == (field(words, 6, 1)[0] if words[REGIONS[6][0]] else trex_size) <= PAYLOAD
+    return last <= PAYLOAD
+
+
 def lawful(side, share):
     if share[0] == 0:
         return not any(share)
@@ -127,8 +142,8 @@ def lawful(side, share):
     if share[HELD] == 0:
         return not any(share[PRFT:])
     trex_size, protection, iv_size = share[4], share[6], share[7]
-    return (share[HELD] == 1 and lawful_prft(*share[PRFT:PRFT_END]) and share[PAST:SET] == expected(share)
-            and lawful_set(share[SET:], trex_size, protection, iv_size))
+    return (share[HELD] == 1 and lawful_prft(*share[PRFT:PRFT_END]) and share[PAST:LAST] == expected(share)
+            and lawful_set(share[SET:], trex_size, protection, iv_size) and lawful_last(share[SET:], share[LAST], trex_size, protection))
 
 
 # The calls, each with what it makes of a share
@@ -225,7 +240,9 @@ def held(samples, ids, accepted=0, protection=NONE, iv_size=0, prft=None, counts
         mark, _, values, _ = REGIONS[i]
         numbers = others.get("id%d" % i) or (counts if i == 11 else [iv_size] if i == 16 else [value] * lengths[values])
         share[SET + mark:SET + mark + 1 + len(numbers)] = [1] + list(numbers)
-    share[PAST:SET] = expected(share)
+    share[PAST:LAST] = expected(share)
+    if protection == CENC and samples:
+        share[LAST] = sum(field(share[SET:], 15, sum(counts))[sum(counts[:-1]):])
     return share
 
 

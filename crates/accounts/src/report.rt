@@ -92,6 +92,17 @@ fn heads(t: Tally) {
     saved(more(t.cmaf, t.payload), more(t.locmaf, t.payload));
 }
 
+// Of a protected track with IVs: how many chunks left their counters at home, and what that saved.
+fn counters(t: Tally) {
+    if t.ivs == 0 {
+        return;
+    }
+    named(b"  counters: chunks with IVs ", t.ivs);
+    named(b", left at home by ", t.home);
+    named(b", saved ", t.spared);
+    say(b" bytes\n")
+}
+
 // The totals of a track, or of all.
 pub fn totals(t: Tally) {
     named(b"  chunks ", t.chunks);
@@ -103,6 +114,7 @@ pub fn totals(t: Tally) {
         return say(b"  no chunk was accepted, so nothing is compared\n");
     }
     heads(t);
+    counters(t);
     say(b"  each rebuilt chunk gave the same object again: ");
     if t.differs == 0 {
         return say(b"yes\n");

@@ -6,7 +6,7 @@ use crate::joins;
 use crate::joins::Join;
 
 // One chunk's way. With the number 0: whether the object is a delta, the bytes of the heads (all but the payload) before and after, those of the payload, and
-// whether the rebuilt chunk gave the same object again.
+// whether the rebuilt chunk gave the same object again; whether the chunk has IVs, and the bytes of those that the object left at home.
 pub struct Passed {
     pub number: u64,
     pub delta: bool,
@@ -14,9 +14,11 @@ pub struct Passed {
     pub locmaf: u64,
     pub payload: u64,
     pub same: bool,
+    pub ivs: bool,
+    pub home: u64,
 }
 
-// Sums over chunks. `bad` counts tracks with a bad file, `differs` is the number of the first chunk whose object differed, counted from 1, or 0.
+// Sums over chunks. `ivs` counts those that have IVs, `home` those that left them at home, `spared` the bytes of these. `bad` counts tracks with a bad file, `differs` is the number of the first chunk whose object differed, counted from 1, or 0.
 pub struct Tally {
     pub tracks: u64,
     pub bad: u64,
@@ -28,6 +30,9 @@ pub struct Tally {
     pub locmaf: u64,
     pub payload: u64,
     pub differs: u64,
+    pub ivs: u64,
+    pub home: u64,
+    pub spared: u64,
     pub join: Join,
 }
 
@@ -44,6 +49,9 @@ pub fn nothing() -> Tally {
         locmaf: 0,
         payload: 0,
         differs: 0,
+        ivs: 0,
+        home: 0,
+        spared: 0,
         join,
     }
 }
@@ -71,6 +79,13 @@ pub fn with_chunk(t: Tally, p: Passed) -> Tally {
     r.cmaf = more(t.cmaf, p.cmaf);
     r.locmaf = more(t.locmaf, p.locmaf);
     r.payload = more(t.payload, p.payload);
+    if p.ivs {
+        r.ivs = more(t.ivs, 1);
+    }
+    if p.home != 0 {
+        r.home = more(t.home, 1);
+        r.spared = more(t.spared, p.home);
+    }
     if !p.same & (t.differs == 0) {
         r.differs = r.chunks;
     }
@@ -93,6 +108,9 @@ pub fn with_track(a: Tally, b: Tally) -> Tally {
         locmaf: more(a.locmaf, b.locmaf),
         payload: more(a.payload, b.payload),
         differs: first(a.differs, b.differs),
+        ivs: more(a.ivs, b.ivs),
+        home: more(a.home, b.home),
+        spared: more(a.spared, b.spared),
         join,
     }
 }

@@ -18,6 +18,7 @@ fn of_object(fd: i32, n: u64) {
         15 => io::write_all(fd, b"value outside its range or maximum"),
         16 => io::write_all(fd, b"sizes or protected sums disagree"),
         17 => io::write_all(fd, b"output shorter than the front"),
+        21 => io::write_all(fd, b"derived IV past its size"),
         _ => io::write_all(
             fd,
             b"table of the wrong length, or the named share unlawful",

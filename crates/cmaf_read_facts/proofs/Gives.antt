@@ -103,8 +103,7 @@ pub chunk-sizes : (G : List Row) (t : Track) (c : List ℕ) → allLe 255 c ≡ 
     → (sizesOk t (fields t c) (length (payload c)) ≡ true) × (length (payload c) ≤ payloadMost)
 unfolding fields payload
 chunk-sizes G t c low iv h =
-    let a : Facts t c = chunk-facts G t c h low iv in
-    (
+    let a : Facts t c = chunk-facts G t c h low iv in (
       subst (λ (n : ℕ). sizesOk t (chunkSet t c (inner c)) n ≡ true) (sym (payload-length c)) (sizes-hold (chunk-sized t c a)),
       omega (arith, payload-length c, a .few .payload),
     )

@@ -258,8 +258,7 @@ module _ (s : List ℕ) (l : length s ≡ shareLen) where
           → ((length kept ≡ shareLen) × Timed (drop setAt kept))
           × ((Summable (drop setAt kept) × Sized (drop setAt kept) payload) × (lawfulSet t (drop setAt kept) ≡ true))
       renewable lw h k z t g =
-          let q : w ≡ drop setAt kept = sym (ap (drop setAt) e ∙ stored-set) in
-          (
+          let q : w ≡ drop setAt kept = sym (ap (drop setAt) e ∙ stored-set) in (
             (
               ap length (e ∙ stored-with) ∙ all-long (take acceptedAt s) n (fiveOf delta p) (expectedIn s) (getD s lastAt 0) w front-long (five-long delta p) lw,
               subst Timed q h,

@@ -5,6 +5,7 @@
 mod calls; // calls.rt: the two calls, with front and payload put together
 mod chunks; // chunks.rt: the chunks of a track one after another
 mod folder; // folder.rt: a track's folder
+mod home; // home.rt: counters that were left at home
 mod join; // join.rt: a second receiver that starts at a full object
 mod passage; // passage.rt: one chunk from end to end
 mod sync; // sync.rt: whether a chunk begins with a sync sample

@@ -3,6 +3,8 @@ ghost use mathlib.Core.Path.{_≡_};
 ghost use Rattle.io.specs.Counts.{Counts};
 use crate::calls;
 use crate::calls::Whole;
+use crate::home;
+use crate::home::Home;
 use accounts::tally::Passed;
 use inputs::chunk_files;
 
@@ -39,6 +41,8 @@ fn refused(number: u64) -> Passed {
         locmaf: 0,
         payload: 0,
         same: true,
+        ivs: false,
+        home: 0,
     }
 }
 
@@ -54,7 +58,7 @@ fn less(a: u64, b: u64) -> u64 {
 }
 
 // What is counted of a chunk of so many bytes whose object has that length and front.
-fn counted(chunk: usize, object: &[u8], front: u64, same: bool) -> Passed {
+fn counted(chunk: usize, object: &[u8], front: u64, same: bool, h: Home) -> Passed {
     let payload = less(object.len() as u64, front);
     Passed {
         number: 0,
@@ -63,6 +67,8 @@ fn counted(chunk: usize, object: &[u8], front: u64, same: bool) -> Passed {
         locmaf: front,
         payload,
         same,
+        ivs: h.ivs,
+        home: h.bytes,
     }
 }
 
@@ -93,11 +99,12 @@ fn pass_back(
 ) -> Passage
     ensures { λ r. ⌜ (r .object ≡ e .end) × Counts (r .rebuilt .end) (now (rebuilt .exit)) ⌝ }
 {
+    let h = home::left(encoder, object);
     let r = calls::received(receiver, calls::FIRST, object, &mut *rebuilt);
     let m = r.end;
     let same = comes_back(encoder, wish, object, r.number, &rebuilt[..m]);
     Passage {
-        passed: counted(chunk, object, e.front, same),
+        passed: counted(chunk, object, e.front, same, h),
         object: e.end,
         rebuilt: r,
     }

@@ -10,12 +10,12 @@ use share_words::share::SHARE;
 use share_words::share::TRACK;
 use slots::lawful::Side;
 
-const RUNS: usize = 175;
+const RUNS: usize = 178;
 
 // Runs of words. In the decimal digits of a run stand a value, how many words it is put into, the first of them, what that is counted from (0 the
 // share's first word, 1 the mark of the reference, 2 the set, 3 the BMDT that is expected), and the number of the share, from 8 on in the receiver's
 // table: 42_006_399_2_07 puts 42 into six words of share 7, from word 399 of its set on. What is expected is added up by hand: of no share is it
-// past 2^64-1, so that its mark is 0.
+// past 2^64-1, so that its mark is 0. So are the last sample's protected bytes, which stand behind it.
 const SHARES: [u64; RUNS] = [
     // The encoder's, without a reference.
     9_006_000_0_01,
@@ -25,6 +25,7 @@ const SHARES: [u64; RUNS] = [
     8_001_007_0_02,
     1_001_000_1_02,
     14_001_000_3_02,
+    1_001_001_3_02,
     5_001_000_2_02,
     1_001_001_2_02,
     1_002_269_2_02,
@@ -79,6 +80,7 @@ const SHARES: [u64; RUNS] = [
     16_001_007_0_06,
     1_001_000_1_06,
     69_001_000_3_06,
+    4_001_001_3_06,
     5_001_000_2_06,
     64_001_001_2_06,
     1_001_002_2_06,
@@ -150,6 +152,7 @@ const SHARES: [u64; RUNS] = [
     3_001_008_0_12,
     1_001_000_1_12,
     32_001_000_3_12,
+    3_001_001_3_12,
     5_001_000_2_12,
     3_001_001_2_12,
     1_001_200_2_12,
