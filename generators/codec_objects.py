@@ -85,6 +85,52 @@ def examples(s):
         s.close(1)
 
 
+def counters(s):
+    """02, order 6: IVs that follow, are derived, carried from one word into the next, and pass their size."""
+
+    def full(count, ivs, payload, *others):
+        return whole(23, scalar(10, 0) + scalar(14, count) + raw(9, b"".join(ivs)) + b"".join(others), bytes(payload))
+
+    def iv(n, size):
+        return n.to_bytes(size, "big")
+
+    for size in (8, 16):
+        most = 256**size - 1
+        s.open(2, (3, 90000, 1, 0, 0, 0, 1, size))
+        # two samples, sizes 20 and the rest; then as many, and three, and one
+        s.receive(2, full(2, [iv(5, size), iv(9, size)], 50, numbers(1, [20])))
+        s.receive(2, whole(25, b"", bytes(55)))
+        s.receive(2, whole(25, scalar(14, 2) + numbers(1, [2, 33]), bytes(60)))
+        s.receive(2, whole(25, scalar(14, 3) + numbers(27, [1]), bytes(16)))
+        # subsamples: the sum is rounded once, and clear bytes don't count
+        pairs = numbers(11, [2]) + numbers(13, [7, 9]) + numbers(15, [1, 16])
+        s.receive(2, full(1, [iv(0, size)], 33, pairs))
+        s.receive(2, whole(25, b"", bytes(33)))
+        # sent though it follows, and then another
+        s.receive(2, whole(25, raw(9, iv(4, size)), bytes(33)))
+        s.receive(2, whole(25, raw(9, iv(most, size)), bytes(33)))
+        # past its size: 21 before 17, and the reference is dropped
+        s.receive(2, whole(25, b"", bytes(33)), 0)
+        s.receive(2, whole(25, b"", bytes(33)))
+        # up to its size, and past it at the second sample
+        s.receive(2, full(1, [iv(most - 3, size)], 48))
+        s.receive(2, whole(25, scalar(14, 2) + numbers(1, [32]), bytes(32)))
+        s.receive(2, full(1, [iv(most - 3, size)], 48))
+        s.receive(2, whole(25, scalar(14, 2) + numbers(1, [2]), bytes(32)))
+        # from one word into the next
+        s.receive(2, full(1, [iv(2**64 - 1, size)], 1))
+        s.receive(2, whole(25, b"", bytes(1)))
+        # nothing protected: the same again; nothing to follow from; deleted
+        s.receive(2, full(1, [iv(7, size)], 0))
+        s.receive(2, whole(25, b"", b""))
+        s.receive(2, whole(25, scalar(14, 1) + numbers(27, [9]), b""))
+        s.receive(2, whole(25, scalar(14, 2), b"a"))
+        s.receive(2, full(1, [iv(7, size)], 1))
+        s.receive(2, whole(25, numbers(27, [9]), b"a"))
+        s.receive(2, whole(23, scalar(10, 0) + scalar(14, 1), b"a"))
+        s.close(2)
+
+
 class Track:
     def __init__(self):
         self.protection = R.choice([0, 0, 1, 1, 2])
@@ -220,7 +266,7 @@ def by_chance(s, count):
         s.open(slot, track.words)
         for _ in range(R.randrange(2, 9)):
             n = s.receive(slot, an_object(track), R.choice([ROOM] * 20 + [0, 50, 99, 100, 200]))
-            track.held = n == 0 or track.held and not 12 <= n <= 16
+            track.held = n == 0 or track.held and not (12 <= n <= 16 or n == 21)
             if R.random() < 0.03:
                 s.group(slot)
                 track.held = False
@@ -232,6 +278,7 @@ def asked(oracle):
     s = Objects(oracle)
     s.ask("new")
     examples(s)
-    by_chance(s, 600)
-    s.tell("objects", {0, 1, 2, 10, 11, 12, 13, 14, 15, 16, 17, 18})
+    counters(s)
+    by_chance(s, 650)
+    s.tell("objects", {0, 1, 2, 10, 11, 12, 13, 14, 15, 16, 17, 18, 21})
     return s

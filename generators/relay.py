@@ -32,6 +32,24 @@ def number_cut(front):
     return int.from_bytes(front[at : at + 4], "big"), front[:at] + bytes(4) + front[at + 4 :]
 
 
+def varint(data, at):
+    """RFC 9000's: the number and the place behind it."""
+    n = 1 << (data[at] >> 6)
+    return int.from_bytes(data[at : at + n], "big") & ((1 << (8 * n - 2)) - 1), at + n
+
+
+def ids(front):
+    """The ids of an object's tuples: an even one has one number, an odd one a length and bytes."""
+    _, at = varint(front, 0)
+    end, at = varint(front, at)
+    end += at
+    while at < end:
+        i, at = varint(front, at)
+        n, at = varint(front, at)
+        at += n if i % 2 else 0
+        yield i
+
+
 class Join:
     """A second receiver, in slot 1, that gets the objects of a track from an accepted full object on."""
 
@@ -80,13 +98,20 @@ class Relay:
         """The number, the kind, the three lengths, and whether the rebuilt chunk gives the same object; the receiver that joins late is asked too."""
         n, front, payload = self.whole(f"enc 0 {wish}", chunk)
         if n:
-            return n, "refused", 0, 0, 0, True
+            return n, "refused", 0, 0, 0, True, False, 0
         kind = {0x17: "full", 0x19: "delta"}[front[0]]
         number, head, media = self.whole("rec 0", front + payload)
         join.follow(i, kind, front + payload, number, head, media)
         _, second, last = self.whole(f"enc 1 {wish}", head + media)
         same = front + payload == second + last
-        return 0, kind, len(chunk) - len(payload), len(front), len(payload), same
+        ivs = dict(f.split("=") for f in self.oracle.ask("ref e 0")[0].split("|")[0].split(";")).get("9")
+        home = tuple_bytes(len(ivs) // 2) if ivs and 9 not in ids(front) else 0
+        return 0, kind, len(chunk) - len(payload), len(front), len(payload), same, bool(ivs), home
+
+
+def tuple_bytes(n):
+    """Those of id 9's tuple with n bytes of IVs."""
+    return 1 + (1 if n < 64 else 2) + n
 
 
 def saved(before, after):
@@ -103,13 +128,15 @@ def totals(rows):
     cmaf, locmaf, payload = (sum(r[i] for r in rows) for i in (2, 3, 4))
     print(f"  heads: CMAF {cmaf} bytes, LOCMAF {locmaf} bytes, {saved(cmaf, locmaf)}")
     print(f"  payload: {payload} bytes; of all bytes, {saved(cmaf + payload, locmaf + payload)}")
+    if any(r[6] for r in rows):
+        print(f"  counters: chunks with IVs {sum(r[6] for r in rows)}, left at home by {sum(r[7] > 0 for r in rows)}, saved {sum(r[7] for r in rows)} bytes")
     if not all(r[5] for r in rows):
         sys.exit("the oracle's own objects differ")
     print("  each rebuilt chunk gave the same object again: yes")
 
 
 def line(i, row):
-    n, kind, *lengths, _ = row
+    n, kind, *lengths = row[:5]
     print(f"{i:8}  {kind:7}" + "".join(f"{x if n == 0 else '-':>{w}}" for x, w in zip(lengths, (11, 13, 10))) + f"{n:8}" + (f"  {WORDS[n]}" if n else ""))
 
 

@@ -29,8 +29,8 @@ extern "C" {
 /* What a call answers. Where several would do, it is the first one in the order of the rules: LOCMAF_TABLE for the length, LOCMAF_SLOT, LOCMAF_TABLE
  * for the share, then the others.
  *
- * On every number but 0 nothing is written to the output. 12 to 16, which only a receiver answers, drop the slot's reference (deltas are answered with
- * 11 until the next full object); every other refusal changes nothing, and the same call may be made again. A slot stays open whatever is refused. */
+ * On every number but 0 nothing is written to the output. 12 to 16 and 21, which only a receiver answers, drop the slot's reference (deltas are answered
+ * with 11 until the next full object); every other refusal changes nothing, and the same call may be made again. A slot stays open whatever is refused. */
 enum locmaf_number {
     LOCMAF_DONE = 0,          /* done */
     LOCMAF_SLOT = 1,          /* slot number above 7 */
@@ -51,7 +51,8 @@ enum locmaf_number {
     LOCMAF_RANGE = 15,        /* value outside its range or maximum */
     LOCMAF_SUMS = 16,         /* sizes or protected sums disagree */
     LOCMAF_ROOM = 17,         /* output shorter than the front */
-    LOCMAF_TABLE = 18         /* table of the wrong length, or the named share unlawful */
+    LOCMAF_TABLE = 18,        /* table of the wrong length, or the named share unlawful */
+    LOCMAF_COUNTER = 21       /* derived IV past its size */
 };
 
 /* How a track is protected. */
@@ -97,7 +98,7 @@ uint64_t locmaf_receiver_close(uint64_t *table, size_t words, uint64_t slot);
 /* Starts a group in a slot: its reference is dropped. Answers the number: 0, 1, 2 or 18. */
 uint64_t locmaf_receiver_start_group(uint64_t *table, size_t words, uint64_t slot);
 
-/* Receives one object. *number is the number: 0, 1, 2 or 10 to 18. Where it is 0, the first *front bytes of the output are the chunk up to and with
+/* Receives one object. *number is the number: 0, 1, 2, 10 to 18 or 21. Where it is 0, the first *front bytes of the output are the chunk up to and with
  * the `mdat` header, the bytes past them stay as they were, and the answer is the length of the payload: the last so many bytes of the object, which
  * follow the front in the chunk and are never copied. Otherwise *front and the answer are 0. No front has more than 8,577 bytes. */
 uint64_t locmaf_receive(uint64_t *table, size_t words, uint64_t slot, const uint8_t *object, size_t object_len, uint8_t *output,

@@ -1,4 +1,5 @@
 // Counters that were left at home: the IVs of a cenc track that follow from those before, so that a delta says nothing of them.
+use accounts::counts::more;
 use constants::ids;
 use constants::maxima;
 use event_value::ALL_WORDS;
@@ -19,7 +20,10 @@ pub struct Home {
 
 // Whether the block from one place up to another has the tuple.
 fn says_ivs(object: &[u8], at: usize, end: usize) -> bool {
-    if (end < at) | (object.len() < end) {
+    if end < at {
+        return true;
+    }
+    if object.len() < end {
         return true;
     }
     if maxima::BLOCK < (end - at) as u64 {
@@ -41,8 +45,17 @@ fn is_sent(object: &[u8]) -> bool {
 
 // The bytes of the tuple for so many samples with IVs of a size: id, length and IVs.
 fn tuple(samples: u64, iv_size: u64) -> u64 {
-    let n = samples % 65 * (iv_size % 17);
-    (varint::size(Form::Rfc9000, ids::IVS) + varint::size(Form::Rfc9000, n)) as u64 + n
+    if samples > maxima::SAMPLES as u64 {
+        return 0;
+    }
+    let n = if iv_size == 16 {
+        samples * 16
+    } else {
+        samples * 8
+    };
+    let id = varint::size(Form::Rfc9000, ids::IVS) as u64;
+    let length = varint::size(Form::Rfc9000, n) as u64;
+    more(id, more(length, n))
 }
 
 // The object of the chunk that the first slot of an encoder's table has as its reference.
