@@ -161,6 +161,10 @@ def states(s):
         for i, wish in enumerate(["full", "delta", "full"]):
             entries = [(bytes(range(1 + k + i, 1 + k + i + iv)), [(2, 8), (k, 10 - k)]) for k in range(3)]
             s.pass_on(3, wish, chunk(1, 1024 * i, [20, 20, 20], entries=entries))
+    s.start("state cenc whole")
+    s.both("open", 3, 1, 48000, 1, 1024, 0, 0, 1, 8)
+    for i, wish in enumerate(["full", "delta", "full"]):
+        s.pass_on(3, wish, chunk(1, 1024 * i, [20 + i], entries=[(bytes([9 + i]) * 8, None)]))
 
 
 BAD_TRACKS = [(0, 48000, 1, 0, 0, 0, 0, 0), (2**32, 48000, 1, 0, 0, 0, 0, 0), (1, 0, 1, 0, 0, 0, 0, 0), (1, 2**32, 1, 0, 0, 0, 0, 0), (1, 1, 0, 0, 0, 0, 0, 0),
@@ -243,6 +247,24 @@ def of_objects(s):
         s.receive(0, delta(), room)
 
 
+def of_counters(s):
+    """IVs that follow are left out and derived, one past its size is 21, after which a delta is 11."""
+    for size in (8, 16):
+        s.start(f"numbers 21, with {size} bytes")
+        s.both("open", 1, 1, 48000, 1, 1024, 0, 0, 1, size)
+        n = 2**64 - 3
+        for i, wish in enumerate(["full", "delta", "delta", "full", "delta"]):
+            counters = [n, n + 2, n + 4]
+            s.pass_on(1, wish, chunk(1, 1024 * i, [20, 32, 33], entries=[(c.to_bytes(16, "big")[-size:], None) for c in counters]))
+            n = (n + 7) % 256**size
+        last = (256**size - 1).to_bytes(size, "big")
+        for room in (ROOM, 0):
+            s.receive(1, full(1, raw(9, last), pay=4))
+            found, after = int(s.receive(1, delta(), room)[0]), int(s.receive(1, delta())[0])
+            if (found, after) != (21, 11):
+                sys.exit(f"an IV past {size} bytes gives {found}, and a delta then {after}")
+
+
 def deep(s):
     """Long and deep chunks and objects, and hostile lists of events."""
     example = compact(chunk(1, 96000, [4], payload=b"abcd"))
@@ -291,6 +313,7 @@ def main():
     of_the_table(s)
     of_chunks(s)
     of_objects(s)
+    of_counters(s)
     states(s)
     deep(s)
     captured(s, sys.argv[1])

@@ -5,7 +5,7 @@
 #include <string.h>
 
 #define LONG(x) ((unsigned long long)(x))
-enum { BMDT = SET, COUNT = SET + 1, IV_FIRST = SET + 270 };
+enum { BMDT = SET, COUNT = SET + 1, IV_FIRST = SET + 270, SUBSAMPLES = SET + 398 };
 enum { SLOT = 3, ROUNDS = 6000, SHARE_MOST = 4096 };
 
 /* The fields of the set: where the mark is, the room behind it, the largest value. */
@@ -66,6 +66,18 @@ static void every_word(const struct state *s) {
     }
 }
 
+/* The last sample's protected bytes: what its subsamples have, or up to a whole payload, and none where there are no IVs. */
+static void last_sample(const struct state *s) {
+    const uint64_t *share = share_of(s->side, SLOT);
+    if (!share[IV_FIRST - 1] || share[SUBSAMPLES]) {
+        must_refuse(s, 0, LAST, share[LAST] + 1, "more protected bytes");
+        must_refuse(s, 0, LAST, share[LAST] - 1, "fewer protected bytes");
+        return;
+    }
+    must_refuse(s, 0, LAST, 16777217, "more protected bytes than a payload has");
+    check(tried(s, 0, LAST, 0) == 0 && tried(s, 0, LAST, 16777216) == 0, "%s: the last sample may have no byte, and a whole payload", s->name);
+}
+
 /* Each region by its own rules: a mark is 0 or 1, a value is at most the largest, and behind the values in use there are zeros. */
 static void every_region(const struct state *s) {
     const uint64_t *share = share_of(s->side, SLOT);
@@ -89,6 +101,7 @@ static void every_region(const struct state *s) {
     must_refuse(s, 0, PAST, 1, "the mark of a sum that passes");
     must_refuse(s, 0, EXPECTED, share[EXPECTED] + 1, "too much is expected");
     must_refuse(s, 0, EXPECTED, share[EXPECTED] - 1, "too little is expected");
+    last_sample(s);
     must_refuse(s, 0, COUNT, 65, "count");
     must_refuse(s, 0, 1, 0, "timescale");
     must_refuse(s, 0, 2, 0, "description index");

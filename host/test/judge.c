@@ -1,10 +1,10 @@
-/* What a call may have touched. Of the table: nothing on a refusal, but that 12 to 16 drop the reference; otherwise the named share alone, which is
+/* What a call may have touched. Of the table: nothing on a refusal, but that 12 to 16 and 21 drop the reference; otherwise the named share alone, which is
  * lawful afterwards. Of the output: the front, where the number is 0. Beside number and front, and beside the table and the output: nothing. */
 #include "test.h"
 #include <string.h>
 
 #define LONG(x) ((unsigned long long)(x))
-enum { NUMBERS = 19 };
+enum { NUMBERS = 22 };
 static unsigned long seen[2][NUMBERS];
 
 unsigned long answered(int encoder, unsigned number) { return seen[encoder][number]; }
@@ -35,7 +35,7 @@ static uint64_t group_on_copy(struct side *s, const uint64_t *of, uint64_t slot)
 }
 
 static void judge_table(struct side *s, const struct job *j, uint64_t number) {
-    if (number >= 12 && number <= 16) {
+    if ((number >= 12 && number <= 16) || number == 21) {
         check(group_on_copy(s, s->before, j->slot) == 0, "%s: number %llu from a share that can't start a group", name_of(s), LONG(number));
         table_like(s, s->copy, 0, 0, "not as if a group was started", number);
     } else if (number == 0) {

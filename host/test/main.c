@@ -14,8 +14,8 @@ void test_numbers(void) { for_each_conversation("numbers", talked); }
 
 /* No number was left out, on the side that can answer it. */
 static void every_number(void) {
-    static const char encoder[] = "1111111111000000011", receiver[] = "1111100000111111111";
-    for (unsigned n = 0; n <= 18; n++) {
+    static const char encoder[] = "1111111111000000011000", receiver[] = "1111100000111111111001";
+    for (unsigned n = 0; n <= 21; n++) {
         check((answered(1, n) > 0) == (encoder[n] == '1'), "the encoder answered %u %lu times", n, answered(1, n));
         check((answered(0, n) > 0) == (receiver[n] == '1'), "the receiver answered %u %lu times", n, answered(0, n));
     }

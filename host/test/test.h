@@ -7,7 +7,7 @@
 enum { SLOTS = 8, ENOUGH = 20000 };
 
 /* The words of a share, as docs/ARCHITECTURE.md gives them. */
-enum { ACCEPTED = 8, HELD = 9, PRFT = 10, NTP = 11, MEDIA_TIME = 12, PAST = 15, EXPECTED = 16, SET = 17 };
+enum { ACCEPTED = 8, HELD = 9, PRFT = 10, NTP = 11, MEDIA_TIME = 12, PAST = 15, EXPECTED = 16, LAST = 17, SET = 18 };
 
 /* Counts a check, and says what differed where it doesn't hold. -> whether it holds */
 int check(int holds, const char *form, ...) __attribute__((format(printf, 2, 3)));
