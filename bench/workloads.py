@@ -1,11 +1,13 @@
 #!/usr/bin/env python3
-"""workloads.py: writes, in C, the chunks that the growth of cost is measured on.
+"""workloads.py [LETTERS]: writes, in C, the chunks that the growth of cost is measured on.
 
 For each length two chunks that take turns, as in a group: video with a size and a composition offset for each sample (v1 to v64), cenc with three
-subsamples for each (c1 to c64), the same with counters that follow, so that deltas leave them at home (f1 to f64), audio whose samples are so small, and so much alike, that every number of a delta has one byte (a1 to a64), the same with a
-duration for each sample (d2 to d64), and audio of one sample with a list of events (e0 to e16). The form is that of the benchmark's own workloads.h: name,
-parameters, ticks, and of each chunk the bytes up to and with the `mdat` header, the payload's length, and where BMDT stands."""
+subsamples for each (c1 to c64), audio whose samples are so small, and so much alike, that every number of a delta has one byte (a1 to a64), the same with a
+duration for each sample (d2 to d64), audio of one sample with a list of events (e0 to e16), and cenc with counters that follow, so that deltas leave them at
+home (f1 to f64). Without letters it writes all but the last, which the benchmark's peer answers otherwise: it knows no order 6. The form is that of the benchmark's
+own workloads.h: name, parameters, ticks, and of each chunk the bytes up to and with the `mdat` header, the payload's length, and where BMDT stands."""
 import struct
+import sys
 
 LENGTHS = (1, 2, 4, 8, 16, 32, 64)
 EVENTS = (0, 1, 2, 4, 8, 16)
@@ -81,7 +83,8 @@ def main():
     kinds = (("v", LENGTHS, video, (1, 90000, 1, 3000, 0, 3, 0, 0), 3000), ("c", LENGTHS, cenc, (1, 48000, 1, 1024, 0, 0, 1, 16), 1024),
              ("f", LENGTHS, following, (1, 48000, 1, 1024, 0, 0, 1, 16), 1024),
              ("a", LENGTHS, short, (1, 48000, 1, 1024, 0, 0, 0, 0), 1024), ("d", LENGTHS[1:], timed, (1, 48000, 1, 0, 0, 0, 0, 0), 1024), ("e", EVENTS, audio, (1, 48000, 1, 1024, 0, 0, 0, 0), 0))
-    for letter, lengths, make, params, ticks in kinds:
+    letters = sys.argv[1] if len(sys.argv) > 1 else "vcade"
+    for letter, lengths, make, params, ticks in (kind for kind in kinds if kind[0] in letters):
         for n in lengths:
             name = letter + str(n)
             two = [make(n, i) for i in range(2)]

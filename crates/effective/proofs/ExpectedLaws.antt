@@ -62,7 +62,7 @@ told-past e n h z = go (leb n u64) refl
     go true q = absurd (z (ap (λ (x : Expected). x .past) (h ∙ ap (λ (b : Bool). cond b (record { past = 0; time = n }) (record { past = 1; time = 0 })) q)))
     go false q = leb-false n u64 q
 
--- what is kept of a sum of 64 bits, and of none that passes
+-- the sum behind a lawful set has 64 bits: no mark is kept of it
 pub never-past : (t : Track) (r : List ℕ) → length r ≡ setLen → lawful t r ≡ true → t .duration ≤ 0xffff_ffff → nextTime t r ≤ u64
 never-past t r l h d = omega (arith, lawful-facts t r h .bmdt, durations-most t r (lawful-timed t r l h) d)
 

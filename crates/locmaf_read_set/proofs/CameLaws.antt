@@ -14,7 +14,7 @@ use lib.ListN.{length, getD, take, drop, replicate, length-take, length-drop, le
 use lib.Seq.{length-slice, getD-drop}
 use Rattle.laws.specs.Tests.{_and_, allLe, among}
 use Rattle.laws.specs.Bytes.{de, Bytes}
-use Rattle.laws.proofs.TestLaws.{both, and-left, and-right, one-le}
+use Rattle.laws.proofs.TestLaws.{both, and-left, and-right, one-le, zeros-le, allZero-zeros}
 use Rattle.laws.proofs.BytesLaws.{bytes-take, bytes-drop, de-lt, bytes-are}
 use Rattle.wire.specs.declared.zigzag.Coding.{Coding}
 use Rattle.wire.specs.declared.zigzag.Reached.{Reached}
@@ -377,12 +377,6 @@ packed-le (suc k) bs h e =
     let d : length (drop 8 bs) ≡ 8 * k = omega (arith, length-drop 8 bs) in
     both _ _ (le-leb (de (take 8 bs)) 0xffff_ffff_ffff_ffff (word-le (take 8 bs) (bytes-take 8 bs h) n)) (packed-le k (drop 8 bs) (bytes-drop 8 bs h) d)
 
--- zeros are within any bound
-zeros-le : (bound k : ℕ) → allLe bound (replicate k 0) ≡ true
-unfolding allLe
-zeros-le bound zero = refl
-zeros-le bound (suc k) = both _ _ (le-leb 0 bound (omega arith)) (zeros-le bound k)
-
 -- what is said are bytes, where the field is of words of eight
 abbrev Raw : Line → Saying → Type 0
 Raw l s = (zs : List ℕ) → s ≡ sent zs → isIvs (l .want) ≡ true → allLe 255 zs ≡ true
@@ -396,7 +390,7 @@ module _ (t : Track) (coding : Coding) (held : Bool) (r : List ℕ) (was : Measu
       cell-ways t coding held r was l m (λ s x. Raw l s → (vs : List ℕ) → x .field ≡ some vs → allLe (l .bound) vs ≡ true)
       (record {
         absent = λ _ _ _ d. no-field d;
-        left = λ _ _ _ vs d. held-by (same-field d) (zeros-le (l .bound) (wanted (l .want) m));
+        left = λ _ _ _ vs d. held-by (same-field d) (zeros-le (l .bound) _ (allZero-zeros (wanted (l .want) m)));
         kept = λ e i q _ vs d. held-by (same-field d) (there e);
         changed = λ _ _ _ _ d. no-field d;
         struck = λ _ _ d. no-field d;

@@ -78,11 +78,11 @@ module _ (F : List Row) (o s : List ℕ) where
   unfoldable pub leftOut : Bool
   leftOut = isDelta F o && (not (isSome (saying F o 9)) && (has 9 reference && has 9 toldSet))
 
-  -- "21, receiver only, derived IV past its size"
+  -- "21, receiver only, derived IV past its size" (D153)
   unfoldable pub ivsFit : Bool
   ivsFit = not leftOut || derivedFit track (getD s lastAt 0) reference toldSet (length (payload F o))
 
-  -- the new set of moof fields, with IVs that were left out as they follow from the reference's: "demand 2 reads the derived IVs as the reference's"
+  -- the new set of moof fields, with IVs that were left out as they follow from the reference's: "demand 2 reads the derived IVs as the reference's" (D154)
   unfoldable pub newSet : List ℕ
   newSet = cond leftOut (withDerived track (getD s lastAt 0) reference toldSet (length (payload F o))) toldSet
 

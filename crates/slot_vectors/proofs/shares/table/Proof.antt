@@ -5,10 +5,10 @@ use Rattle.slot_vectors.proofs.shares.table.Statement.{statement}
 use Rattle.slot_vectors.proofs.shares.table.Tie as tie
 
 abbrev Inv-loop : tie.InvT-loop
-Inv-loop t₀ eight k₀ t k = k ≤ 175
+Inv-loop t₀ eight k₀ t k = k ≤ 178
 
 abbrev μ-loop : tie.MeasureT-loop
-μ-loop t₀ eight k₀ t k = 175 - k
+μ-loop t₀ eight k₀ t k = 178 - k
 
 enum-told : tie.Need-enum-told Inv-loop μ-loop
 enum-told c = search needs
