@@ -105,13 +105,18 @@ class Relay:
         _, second, last = self.whole(f"enc 1 {wish}", head + media)
         same = front + payload == second + last
         ivs = dict(f.split("=") for f in self.oracle.ask("ref e 0")[0].split("|")[0].split(";")).get("9")
-        home = tuple_bytes(len(ivs) // 2) if ivs and 9 not in ids(front) else 0
+        home = added(varint(front, 1)[0], len(ivs) // 2) if ivs and 9 not in ids(front) else 0
         return 0, kind, len(chunk) - len(payload), len(front), len(payload), same, bool(ivs), home
 
 
-def tuple_bytes(n):
-    """Those of id 9's tuple with n bytes of IVs."""
-    return 1 + (1 if n < 64 else 2) + n
+def size(n):
+    return next(k for k in (1, 2, 4, 8) if n < 1 << (8 * k - 2))
+
+
+def added(block, n):
+    """What id 9's tuple with n bytes of IVs would add to a block: itself, and what the block's length would take more."""
+    longer = block + 1 + size(n) + n
+    return size(longer) + longer - size(block) - block
 
 
 def saved(before, after):

@@ -12,7 +12,7 @@ use share_words::share;
 use wire::form::Form;
 use wire::varint;
 
-// Of an object: whether its chunk has IVs, and the bytes of the tuple that it did without, 0 where it has one.
+// Of an object: whether its chunk has IVs, and the bytes that it did without, 0 where it has them.
 pub struct Home {
     pub ivs: bool,
     pub bytes: u64,
@@ -35,27 +35,49 @@ fn says_ivs(object: &[u8], at: usize, end: usize) -> bool {
     words[places::IVS] != 0
 }
 
-fn is_sent(object: &[u8]) -> bool {
+fn number(v: u64) -> u64 {
+    varint::size(Form::Rfc9000, v) as u64
+}
+
+// What n bytes of IVs would add to a block: their tuple (id, length and IVs), and what its own length would take more.
+fn added(block: u64, n: u64) -> u64 {
+    let tuple = more(number(ids::IVS), more(number(n), n));
+    let before = number(block);
+    let after = number(more(block, tuple));
+    if after < before {
+        return tuple;
+    }
+    more(tuple, after - before)
+}
+
+fn spared_in(object: &[u8], at: usize, end: usize, n: u64) -> u64 {
+    if end < at {
+        return 0;
+    }
+    if says_ivs(object, at, end) {
+        return 0;
+    }
+    added((end - at) as u64, n)
+}
+
+// What an object did without, if its chunk has n bytes of IVs.
+fn spared(object: &[u8], n: u64) -> u64 {
     let h = head::head_of(Form::Rfc9000, object);
     match h {
-        Head::Refused(_) => true,
-        Head::Block(p) => says_ivs(object, p.at, p.end),
+        Head::Refused(_) => 0,
+        Head::Block(p) => spared_in(object, p.at, p.end, n),
     }
 }
 
-// The bytes of the tuple for so many samples with IVs of a size: id, length and IVs.
-fn tuple(samples: u64, iv_size: u64) -> u64 {
+// The bytes of the IVs of so many samples.
+fn iv_bytes(samples: u64, iv_size: u64) -> u64 {
     if samples > maxima::SAMPLES as u64 {
         return 0;
     }
-    let n = if iv_size == 16 {
-        samples * 16
-    } else {
-        samples * 8
-    };
-    let id = varint::size(Form::Rfc9000, ids::IVS) as u64;
-    let length = varint::size(Form::Rfc9000, n) as u64;
-    more(id, more(length, n))
+    if iv_size == 16 {
+        return samples * 16;
+    }
+    samples * 8
 }
 
 // The object of the chunk that the first slot of an encoder's table has as its reference.
@@ -66,12 +88,15 @@ pub fn left(table: &[u64], object: &[u8]) -> Home {
             bytes: 0,
         };
     }
-    let ivs = table[share::SET + lines::IVS] != 0;
-    if !ivs | is_sent(object) {
-        return Home { ivs, bytes: 0 };
+    if table[share::SET + lines::IVS] == 0 {
+        return Home {
+            ivs: false,
+            bytes: 0,
+        };
     }
+    let n = iv_bytes(table[share::SET + lines::COUNT], table[share::IV_SIZE]);
     Home {
-        ivs,
-        bytes: tuple(table[share::SET + lines::COUNT], table[share::IV_SIZE]),
+        ivs: true,
+        bytes: spared(object, n),
     }
 }
