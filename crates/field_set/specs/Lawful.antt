@@ -62,6 +62,7 @@ saizOk iv (c ∷ cs) = leb (iv + (2 + 6 * c)) entryMost and saizOk iv cs
 
 -- 01: "Resulting set, full or delta: with no samples no lists, 9 or 12; with one, neither 1 nor 6; never 1 with 6 or 7 with 12; 11, 13 and
 -- 15 together, only on protected tracks; 9 exactly on cenc with samples; with several and neither 1 nor 6, trex size not 0." (D97, D99, D100, D101, D106)
+-- 02, order 6, "lets the set rule take derived IVs (deleting 9 while there are samples stays 14)": an id 9 that is left out and is to be derived stands (D91, D150)
 unfoldable pub setRules : Track → ℕ → List ℕ → Bool
 setRules t n marks =
     (not (eqb n 0) || not (lists || (at 9 || at 12)))
