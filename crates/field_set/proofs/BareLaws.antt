@@ -43,6 +43,10 @@ module _ (w : List ℕ) (none : allZero (marksOf w) ≡ true) where
   unfolding lineFor lines
   no-counts n = values-none 11 n w (mark-none w none subsamplesLine (omega arith))
 
+  pub no-pairs : (n : ℕ) → 0 ≡ sum (valuesOf 11 n w)
+  unfolding sum
+  no-pairs n = rw (no-counts n)
+
   pub no-durations : (n : ℕ) → 0 ≡ sum (valuesOf 3 n w)
   unfolding lineFor lines sum
   no-durations n = rw (values-none 3 n w (mark-none w none durationsLine (omega arith)))

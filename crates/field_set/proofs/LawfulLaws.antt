@@ -39,8 +39,8 @@ tallied-sum t w c iv e h =
     h .total (h .within ∙ sym (saiz-is (t .«iv_size») (valuesOf 11 (getD w countAt 0) w) (omega arith)) ∙ left _ _ (right _ _ e))
 
 -- words of which something doesn't hold
-pub tested-not : {r : Tested} {holds : Bool} {n : ℕ} {w : List ℕ} → r .ok ≡ false → false ≡ holds → TestedAs r holds n w
-tested-not e h = record { right = e ∙ h; summed = λ k. absurd (false≢true (sym e ∙ k)) }
+pub tested-not : {r : Tested} {holds : Bool} {n pairs : ℕ} {w : List ℕ} → r .ok ≡ false → false ≡ holds → TestedAs r holds n pairs w
+tested-not e h = record { right = e ∙ h; summed = λ k. absurd (false≢true (sym e ∙ k)); paired = λ k. absurd (false≢true (sym e ∙ k)) }
 
 module _ (t : Track) (w : List ℕ) where
   -- what code finds of words: too many samples
@@ -79,13 +79,13 @@ module _ (t : Track) (w : List ℕ) where
         last-two true false false = refl
         last-two false y z = refl
 
-    -- with the sum of the durations, which the regions gave
+    -- with the sum of the durations, which the regions gave, and the subsamples, which were tallied
     pub lawful-tested : not (c .ok) ≡ false → (r : Tested) (z b : Bool)
-        → TestedAs r (regionsOk (record { count = getD w countAt 0; ivs = t .«iv_size» / 8; sum = c .sum }) lines w) (getD w countAt 0) w
+        → TestedAs r (regionsOk (record { count = getD w countAt 0; ivs = t .«iv_size» / 8; sum = c .sum }) lines w) (getD w countAt 0) (c .sum) w
         → z ≡ sameIvSize t w
         → b ≡ setRules t (getD w countAt 0) (marksOf w)
-        → TestedAs (record { ok = leb (getD w bmdtAt 0) numberMost && (leb (c .sum) subsamplesMost && ((r .ok && z) && b)); durations = r .durations })
-        (lawful t w) (getD w countAt 0) w
+        → TestedAs (record { ok = leb (getD w bmdtAt 0) numberMost && (leb (c .sum) subsamplesMost && ((r .ok && z) && b)); durations = r .durations; pairs = c .sum })
+        (lawful t w) (getD w countAt 0) (sum (valuesOf 11 (getD w countAt 0) w)) w
     lawful-tested h r z b er ez eb =
         record {
           right = lawful-rest h (r .ok) z b (er .right) ez eb;
@@ -95,6 +95,7 @@ module _ (t : Track) (w : List ℕ) where
               (and-left (r .ok) z
               (and-left (r .ok && z) b
               (and-right (leb (c .sum) subsamplesMost) _ (and-right (leb (getD w bmdtAt 0) numberMost) _ e))));
+          paired = λ _. ec .total (held refl h);
         }
 
 -- how many values of a line's field are in use

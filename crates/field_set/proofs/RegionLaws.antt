@@ -173,8 +173,8 @@ module _ (m : Measure) (w : List ℕ) where
 
     -- and the sum of the durations is known
     pub scan-tested : lineCount ≤ i → (y : ℕ) → y ≡ allBits (slice free setLen w) → (d : Total) → TotalOf d (valuesOf 3 (m .count) w)
-        → TestedAs (record { ok = ok && eqb (bitOr rest y) 0; durations = d .sum }) (regionsOk m lines w) (m .count) w
-    scan-tested le y ey d ed = record { right = scan-end le y ey; summed = λ e. ed .total (durations-are ∙ h .seen (and-left ok _ e)) }
+        → TestedAs (record { ok = ok && eqb (bitOr rest y) 0; durations = d .sum; pairs = m .sum }) (regionsOk m lines w) (m .count) (m .sum) w
+    scan-tested le y ey d ed = record { right = scan-end le y ey; summed = λ e. ed .total (durations-are ∙ h .seen (and-left ok _ e)); paired = λ _. refl }
 
     -- the next line's mark lies in the words
     pub scan-inside : i < lineCount → (at : ℕ) → at ≡ placeOf i → at < length w

@@ -127,10 +127,12 @@ pub record TallyOf (r : Tally) (most : ℕ) (s : List ℕ) : Type 0 where
   pub total : r .ok ≡ true → r .sum ≡ sum s
   pub small : r .sum ≤ samplesMost * 64
 
--- what was found of words with n samples: whether something holds of them, and then the sum of the durations that they list
-pub record TestedAs (r : Tested) (holds : Bool) (n : ℕ) (w : List ℕ) : Type 0 where
+-- what was found of words with n samples and so many subsamples: whether something holds of them, and then the sum of the durations that they list and the number of
+-- the subsamples
+pub record TestedAs (r : Tested) (holds : Bool) (n pairs : ℕ) (w : List ℕ) : Type 0 where
   pub right : r .ok ≡ holds
   pub summed : r .ok ≡ true → r .durations ≡ sum (valuesOf 3 n w)
+  pub paired : r .ok ≡ true → r .pairs ≡ pairs
 
 -- words in which a field that doesn't stand has nothing stored
 pub record Tidy (w : List ℕ) : Type 0 where

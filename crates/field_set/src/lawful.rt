@@ -7,7 +7,7 @@ ghost use Prim.Native.Nat.{_+_, _-_, _/_, _≤_};
 ghost use lib.Dec.{eqb, leb};
 ghost use lib.ListN.{length, getD};
 ghost use lib.Seq.{slice};
-ghost use Rattle.laws.specs.Tests.{allZero, allBits};
+ghost use Rattle.laws.specs.Tests.{allZero, allBits, sum};
 ghost use Rattle.constants.specs.Maxima.{samplesMost, entryMost};
 ghost use Rattle.word_spans.specs.Totals.{TotalOf};
 ghost use Rattle.field_table.specs.Lines.{lines, setLen, subsamplesAt, marksOf, durationsLine, Small};
@@ -51,10 +51,11 @@ fn tallied(w: &[u64], from: usize, to: usize, most: u64) -> Tally
     Tally { ok, sum }
 }
 
-// What is found of the words of a set: whether they are lawful, and if so the sum of the durations that they list.
+// What is found of the words of a set: whether they are lawful, and if so the sum of the durations that they list, and how many subsamples there are.
 pub struct Tested {
     pub ok: bool,
     pub durations: u64,
+    pub pairs: usize,
 }
 
 fn unlawful() -> Tested
@@ -63,6 +64,7 @@ fn unlawful() -> Tested
     Tested {
         ok: false,
         durations: 0,
+        pairs: 0,
     }
 }
 
@@ -94,7 +96,7 @@ fn within(i: usize, w: &[u64], from: usize, to: usize, bound: u64) -> bool
 fn regions_ok(w: &[u64], m: Measure) -> Tested
     requires { ⌜ length (now w) ≡ setLen ⌝ }
     requires { ⌜ Small m ⌝ }
-    ensures { λ r. ⌜ TestedAs r (regionsOk m lines (now (w .entry))) (m .count) (now (w .entry)) ⌝ }
+    ensures { λ r. ⌜ TestedAs r (regionsOk m lines (now (w .entry))) (m .count) (m .sum) (now (w .entry)) ⌝ }
 {
     let d = listed(w, m.count);
     let mut ok = d.bits <= U32;
@@ -120,6 +122,7 @@ fn regions_ok(w: &[u64], m: Measure) -> Tested
     Tested {
         ok: ok & ((rest | scan::bits(w, free, lines::SET)) == 0),
         durations: d.sum,
+        pairs: m.sum,
     }
 }
 
@@ -177,7 +180,8 @@ fn bare_ok(t: Track, w: &[u64], n: u64) -> bool
 pub fn test_set(t: Track, w: &[u64]) -> Tested
     requires { ⌜ length (now w) ≡ setLen ⌝ }
     requires { ⌜ t .«iv_size» ≤ 16 ⌝ }
-    ensures { λ r. ⌜ TestedAs r (lawful t (now (w .entry))) (countIn (now (w .entry))) (now (w .entry)) ⌝ }
+    ensures { λ r. ⌜ TestedAs r (lawful t (now (w .entry))) (countIn (now (w .entry)))
+        (sum (valuesOf 11 (countIn (now (w .entry))) (now (w .entry)))) (now (w .entry)) ⌝ }
 {
     let n = w[lines::COUNT];
     if n > maxima::SAMPLES as u64 {
@@ -189,6 +193,7 @@ pub fn test_set(t: Track, w: &[u64]) -> Tested
                 return Tested {
                     ok: bare_ok(t, w, n),
                     durations: 0,
+                    pairs: 0,
                 };
             }
         }
@@ -210,5 +215,6 @@ pub fn test_set(t: Track, w: &[u64]) -> Tested
     Tested {
         ok,
         durations: r.durations,
+        pairs: c.sum,
     }
 }

@@ -2,7 +2,7 @@
 use mathlib.Core.Path.{refl, sym, _∙_}
 use denote.Ref.{now}
 use Rattle.field_set.proofs.LawfulLaws.{tested-not, many-samples, many-subsamples, lawful-tested}
-use Rattle.field_set.proofs.BareLaws.{no-durations}
+use Rattle.field_set.proofs.BareLaws.{no-pairs, no-durations}
 use borrow.Author.Needs.{needs}
 use Rattle.field_set.proofs.lawful.test_set.Statement.{statement}
 use Rattle.field_set.proofs.lawful.test_set.Tie as tie
@@ -30,7 +30,9 @@ bare-ok-requires c κs =
 returns-2 : tie.Need-returns-2
 returns-2 c =
     let s = c .before .before .before .before .before .before .before .before .before in
-    record { right = c .bare-ok .ensures; summed = λ _. no-durations (now (s .args .w)) (sym (c .before .before .none-stands .ensures) ∙ c .before .if4 .taken) _ }
+    let w = now (s .args .w) in
+    let none = sym (c .before .before .none-stands .ensures) ∙ c .before .if4 .taken in
+    record { right = c .bare-ok .ensures; summed = λ _. no-durations w none _; paired = λ _. no-pairs w none _ }
 
 shared-slice-read-tally-of : tie.Need-shared-slice-read-tally-of
 shared-slice-read-tally-of c = search needs
