@@ -32,7 +32,7 @@ some-samples t w e =
     omega arith
 
 -- the words of a field that stands
-values-stand : (w : List ℕ) (n : ℕ) → has 11 w ≡ true → valuesOf 11 n w ≡ slice (subsamplesAt + 1) (subsamplesAt + 1 + n) w
+pub values-stand : (w : List ℕ) (n : ℕ) → has 11 w ≡ true → valuesOf 11 n w ≡ slice (subsamplesAt + 1) (subsamplesAt + 1 + n) w
 unfolding has lines lineFor
 values-stand w n e = values-all 11 n w (eqb-false _ _ (not-true (eqb (getD w subsamplesAt 0) 0) e))
 

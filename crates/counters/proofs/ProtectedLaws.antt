@@ -19,9 +19,10 @@ use Rattle.field_set.specs.Lawful.{has, inUse, valueAt, countIn, valuesOf, lawf
 use Rattle.field_set.proofs.RuleLaws.{ruled}
 use Rattle.told_sizes.specs.Sums.{bytesOf, Summable}
 use Rattle.told_sizes.specs.Told.{mayHave}
-use Rattle.told_sizes.proofs.SumLaws.{part-most}
+use Rattle.told_sizes.proofs.SumLaws.{part-most, protected-small}
 use Rattle.effective.specs.Sizes.{lastSize}
 use Rattle.effective.proofs.SizesAdd.{size-is}
+use Rattle.counters.proofs.LastLaws.{values-stand, last-pairs}
 use Rattle.counters.specs.Protected.{protectedOf, counted, lastPairs, lastBytes, lastProtected, lastFits}
 
 -- ---- of a sample that isn't the last
@@ -59,39 +60,43 @@ module _ (t : Track) (w : List ℕ) (payload i j : ℕ) where
 
 -- ---- of the last sample, by its subsamples
 
--- the subsample counts of the first n samples
-counts-are : (w : List ℕ) (n : ℕ) → has 11 w ≡ true → valuesOf 11 n w ≡ slice (subsamplesAt + 1) (subsamplesAt + 1 + n) w
-unfolding has valuesOf inUse lines lineFor
-counts-are w n h = rw (not-true (eqb (getD w subsamplesAt 0) 0) h)
+module _ {w : List ℕ} (s : Summable w) (on : has 11 w ≡ true) where
+  -- all subsamples, as code counts them
+  pub pairs-are : sum (slice (subsamplesAt + 1) (subsamplesAt + 1 + countIn w) w) ≡ sum (valuesOf 11 (countIn w) w)
+  pairs-are = ap sum (sym (values-stand w (countIn w) on))
 
-module _ {w : List ℕ} (s : Summable w) (on : has 11 w ≡ true) (some : 1 ≤ countIn w) where
-  abbrev end : ℕ
-  end = subsamplesAt + countIn w
+  module _ (some : 1 ≤ countIn w) (pairs : ℕ) (all : pairs ≡ sum (valuesOf 11 (countIn w) w)) where
+    abbrev own : ℕ
+    own = getD w (subsamplesAt + countIn w) 0
 
-  -- all before it have theirs before
-  before-is : lastPairs w ≡ sum (slice (subsamplesAt + 1) end w)
-  before-is =
-      let e : subsamplesAt + 1 + (countIn w - 1) ≡ end = omega arith in
-      ap sum (counts-are w (countIn w - 1) on ∙ ap (λ (to : ℕ). slice (subsamplesAt + 1) to w) e)
+    -- its own are the last of them
+    own-last : lastPairs w + own ≡ pairs
+    unfolding lines lineFor
+    own-last =
+        let at : subsamplesAt + 1 + (countIn w - 1) ≡ subsamplesAt + countIn w = omega arith in
+        rw at at (last-pairs s on some) ∙ sym all
 
-  -- with its own they are no more than all
-  pub last-room : sum (slice (subsamplesAt + 1) end w) + getD w end 0 ≤ subsamplesMost
-  unfolding sum
-  last-room =
-      let l : end + 1 ≤ length w = omega (arith, s .words, s .few) in
-      let e : subsamplesAt + 1 + countIn w ≡ end + 1 = omega arith in
-      let z : sum (slice (end + 1) (end + 1) w) ≡ 0 = ap sum (slice-none (end + 1) (end + 1) w (omega arith)) in
-      let all : sum (valuesOf 11 (countIn w) w) ≡ sum (slice (subsamplesAt + 1) end w) + sum (slice end (end + 1) w) =
-      ap sum (counts-are w (countIn w) on ∙ ap (λ (to : ℕ). slice (subsamplesAt + 1) to w) e ∙ slice-join (subsamplesAt + 1) end (end + 1) w (omega arith) (omega arith) l)
-      ∙ sum-append (slice (subsamplesAt + 1) end w) (slice end (end + 1) w) in
-      omega (arith, all, z, sum-next w end (end + 1) (omega arith) l, s .subsamples)
+    pub own-few : own ≤ pairs
+    own-few = omega (arith, own-last)
 
-  -- what code adds up
-  pub last-is : (j r : ℕ) → j ≡ sum (slice (subsamplesAt + 1) end w) → r ≡ sum (slice (protectedAt + 1 + j) (protectedAt + 1 + j + getD w end 0) w) → r ≡ lastBytes w
-  unfolding lastBytes bytesOf lines lineFor
-  last-is j r e d =
-      let at : subsamplesAt + 1 + (countIn w - 1) ≡ end = omega arith in
-      d ∙ rw (at, before-is, e)
+    pub pairs-few : pairs ≤ subsamplesMost
+    pairs-few = omega (arith, all, s .subsamples)
+
+    -- they aren't many bytes
+    pub own-small : sum (slice (protectedAt + 1 + pairs - own) (protectedAt + 1 + pairs) w) < 2 ^ 64
+    own-small =
+        let from : protectedAt + 1 + pairs - own ≡ protectedAt + 1 + lastPairs w = omega (arith, own-last) in
+        let to : protectedAt + 1 + pairs ≡ protectedAt + 1 + lastPairs w + own = omega (arith, own-last) in
+        rw (from, to) (omega (arith, protected-small s (lastPairs w) own (omega (arith, own-last, pairs-few))))
+
+    -- what code adds up
+    pub last-is : (r : ℕ) → r ≡ sum (slice (protectedAt + 1 + pairs - own) (protectedAt + 1 + pairs) w) → r ≡ lastBytes w
+    unfolding lastBytes bytesOf lines lineFor
+    last-is r e =
+        let at : subsamplesAt + 1 + (countIn w - 1) ≡ subsamplesAt + countIn w = omega arith in
+        let from : protectedAt + 1 + pairs - own ≡ protectedAt + 1 + lastPairs w = omega (arith, own-last) in
+        let to : protectedAt + 1 + pairs ≡ protectedAt + 1 + lastPairs w + own = omega (arith, own-last) in
+        rw (from, to) at e ∙ rw at
 
 -- ---- of a chunk's last sample
 

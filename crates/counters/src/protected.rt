@@ -3,8 +3,9 @@
 ghost use mathlib.Core.Path.{_≡_};
 ghost use mathlib.Core.Bool.{true, false};
 ghost use Prim.Native.Nat.{ℕ, _+_, _^_, _≤_, _<_};
+ghost use Rattle.laws.specs.Tests.{sum};
 ghost use Rattle.constants.specs.Maxima.{subsamplesMost};
-ghost use Rattle.field_set.specs.Lawful.{has, valueAt, countIn, lawful};
+ghost use Rattle.field_set.specs.Lawful.{has, valueAt, valuesOf, countIn, lawful};
 ghost use Rattle.told_sizes.specs.Sums.{Summable};
 ghost use Rattle.effective.specs.Sizes.{Sized};
 ghost use Rattle.counters.specs.Protected.{protectedOf, lastPairs, lastBytes, lastProtected, lastFits};
@@ -32,15 +33,24 @@ pub fn protected_of(t: Track, w: &[u64], i: usize, j: usize) -> u64
     t.size as u64
 }
 
+// How many subsamples there are.
+fn pairs_in(w: &[u64]) -> usize
+    requires { ⌜ Summable (now w) × (has 11 (now w) ≡ true) ⌝ }
+    ensures { λ r. ⌜ r ≡ sum (valuesOf 11 (countIn (now (w .entry))) (now (w .entry))) ⌝ }
+{
+    let from = lines::SUBSAMPLES + 1;
+    add_up(w, from, from + w[lines::COUNT] as usize) as usize
+}
+
 // Those of the last sample by its subsamples, which are the last of all.
-fn last_bytes(w: &[u64]) -> u64
-    requires { ⌜ Summable (now w) ⌝ }
-    requires { ⌜ (has 11 (now w) ≡ true) × (1 ≤ countIn (now w)) ⌝ }
+fn last_bytes(w: &[u64], pairs: usize) -> u64
+    requires { ⌜ Summable (now w) × (has 11 (now w) ≡ true) × (1 ≤ countIn (now w)) ⌝ }
+    requires { ⌜ pairs ≡ sum (valuesOf 11 (countIn (now w)) (now w)) ⌝ }
     ensures { λ r. ⌜ r ≡ lastBytes (now (w .entry)) ⌝ }
 {
-    let end = lines::SUBSAMPLES + w[lines::COUNT] as usize;
-    let from = lines::PROTECTED + 1 + add_up(w, lines::SUBSAMPLES + 1, end) as usize;
-    add_up(w, from, from + w[end] as usize)
+    let own = w[lines::SUBSAMPLES + w[lines::COUNT] as usize] as usize;
+    let end = lines::PROTECTED + 1 + pairs;
+    add_up(w, end - own, end)
 }
 
 // Those of the last sample of a chunk; 0 off cenc and without samples, where no IV stands.
@@ -53,21 +63,22 @@ pub fn last_protected(t: Track, w: &[u64], payload: u64) -> u64
         return 0;
     }
     if w[lines::SUBSAMPLES] != 0 {
-        return last_bytes(w);
+        return last_bytes(w, pairs_in(w));
     }
     effective::sizes::last_size(t, w, payload)
 }
 
-// Whether a number can be that, as far as the words tell it.
-pub fn last_fits(t: Track, w: &[u64], last: u64) -> bool
+// Whether a number can be that, as far as the words tell it, whose subsamples were counted.
+pub fn last_fits(t: Track, w: &[u64], pairs: usize, last: u64) -> bool
     requires { ⌜ Summable (now w) × (lawful t (now w) ≡ true) ⌝ }
+    requires { ⌜ pairs ≡ sum (valuesOf 11 (countIn (now w)) (now w)) ⌝ }
     ensures { λ r. ⌜ r ≡ lastFits t (now (w .entry)) last ⌝ }
 {
     if w[lines::IVS] == 0 {
         return last == 0;
     }
     if w[lines::SUBSAMPLES] != 0 {
-        return last == last_bytes(w);
+        return last == last_bytes(w, pairs);
     }
     (last <= maxima::PAYLOAD) & told_sizes::told::may_have(t, w, w[lines::COUNT] as usize - 1, last)
 }

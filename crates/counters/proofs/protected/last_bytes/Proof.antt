@@ -1,73 +1,53 @@
 -- `counters::protected::last_bytes` meets its contract: the last subsamples are those of the last sample. Assumes nothing.
-use borrow.Author.Needs.{needs}
-use Prim.Native.Nat.{_+_}
 use native.Mathlib.Omega.{arith}
-use lib.ListN.{getD}
-use Rattle.field_table.specs.Lines.{subsamplesAt}
-use Rattle.field_set.specs.Lawful.{countIn}
-use Rattle.told_sizes.proofs.SumLaws.{protected-small}
-use Rattle.counters.proofs.ProtectedLaws.{last-room, last-is}
+use borrow.Author.Needs.{needs}
+use Rattle.counters.proofs.ProtectedLaws.{pairs-few, own-few, own-small, last-is}
 use Rattle.counters.proofs.protected.last_bytes.Statement.{statement}
 use Rattle.counters.proofs.protected.last_bytes.Tie as tie
 
-shared-slice-read-end : tie.Need-shared-slice-read-end
-shared-slice-read-end c = search needs
+shared-slice-read-own : tie.Need-shared-slice-read-own
+shared-slice-read-own c = search needs
+
+add-own : tie.Need-add-own
+add-own c = search needs
+
+mul-own : tie.Need-mul-own
+mul-own c = search needs
+
+shared-slice-read-own-2 : tie.Need-shared-slice-read-own-2
+shared-slice-read-own-2 c = search needs
 
 add-end : tie.Need-add-end
 add-end c = search needs
 
-add-from : tie.Need-add-from
-add-from c = search needs
+add-end-2 : tie.Need-add-end-2
+add-end-2 c = search needs
 
-add-add-up : tie.Need-add-add-up
-add-add-up c = search needs
+sub-add-up : tie.Need-sub-add-up
+sub-add-up c =
+    let p = c .before .before .before .pre in
+    omega (arith, own-few (p .0 .0) (p .0 .1) (p .0 .2) _ (p .1))
 
 add-up-requires : tie.Need-add-up-requires
 add-up-requires c κs =
-    let b = c .before .before in
-    (omega (arith, b .pre .0 .words, b .pre .0 .few), omega (arith, last-room (b .pre .0) (b .pre .1 .0) (b .pre .1 .1)))
-
-add-from-2 : tie.Need-add-from-2
-add-from-2 c =
-    let s = c .before .before .before .pre in
-    omega (arith, c .add-up .ensures, last-room (s .0) (s .1 .0) (s .1 .1))
-
-mul-add-up : tie.Need-mul-add-up
-mul-add-up c = search needs
-
-shared-slice-read-add-up : tie.Need-shared-slice-read-add-up
-shared-slice-read-add-up c = search needs
-
-add-add-up-2 : tie.Need-add-add-up-2
-add-add-up-2 c =
-    let s = c .before .before .before .before .pre in
-    omega (arith, c .before .add-up .ensures, last-room (s .0) (s .1 .0) (s .1 .1))
-
-add-up-requires-2 : tie.Need-add-up-requires-2
-add-up-requires-2 c κs =
-    let b = c .before .before .before .before in
-    let h = last-room (c .before .before .before .before .pre .0) (c .before .before .before .before .pre .1 .0) (c .before .before .before .before .pre .1 .1) in
-    let e = c .before .add-up .ensures in
-    let w = b .args .w .now in
-    (omega (arith, b .pre .0 .words), omega (arith, protected-small (b .pre .0) (c .before .add-up .result) (getD w (subsamplesAt + countIn w) 0) (omega arith)))
+    let p = c .before .before .before .pre in
+    (omega (arith, p .0 .0 .words, pairs-few (p .0 .0) (p .0 .1) (p .0 .2) _ (p .1)), own-small (p .0 .0) (p .0 .1) (p .0 .2) _ (p .1))
 
 returns : tie.Need-returns
 returns c =
-    let b = c .before .before .before .before .before in
-    last-is (b .pre .0) (b .pre .1 .0) (b .pre .1 .1) _ _ (c .before .before .add-up .ensures) (c .add-up2 .ensures)
+    let p = c .before .before .before .before .pre in
+    last-is (p .0 .0) (p .0 .1) (p .0 .2) _ (p .1) _ (c .add-up .ensures)
 
 pub last-bytes-spec : {M : Type 1} → statement M
 last-bytes-spec =
     tie.close
     (tie.spec
-    shared-slice-read-end
+    shared-slice-read-own
+    add-own
+    mul-own
+    shared-slice-read-own-2
     add-end
-    add-from
-    add-add-up
+    add-end-2
+    sub-add-up
     add-up-requires
-    add-from-2
-    mul-add-up
-    shared-slice-read-add-up
-    add-add-up-2
-    add-up-requires-2
     returns)

@@ -11,7 +11,7 @@ shared-slice-read-if1 c = search needs
 
 returns : tie.Need-returns
 unfolding lines lineFor
-returns c = none-fits _ _ (c .before .before .before .pre .1) _ (has-no 9 _ (c .if1 .taken))
+returns c = none-fits _ _ (c .before .before .before .pre .0 .1) _ (has-no 9 _ (c .if1 .taken))
 
 shared-slice-read-if2 : tie.Need-shared-slice-read-if2
 shared-slice-read-if2 c = search needs
@@ -19,13 +19,13 @@ shared-slice-read-if2 c = search needs
 last-bytes-requires : tie.Need-last-bytes-requires
 unfolding lines lineFor
 last-bytes-requires c κs =
-    let b = c .before .before .before .before .before in
-    (b .pre .0, (has-yes 11 _ (c .if2 .taken), some-samples _ _ (b .pre .1) (has-yes 9 _ (c .before .before .if1 .left))))
+    let p = c .before .before .before .before .before .pre in
+    ((p .0 .0, has-yes 11 _ (c .if2 .taken), some-samples _ _ (p .0 .1) (has-yes 9 _ (c .before .before .if1 .left))), p .1)
 
 returns-2 : tie.Need-returns-2
 unfolding lines lineFor
 returns-2 c =
-    let law = c .before .before .before .before .before .before .pre .1 in
+    let law = c .before .before .before .before .before .before .pre .0 .1 in
     rw (c .last-bytes .ensures) (paired-fits _ _ law (has-yes 9 _ (c .before .before .before .if1 .left)) _ (has-yes 11 _ (c .before .if2 .taken)))
 
 shared-slice-read-may-have : tie.Need-shared-slice-read-may-have
@@ -33,7 +33,7 @@ shared-slice-read-may-have c = search needs
 
 sub-may-have : tie.Need-sub-may-have
 unfolding lines lineFor
-sub-may-have c = some-samples _ _ (c .before .before .before .before .before .before .pre .1) (has-yes 9 _ (c .before .before .before .if1 .left))
+sub-may-have c = some-samples _ _ (c .before .before .before .before .before .before .pre .0 .1) (has-yes 9 _ (c .before .before .before .if1 .left))
 
 may-have-requires : tie.Need-may-have-requires
 may-have-requires c κs = search needs
@@ -41,7 +41,7 @@ may-have-requires c κs = search needs
 returns-3 : tie.Need-returns-3
 unfolding lines lineFor
 returns-3 c =
-    let law = c .before .before .before .before .before .before .before .pre .1 in
+    let law = c .before .before .before .before .before .before .before .pre .0 .1 in
     rw (c .may-have .ensures) (whole-fits _ _ law (has-yes 9 _ (c .before .before .before .before .if1 .left)) _ (has-no 11 _ (c .before .before .if2 .left)))
 
 pub last-fits-spec : {M : Type 1} → statement M

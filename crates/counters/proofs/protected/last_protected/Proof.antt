@@ -17,17 +17,21 @@ returns c = none-last _ _ (c .before .before .before .pre .1) _ (has-no 9 _ (c .
 shared-slice-read-if2 : tie.Need-shared-slice-read-if2
 shared-slice-read-if2 c = search needs
 
+pairs-in-requires : tie.Need-pairs-in-requires
+unfolding lines lineFor
+pairs-in-requires c κs = (c .before .before .before .before .before .pre .0 .0, has-yes 11 _ (c .if2 .taken))
+
 last-bytes-requires : tie.Need-last-bytes-requires
 unfolding lines lineFor
 last-bytes-requires c κs =
-    let b = c .before .before .before .before .before in
-    (b .pre .0 .0, (has-yes 11 _ (c .if2 .taken), some-samples _ _ (b .pre .1) (has-yes 9 _ (c .before .before .if1 .left))))
+    let p = c .before .before .before .before .before .before .pre in
+    ((p .0 .0, has-yes 11 _ (c .before .if2 .taken), some-samples _ _ (p .1) (has-yes 9 _ (c .before .before .before .if1 .left))), c .pairs-in .ensures)
 
 returns-2 : tie.Need-returns-2
 unfolding lines lineFor
 returns-2 c =
-    let law = c .before .before .before .before .before .before .pre .1 in
-    c .last-bytes .ensures ∙ paired-last _ _ law (has-yes 9 _ (c .before .before .before .if1 .left)) _ (has-yes 11 _ (c .before .if2 .taken))
+    let law = c .before .before .before .before .before .before .before .pre .1 in
+    c .last-bytes .ensures ∙ paired-last _ _ law (has-yes 9 _ (c .before .before .before .before .if1 .left)) _ (has-yes 11 _ (c .before .before .if2 .taken))
 
 last-size-requires : tie.Need-last-size-requires
 last-size-requires c κs = search needs
@@ -45,6 +49,7 @@ last-protected-spec =
     shared-slice-read-if1
     returns
     shared-slice-read-if2
+    pairs-in-requires
     last-bytes-requires
     returns-2
     last-size-requires
