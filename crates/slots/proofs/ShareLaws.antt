@@ -71,12 +71,31 @@ module _ (t : Track) (s w : List ℕ) (e : w ≡ drop setAt s) where
       let none : setOk t (drop setAt s) ≡ false = and-false _ (ap (lawfulSet t) (sym e) ∙ h) in
       sym (ap (λ (b : Bool). expectedOk t s and lastOk t s and b) none ∙ ap (λ (b : Bool). expectedOk t s and b) (and-never (lastOk t s)) ∙ and-never (expectedOk t s))
 
-  -- it is
-  pub set-lawful : lawfulSet t w ≡ true → (p f q : Bool) → (kept to-keep : Expected) → kept ≡ expectedIn s → (d : ℕ) → d ≡ durationsOf t w
-      → to-keep ≡ expectedBy (getD w bmdtAt 0 + d) → p ≡ same kept to-keep → f ≡ lastFits t w (getD s lastAt 0) → q ≡ sizesAgree t w
-      → (p && (f && q)) ≡ (expectedOk t s and lastOk t s and setOk t (drop setAt s))
-  unfolding setOk expectedOk lastOk _and_
-  set-lawful h p f q kept to-keep ek d ed et ep ef eq = rw (ep, ef, eq, ek, et, ed, e, ap (lawfulSet t) (sym e) ∙ h)
+  -- its last sample can't have so many protected bytes
+  pub last-unlawful : lastFits t w (getD s lastAt 0) ≡ false → false ≡ (expectedOk t s and lastOk t s and setOk t (drop setAt s))
+  unfolding lastOk _and_
+  last-unlawful h =
+      let none : lastOk t s ≡ false = ap (λ (v : List ℕ). lastFits t v (getD s lastAt 0)) (sym e) ∙ h in
+      sym (ap (λ (b : Bool). expectedOk t s and b and setOk t (drop setAt s)) none ∙ and-never (expectedOk t s))
+
+  -- what is kept as expected is compared with what is expected
+  module _ (kept to-keep : Expected) (ek : kept ≡ expectedIn s) (d : ℕ) (ed : d ≡ durationsOf t w) (et : to-keep ≡ expectedBy (getD w bmdtAt 0 + d)) where
+    compared : same kept to-keep ≡ expectedOk t s
+    unfolding expectedOk
+    compared = rw (ek, et, ed, e)
+
+    pub expected-unlawful : same kept to-keep ≡ false → false ≡ (expectedOk t s and lastOk t s and setOk t (drop setAt s))
+    unfolding _and_
+    expected-unlawful h = rw (sym compared ∙ h)
+
+    -- all is as it is to be, if the sizes agree
+    pub set-lawful : lawfulSet t w ≡ true → lastFits t w (getD s lastAt 0) ≡ true → same kept to-keep ≡ true → (q : Bool) → q ≡ sizesAgree t w
+        → q ≡ (expectedOk t s and lastOk t s and setOk t (drop setAt s))
+    unfolding setOk lastOk _and_
+    set-lawful h f p q eq =
+        rw
+        (sym compared ∙ p, ap (λ (v : List ℕ). lastFits t v (getD s lastAt 0)) (sym e) ∙ f, ap (lawfulSet t) (sym e) ∙ h)
+        (eq ∙ ap (sizesAgree t) e)
 
 module _ (t : Track) (s : List ℕ) (l : length s ≡ shareLen) where
   -- no reference is marked

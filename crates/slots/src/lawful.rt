@@ -90,8 +90,8 @@ fn prft_ok(s: &[u64]) -> bool
                     & ((s[share::NTP] <= maxima::NUMBER) & (media <= maxima::NUMBER)))))
 }
 
-// Whether the set is one that a share can hold, and what the share has beside it belongs to it: what is expected behind it, and its last sample's protected bytes. The
-// durations that it lists were added up when its words were looked at.
+// Whether the set is one that a share can hold, and what the share has beside it belongs to it: its last sample's protected bytes, and what is expected behind it. The
+// durations that it lists were added up when its words were looked at, and its subsamples counted.
 fn set_ok(t: Track, s: &[u64]) -> bool
     requires { ⌜ (length (now s) ≡ shareLen) × (t .«iv_size» ≤ 16) ⌝ }
     ensures { λ r. ⌜ r
@@ -102,10 +102,15 @@ fn set_ok(t: Track, s: &[u64]) -> bool
     if !k.ok {
         return false;
     }
+    if !counters::protected::last_fits(t, w, k.pairs, s[share::LAST]) {
+        return false;
+    }
     let d = effective::durations::durations_by(t, w, k.durations);
     let e = expected::expected_by(w[lines::BMDT], d);
-    let last = counters::protected::last_fits(t, w, s[share::LAST]);
-    expected::is_same(expected_of(s), e) & (last & told_sizes::told::sizes_agree(t, w))
+    if !expected::is_same(expected_of(s), e) {
+        return false;
+    }
+    told_sizes::told::sizes_agree(t, w)
 }
 
 // Whether a reference that the share marks as held is lawful, or nothing is stored where none is.
