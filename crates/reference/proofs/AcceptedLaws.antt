@@ -179,17 +179,27 @@ module _ (s : List ℕ) (l : length s ≡ shareLen) where
     accepted-long lw = all-long (take acceptedAt s) n (fiveOf delta p) (expectedAfter w s) (lastAfter w payload s) w front-long (five-long delta p) lw
 
     -- and its parameters
-    accepted-kept : (k : ℕ) → k < acceptedAt → getD (keptWords delta n p w payload s) k 0 ≡ getD s k 0
-    unfolding keptWords
-    accepted-kept k h =
+    front-kept : (rest : List ℕ) (k : ℕ) → k < acceptedAt → getD (take acceptedAt s ++ rest) k 0 ≡ getD s k 0
+    front-kept rest k h =
         let m : k < length (take acceptedAt s) = omega (arith, front-long) in
-        List·getD-append (take acceptedAt s) _ 0 k m ∙ getD-take acceptedAt s k 0 h
+        List·getD-append (take acceptedAt s) rest 0 k m ∙ getD-take acceptedAt s k 0 h
+
+    front-asked : (rest : List ℕ) → askedOf (take acceptedAt s ++ rest) ≡ askedOf s
+    front-asked rest =
+        λ j.
+        asked (at trackAt (omega arith) j) (at timescaleAt (omega arith) j) (at trackDescriptionAt (omega arith) j) (at trackDurationAt (omega arith) j)
+        (at trackSizeAt (omega arith) j) (at trackFlagsAt (omega arith) j) (at protectionAt (omega arith) j) (at trackIvSizeAt (omega arith) j)
+      where
+        at : (k : ℕ) → k < acceptedAt → getD (take acceptedAt s ++ rest) k 0 ≡ getD s k 0
+        at = front-kept rest
+
+    accepted-open : getD (keptWords delta n p w payload s) trackAt 0 ≡ getD s trackAt 0
+    unfolding keptWords
+    accepted-open = front-kept _ trackAt (omega arith)
 
     accepted-asked : askedOf (keptWords delta n p w payload s) ≡ askedOf s
-    accepted-asked =
-        λ j.
-        asked (accepted-kept trackAt (omega arith) j) (accepted-kept timescaleAt (omega arith) j) (accepted-kept trackDescriptionAt (omega arith) j) (accepted-kept trackDurationAt (omega arith) j)
-        (accepted-kept trackSizeAt (omega arith) j) (accepted-kept trackFlagsAt (omega arith) j) (accepted-kept protectionAt (omega arith) j) (accepted-kept trackIvSizeAt (omega arith) j)
+    unfolding keptWords
+    accepted-asked = front-asked _
 
     accepted-prft : prftOk (keptWords delta n p w payload s) ≡ prftIn (fiveOf delta p)
     unfolding keptWords fiveOf
@@ -237,7 +247,7 @@ module _ (s : List ℕ) (l : length s ≡ shareLen) where
     unfolding lawful openOk isOpen
     accepted-lawful side o h m a b f c =
         let z : eqb (getD (keptWords delta n p w payload s) trackAt 0) 0 ≡ false =
-        ap (λ (k : ℕ). eqb k 0) (accepted-kept trackAt (omega arith)) ∙ not-true _ o in
+        ap (λ (k : ℕ). eqb k 0) accepted-open ∙ not-true _ o in
         let count : acceptedOk side (getD (keptWords delta n p w payload s) acceptedAt 0) ≡ true = ap (acceptedOk side) accepted-count ∙ m in
         let kept : referenceOk (trackOf (keptWords delta n p w payload s)) (keptWords delta n p w payload s) ≡ true =
         ap (λ x. referenceOk (narrow x) (keptWords delta n p w payload s)) accepted-asked
@@ -252,24 +262,35 @@ module _ (s : List ℕ) (l : length s ≡ shareLen) where
     stored-set : drop setAt (storedWords delta n p w s) ≡ w
     stored-set = ap (drop setAt) stored-with ∙ set-at (take acceptedAt s) n (fiveOf delta p) (expectedIn s) (getD s lastAt 0) w front-long (five-long delta p)
 
+    stored-asked : askedOf (storedWords delta n p w s) ≡ askedOf s
+    unfolding storedWords
+    stored-asked = front-asked _
+
     module _ (kept : List ℕ) (e : kept ≡ storedWords delta n p w s) where
+      -- its track is still the same
+      same-asked : askedOf kept ≡ askedOf s
+      same-asked = ap askedOf e ∙ stored-asked
+
       -- it can be renewed
-      pub renewable : length w ≡ setLen → Timed w → Summable w → Sized w payload → (t : Track) → lawfulSet t w ≡ true
+      pub renewable : length w ≡ setLen → Timed w → Summable w → Sized w payload → lawfulTrack (askedOf s) ≡ true → (t : Track) → t ≡ trackOf s → lawfulSet t w ≡ true
           → ((length kept ≡ shareLen) × Timed (drop setAt kept))
-          × ((Summable (drop setAt kept) × Sized (drop setAt kept) payload) × (lawfulSet t (drop setAt kept) ≡ true))
-      renewable lw h k z t g =
-          let q : w ≡ drop setAt kept = sym (ap (drop setAt) e ∙ stored-set) in (
+          × ((Summable (drop setAt kept) × Sized (drop setAt kept) payload)
+          × ((lawfulTrack (askedOf kept) ≡ true) × (lawfulSet (trackOf kept) (drop setAt kept) ≡ true)))
+      renewable lw h k z v t u g =
+          let q : w ≡ drop setAt kept = sym (ap (drop setAt) e ∙ stored-set) in
+          let y : trackOf kept ≡ t = ap narrow same-asked ∙ sym u in (
             (
               ap length (e ∙ stored-with) ∙ all-long (take acceptedAt s) n (fiveOf delta p) (expectedIn s) (getD s lastAt 0) w front-long (five-long delta p) lw,
               subst Timed q h,
             ),
-            ((subst Summable q k, subst (λ (v : List ℕ). Sized v payload) q z), ap (lawfulSet t) (sym q) ∙ g),
+            ((subst Summable q k, subst (λ (v : List ℕ). Sized v payload) q z), (ap lawfulTrack same-asked ∙ v, (λ j. lawfulSet (y j) (sym q j)) ∙ g)),
           )
 
       -- and then all is kept
-      pub all-kept : (t : Track) → t ≡ trackOf s → (after : List ℕ) → after ≡ renewed t payload kept → after ≡ keptWords delta n p w payload s
+      pub all-kept : (after : List ℕ) → after ≡ renewed payload kept → after ≡ keptWords delta n p w payload s
       unfolding renewed keptWords expectedAfter lastAfter fiveOf front
-      all-kept t q after h =
+      all-kept after h =
+          let q : trackOf kept ≡ trackOf s = ap narrow same-asked in
           let a : take pastAt kept ≡ take acceptedAt s ++ (n ∷ 1 ∷ fiveOf delta p) =
           ap (take pastAt) (e ∙ stored-with) ∙ front-at (take acceptedAt s) n (fiveOf delta p) (expectedIn s) (getD s lastAt 0) w front-long (five-long delta p) in
           let b : drop setAt kept ≡ w = ap (drop setAt) e ∙ stored-set in

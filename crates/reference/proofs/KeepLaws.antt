@@ -13,7 +13,6 @@ use Rattle.laws.specs.Tests.{allZero}
 use Rattle.laws.proofs.SliceLaws.{slice-lent, slice-join, slice-to-end, slice-drop}
 use Rattle.laws.proofs.TestLaws.{zeros-are}
 use Rattle.prft_value.specs.declared.Prft.{Prft}
-use Rattle.track.specs.declared.Track.{Track}
 use Rattle.effective.specs.declared.expected.Expected.{Expected}
 use Rattle.effective.specs.Expected.{nextTime, expectedBy}
 use Rattle.counters.specs.Protected.{lastProtected}
@@ -21,6 +20,7 @@ use Rattle.field_table.specs.Lines.{lines, bmdtAt, sizesAt, setLen, lineCount, 
 use Rattle.field_set.specs.Lawful.{Tidy}
 use Rattle.field_set.proofs.TidyLaws.{place-inside}
 use Rattle.share_words.specs.Share.{acceptedAt, prftAt, prftEnd, pastAt, setAt, shareLen}
+use Rattle.slots.specs.Share.{trackOf}
 use Rattle.reference.specs.Kept.{prftWords, besideWords, storedWords, renewed}
 
 -- ---- the loop of `copy_set`: of the set, what stands before a place is the new one's, and the rest the old one's
@@ -276,10 +276,10 @@ module _ (delta : Bool) (p : Prft) (q : ℕ) (x s₀ : List ℕ) (l : length s�
       }
 
 -- what is kept beside the set is stored in its three words
-pub three-stored : (t : Track) (payload : ℕ) (s : List ℕ) (e : Expected) (last : ℕ) → length s ≡ shareLen → e ≡ expectedBy (nextTime t (drop setAt s))
-    → last ≡ lastProtected t (drop setAt s) payload → sets s pastAt (e .past ∷ e .time ∷ last ∷ []) ≡ renewed t payload s
+pub three-stored : (payload : ℕ) (s : List ℕ) (e : Expected) (last : ℕ) → length s ≡ shareLen → e ≡ expectedBy (nextTime (trackOf s) (drop setAt s))
+    → last ≡ lastProtected (trackOf s) (drop setAt s) payload → sets s pastAt (e .past ∷ e .time ∷ last ∷ []) ≡ renewed payload s
 unfolding renewed
-three-stored t payload s e last l h g =
+three-stored payload s e last l h g =
     sets-eq (e .past ∷ e .time ∷ last ∷ []) s pastAt (omega arith)
     ∙ append-assoc (take pastAt s) (e .past ∷ e .time ∷ last ∷ []) (drop setAt s)
     ∙ (λ j. take pastAt s ++ (besideWords (h j) (g j) ++ drop setAt s))

@@ -4,7 +4,6 @@ use mathlib.Core.Bool.{Bool, true, cond, not}
 use mathlib.Core.List.{List, [], _∷_, _++_}
 use lib.ListN.{take, drop}
 use lib.Seq.{slice}
-use Rattle.track.specs.declared.Track.{Track}
 use Rattle.effective.specs.declared.expected.Expected.{Expected}
 use Rattle.effective.specs.Expected.{nextTime, expectedBy}
 use Rattle.counters.specs.Protected.{lastProtected}
@@ -56,7 +55,8 @@ replacedBy delta = record { set = true; prft = not delta; beside = true }
 unfoldable pub storedWords : Bool → ℕ → Prft → List ℕ → List ℕ → List ℕ
 storedWords delta sequence prft newSet s = keptWith (slice pastAt setAt s) delta sequence prft newSet s
 
--- and the renewal
-unfoldable pub renewed : Track → ℕ → List ℕ → List ℕ
-renewed t payload s =
-    take pastAt s ++ (besideWords (expectedBy (nextTime t (drop setAt s))) (lastProtected t (drop setAt s) payload) ++ drop setAt s)
+-- and the renewal, by the share's own track and set
+unfoldable pub renewed : ℕ → List ℕ → List ℕ
+renewed payload s =
+    take pastAt s
+    ++ (besideWords (expectedBy (nextTime (trackOf s) (drop setAt s))) (lastProtected (trackOf s) (drop setAt s) payload) ++ drop setAt s)

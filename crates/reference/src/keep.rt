@@ -1,5 +1,5 @@
 // The reference into the share.
-// Letters: `t` the track, `s` the words of a share, `x` the words of the new set.
+// Letters: `s` the words of a share, `x` the words of the new set.
 ghost use mathlib.Core.Path.{_≡_};
 ghost use mathlib.Core.Bool.{true};
 ghost use mathlib.Core.List.{_++_};
@@ -10,13 +10,14 @@ ghost use Rattle.share_words.specs.Share.{setAt, shareLen};
 ghost use Rattle.effective.specs.Durations.{Timed};
 ghost use Rattle.effective.specs.Sizes.{Sized};
 ghost use Rattle.told_sizes.specs.Sums.{Summable};
+ghost use Rattle.track.specs.Track.{lawful as lawfulTrack};
+ghost use Rattle.slots.specs.Share.{askedOf, trackOf};
 ghost use Rattle.reference.specs.Kept.{replacedBy, storedWords, renewed};
 use counters::protected;
 use effective::expected;
 use field_table::lines;
 use prft_value::Prft;
 use share_words::share;
-use track::Track;
 use word_spans::words;
 
 // The words of a set into the share. A field that stands neither in the old set nor in the new one has nothing stored in either: its words stay.
@@ -79,15 +80,16 @@ pub fn keep(s: &mut [u64], delta: bool, prft: Prft, sequence: u64, x: &[u64])
 }
 
 // What is kept beside the set, once the share holds that: what is expected behind it, by its own BMDT and durations and none of the one before, and its last sample's
-// protected bytes.
-pub fn renew(t: Track, delta: bool, payload: u64, s: &mut [u64])
+// protected bytes. The share has the track too.
+pub fn renew(delta: bool, payload: u64, s: &mut [u64])
     requires { ⌜ (length (now s) ≡ shareLen) × Timed (drop setAt (now s)) ⌝ }
     requires { ⌜ Summable (drop setAt (now s)) × Sized (drop setAt (now s)) payload ⌝ }
-    requires { ⌜ lawful t (drop setAt (now s)) ≡ true ⌝ }
-    ensures { λ r. ⌜ now (s .exit) ≡ renewed t payload (now (s .entry)) ⌝ }
+    requires { ⌜ (lawfulTrack (askedOf (now s)) ≡ true) × (lawful (trackOf (now s)) (drop setAt (now s)) ≡ true) ⌝ }
+    ensures { λ r. ⌜ now (s .exit) ≡ renewed payload (now (s .entry)) ⌝ }
 {
     let new = replaced_by(delta);
     if new.beside {
+        let t = slots::lawful::track_of(s);
         let w = &s[share::SET..];
         let e = expected::expected_behind(t, w);
         let last = protected::last_protected(t, w, payload);
