@@ -58,7 +58,7 @@ fn write(
     let payload = k.payload;
     let sequence = s[share::ACCEPTED];
     reference::keep::keep(&mut *s, a.delta, prft, sequence, x);
-    reference::keep::renew(t, a.delta, payload.len as u64, s);
+    reference::keep::renew(a.delta, payload.len as u64, s);
     Answer {
         number: 0,
         front: n as u64,

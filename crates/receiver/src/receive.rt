@@ -81,7 +81,7 @@ fn write(
         &mut *output,
     );
     reference::keep::keep(&mut *s, p.delta, prft, count, x);
-    reference::keep::renew(t, p.delta, payload, s);
+    reference::keep::renew(p.delta, payload, s);
     Answer {
         number: 0,
         front: n as u64,
