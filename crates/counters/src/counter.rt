@@ -5,6 +5,7 @@ ghost use mathlib.Core.Bool.{true};
 ghost use mathlib.Core.List.{List};
 ghost use mathlib.Core.Logic.{_⊎_};
 ghost use Prim.Native.Nat.{ℕ, _+_, _*_, _^_, _≤_};
+ghost use lib.Dec.{eqb};
 ghost use lib.ListN.{length};
 ghost use lib.Seq.{sets};
 ghost use Rattle.constants.specs.Maxima.{samplesMost};
@@ -77,6 +78,16 @@ pub fn next(top: u64, c: Counter, bytes: u64) -> Counter
         high: 0,
         low: 0,
     }
+}
+
+// Whether d is the counter that follows c by so many protected bytes.
+pub fn comes(top: u64, c: Counter, bytes: u64, d: Counter) -> bool
+    requires { ⌜ bytes ≤ 2 ^ 48 ⌝ }
+    ensures { λ b. ⌜ ((k n m : ℕ) → (k ≡ 1) ⊎ (k ≡ 2) → top ≡ topOf k → Counts k n c → Counts k m d → d .ok ≡ true
+        → b ≡ eqb (n + blocks bytes) m) ⌝ }
+{
+    let e = next(top, c, bytes);
+    e.ok & ((e.high == d.high) & (e.low == d.low))
 }
 
 // Its words, as the IV with the number i.
