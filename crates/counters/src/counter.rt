@@ -15,6 +15,9 @@ use field_table::lines;
 
 const U64: u64 = 0xffff_ffff_ffff_ffff;
 
+// The place of the first IV's first word, behind the mark of id 9.
+const FIRST_IV: usize = lines::IVS + 1;
+
 // `ok` says that it doesn't pass its size.
 pub struct Counter {
     pub ok: bool,
@@ -37,7 +40,7 @@ pub fn counter_at(w: &[u64], k: usize, i: usize) -> Counter
     requires { ⌜ (length (now w) ≡ setLen) × ((k ≡ 1) ⊎ (k ≡ 2)) × (i + 1 ≤ samplesMost) ⌝ }
     ensures { λ c. ⌜ Counts k (counterAt k i (now (w .entry))) c ⌝ }
 {
-    let at = lines::IVS + 1 + i * k;
+    let at = FIRST_IV + i * k;
     if k == 2 {
         return Counter {
             ok: true,
@@ -98,7 +101,7 @@ pub fn put_counter(c: Counter, k: usize, i: usize, x: &mut [u64])
         × ((n : ℕ) → Counts k n c → c .ok ≡ true
         → now (x .exit) ≡ sets (now (x .entry)) (ivsAt + 1 + i * k) (counterWords k n)) ⌝ }
 {
-    let at = lines::IVS + 1 + i * k;
+    let at = FIRST_IV + i * k;
     if k == 2 {
         x[at] = c.high;
         x[at + 1] = c.low;

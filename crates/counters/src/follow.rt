@@ -34,7 +34,7 @@ fn past(t: Track, x: &[u64], c: Counter, i: usize, j: usize) -> Walk
         return Walk {
             c,
             bytes: protected::protected_of(t, x, i, j),
-            j: j + x[lines::SUBSAMPLES + 1 + i] as usize,
+            j: j + x[protected::FIRST_COUNT + i] as usize,
         };
     }
     Walk { c, bytes: 0, j }

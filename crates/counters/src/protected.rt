@@ -13,6 +13,12 @@ use field_table::lines;
 use told_sizes::sums::add_up;
 use track::Track;
 
+// The places of first values, behind the marks of their fields: the sizes of id 1 and that of id 6, the subsample counts and the protected bytes.
+const FIRST_SIZE: usize = lines::SIZES + 1;
+const ONE_SIZE: usize = lines::SIZE + 1;
+pub const FIRST_COUNT: usize = lines::SUBSAMPLES + 1;
+const FIRST_PROTECTED: usize = lines::PROTECTED + 1;
+
 // Those of a sample that isn't the last, the first of whose subsamples has the number j: no payload is asked for, since the size of such a sample is told.
 pub fn protected_of(t: Track, w: &[u64], i: usize, j: usize) -> u64
     requires { ⌜ Summable (now w) × (i + 1 < countIn (now w)) ⌝ }
@@ -20,14 +26,14 @@ pub fn protected_of(t: Track, w: &[u64], i: usize, j: usize) -> u64
     ensures { λ r. ⌜ ((payload : ℕ) → r ≡ protectedOf t (now (w .entry)) payload i j) × (r ≤ 2 ^ 48) ⌝ }
 {
     if w[lines::SUBSAMPLES] != 0 {
-        let from = lines::PROTECTED + 1 + j;
-        return add_up(w, from, from + w[lines::SUBSAMPLES + 1 + i] as usize);
+        let from = FIRST_PROTECTED + j;
+        return add_up(w, from, from + w[FIRST_COUNT + i] as usize);
     }
     if w[lines::SIZES] != 0 {
-        return w[lines::SIZES + 1 + i];
+        return w[FIRST_SIZE + i];
     }
     if w[lines::SIZE] != 0 {
-        return w[lines::SIZE + 1];
+        return w[ONE_SIZE];
     }
     t.size as u64
 }
@@ -39,7 +45,7 @@ fn last_bytes(w: &[u64]) -> u64
     ensures { λ r. ⌜ r ≡ lastBytes (now (w .entry)) ⌝ }
 {
     let end = lines::SUBSAMPLES + w[lines::COUNT] as usize;
-    let from = lines::PROTECTED + 1 + add_up(w, lines::SUBSAMPLES + 1, end) as usize;
+    let from = FIRST_PROTECTED + add_up(w, FIRST_COUNT, end) as usize;
     add_up(w, from, from + w[end] as usize)
 }
 

@@ -21,18 +21,15 @@ protected-of-requires c κs =
 add-t12 : tie.Need-add-t12
 add-t12 c = search needs
 
-add-t13 : tie.Need-add-t13
-add-t13 c = search needs
+mul-t13 : tie.Need-mul-t13
+mul-t13 c = search needs
 
-mul-t14 : tie.Need-mul-t14
-mul-t14 c = search needs
+shared-slice-read-t15 : tie.Need-shared-slice-read-t15
+shared-slice-read-t15 c = search needs
 
-shared-slice-read-t16 : tie.Need-shared-slice-read-t16
-shared-slice-read-t16 c = search needs
-
-add-t18 : tie.Need-add-t18
+add-t17 : tie.Need-add-t17
 unfolding lines lineFor
-add-t18 c = omega (arith, c .before .before .before .before .before .pre .2)
+add-t17 c = omega (arith, c .before .before .before .before .before .pre .2)
 
 returns : tie.Need-returns
 unfolding lines lineFor
@@ -51,9 +48,8 @@ past-spec =
     shared-slice-read-if1
     protected-of-requires
     add-t12
-    add-t13
-    mul-t14
-    shared-slice-read-t16
-    add-t18
+    mul-t13
+    shared-slice-read-t15
+    add-t17
     returns
     returns-2)

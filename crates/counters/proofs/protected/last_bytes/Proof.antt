@@ -16,19 +16,13 @@ shared-slice-read-end c = search needs
 add-end : tie.Need-add-end
 add-end c = search needs
 
-add-from : tie.Need-add-from
-add-from c = search needs
-
-add-add-up : tie.Need-add-add-up
-add-add-up c = search needs
-
 add-up-requires : tie.Need-add-up-requires
 add-up-requires c κs =
     let b = c .before .before in
     (omega (arith, b .pre .0 .words, b .pre .0 .few), omega (arith, last-room (b .pre .0) (b .pre .1 .0) (b .pre .1 .1)))
 
-add-from-2 : tie.Need-add-from-2
-add-from-2 c =
+add-from : tie.Need-add-from
+add-from c =
     let s = c .before .before .before .pre in
     omega (arith, c .add-up .ensures, last-room (s .0) (s .1 .0) (s .1 .1))
 
@@ -38,8 +32,8 @@ mul-add-up c = search needs
 shared-slice-read-add-up : tie.Need-shared-slice-read-add-up
 shared-slice-read-add-up c = search needs
 
-add-add-up-2 : tie.Need-add-add-up-2
-add-add-up-2 c =
+add-add-up : tie.Need-add-add-up
+add-add-up c =
     let s = c .before .before .before .before .pre in
     omega (arith, c .before .add-up .ensures, last-room (s .0) (s .1 .0) (s .1 .1))
 
@@ -62,12 +56,10 @@ last-bytes-spec =
     (tie.spec
     shared-slice-read-end
     add-end
-    add-from
-    add-add-up
     add-up-requires
-    add-from-2
+    add-from
     mul-add-up
     shared-slice-read-add-up
-    add-add-up-2
+    add-add-up
     add-up-requires-2
     returns)

@@ -13,19 +13,13 @@ shared-slice-read-if1 : tie.Need-shared-slice-read-if1
 shared-slice-read-if1 c = search needs
 
 add-from : tie.Need-add-from
-add-from c = search needs
-
-add-from-2 : tie.Need-add-from-2
 unfolding lines lineFor
-add-from-2 c =
+add-from c =
     let b = c .before .before .before in
     omega (arith, b .pre .1 (has-yes 11 _ (c .if1 .taken)))
 
 add-add-up : tie.Need-add-add-up
 add-add-up c = search needs
-
-add-add-up-2 : tie.Need-add-add-up-2
-add-add-up-2 c = search needs
 
 mul-add-up : tie.Need-mul-add-up
 mul-add-up c = search needs
@@ -33,9 +27,9 @@ mul-add-up c = search needs
 shared-slice-read-add-up : tie.Need-shared-slice-read-add-up
 shared-slice-read-add-up c = search needs
 
-add-add-up-3 : tie.Need-add-add-up-3
+add-add-up-2 : tie.Need-add-add-up-2
 unfolding lines lineFor
-add-add-up-3 c =
+add-add-up-2 c =
     let b = c .before .before .before .before in
     omega (arith, b .pre .1 (has-yes 11 _ (c .before .if1 .taken)))
 
@@ -62,9 +56,6 @@ shared-slice-read-if2 c = search needs
 add-result : tie.Need-add-result
 add-result c = search needs
 
-add-result-2 : tie.Need-add-result-2
-add-result-2 c = search needs
-
 mul-result : tie.Need-mul-result
 mul-result c = search needs
 
@@ -83,12 +74,6 @@ returns-2 c =
 
 shared-slice-read-if3 : tie.Need-shared-slice-read-if3
 shared-slice-read-if3 c = search needs
-
-add-result-3 : tie.Need-add-result-3
-add-result-3 c = search needs
-
-mul-result-2 : tie.Need-mul-result-2
-mul-result-2 c = search needs
 
 shared-slice-read-result-2 : tie.Need-shared-slice-read-result-2
 shared-slice-read-result-2 c = search needs
@@ -124,23 +109,18 @@ protected-of-spec =
     (tie.spec
     shared-slice-read-if1
     add-from
-    add-from-2
     add-add-up
-    add-add-up-2
     mul-add-up
     shared-slice-read-add-up
-    add-add-up-3
+    add-add-up-2
     add-up-requires
     returns
     shared-slice-read-if2
     add-result
-    add-result-2
     mul-result
     shared-slice-read-result
     returns-2
     shared-slice-read-if3
-    add-result-3
-    mul-result-2
     shared-slice-read-result-2
     returns-3
     cast-result
