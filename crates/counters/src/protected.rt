@@ -6,20 +6,40 @@ ghost use Prim.Native.Nat.{ℕ, _+_, _^_, _≤_, _<_};
 ghost use Rattle.constants.specs.Maxima.{subsamplesMost};
 ghost use Rattle.field_set.specs.Lawful.{has, valueAt, countIn, lawful};
 ghost use Rattle.told_sizes.specs.Sums.{Summable};
-ghost use Rattle.effective.specs.Sizes.{Sized};
+ghost use Rattle.effective.specs.Sizes.{sizeOf, Sized};
 ghost use Rattle.counters.specs.Protected.{protectedOf, lastPairs, lastBytes, lastProtected, lastFits};
 use constants::maxima;
 use field_table::lines;
 use told_sizes::sums::add_up;
 use track::Track;
 
-// The places of first values, behind the marks of their fields: the sizes of id 1 and that of id 6, the subsample counts and the protected bytes.
+// The place of the first size that id 1 lists, behind its mark.
 const FIRST_SIZE: usize = lines::SIZES + 1;
+
+// That of the size of all samples.
 const ONE_SIZE: usize = lines::SIZE + 1;
+
+// That of the first subsample count.
 pub const FIRST_COUNT: usize = lines::SUBSAMPLES + 1;
+
+// That of the first subsample's protected bytes.
 const FIRST_PROTECTED: usize = lines::PROTECTED + 1;
 
-// Those of a sample that isn't the last, the first of whose subsamples has the number j: no payload is asked for, since the size of such a sample is told.
+// The size of a sample that isn't the last: it is told, so that no payload is asked for.
+fn told_size(t: Track, w: &[u64], i: usize) -> u64
+    requires { ⌜ Summable (now w) × (i + 1 < countIn (now w)) ⌝ }
+    ensures { λ r. ⌜ ((payload : ℕ) → r ≡ sizeOf t (now (w .entry)) payload i) × (r ≤ 2 ^ 48) ⌝ }
+{
+    if w[lines::SIZES] != 0 {
+        return w[FIRST_SIZE + i];
+    }
+    if w[lines::SIZE] != 0 {
+        return w[ONE_SIZE];
+    }
+    t.size as u64
+}
+
+// Those of a sample that isn't the last, the first of whose subsamples has the number j.
 pub fn protected_of(t: Track, w: &[u64], i: usize, j: usize) -> u64
     requires { ⌜ Summable (now w) × (i + 1 < countIn (now w)) ⌝ }
     requires { ⌜ (has 11 (now w) ≡ true → j + valueAt 11 i (now w) ≤ subsamplesMost) ⌝ }
@@ -29,13 +49,7 @@ pub fn protected_of(t: Track, w: &[u64], i: usize, j: usize) -> u64
         let from = FIRST_PROTECTED + j;
         return add_up(w, from, from + w[FIRST_COUNT + i] as usize);
     }
-    if w[lines::SIZES] != 0 {
-        return w[FIRST_SIZE + i];
-    }
-    if w[lines::SIZE] != 0 {
-        return w[ONE_SIZE];
-    }
-    t.size as u64
+    told_size(t, w, i)
 }
 
 // Those of the last sample by its subsamples, which are the last of all.
