@@ -4,17 +4,17 @@ use native.Mathlib.Nat.{div-one, mod-eq-of-lt}
 use native.Mathlib.Numerals.{add-one}
 use native.Mathlib.Omega.{arith}
 use mathlib.Core.Path.{_≡_, refl, sym, _∙_, ap, ap₂}
-use mathlib.Core.Bool.{Bool, true, false, false≢true}
+use mathlib.Core.Bool.{Bool, true, false, false≢true, _&&_}
 use mathlib.Core.List.{List, [], _∷_}
 use mathlib.Core.Logic.{_⊎_, inl, inr}
-use borrow.Author.Tests.{leb-true, leb-false, le-leb, lt-leb}
+use borrow.Author.Tests.{eqb-true, eq-eqb, leb-true, leb-false, le-leb, lt-leb}
 use lib.Arith.{digits-div, digits-mod}
-use lib.Dec.{leb}
+use lib.Dec.{eqb, leb}
 use lib.ListN.{length, getD}
 use lib.Seq.{slice, slice-cons}
 use Rattle.constants.specs.Maxima.{samplesMost}
 use Rattle.laws.proofs.SliceLaws.{slice-none}
-use Rattle.laws.proofs.TestLaws.{same-test}
+use Rattle.laws.proofs.TestLaws.{and-left, and-right, same-test}
 use Rattle.field_table.specs.Lines.{ivsAt}
 use Rattle.counters.specs.declared.counter.Counter.{Counter}
 use Rattle.counters.specs.Counter.{counters, counterOf, counterWords, counterAt, topOf, Counts}
@@ -120,6 +120,33 @@ module _ (k n b : ℕ) (kk : Words k) (c : Counter) (h : Counts k n c) (few : b 
       past : (ok : Bool) → c .ok ≡ ok → counters k - 1 < n + b
       past true e = omega (arith, h .is e, most-is k kk)
       past false e = omega (arith, leb-false n (counters k - 1) (sym (h .fits) ∙ e))
+
+-- ---- two of them compared
+
+-- code's test of a counter beside one that has its size
+pub compared : (k a b : ℕ) (d e : Counter) → Counts k a d → Counts k b e → e .ok ≡ true → d .low < 2 ^ 64 → e .low < 2 ^ 64
+    → (d .ok && (eqb (d .high) (e .high) && eqb (d .low) (e .low))) ≡ eqb a b
+compared k a b d e p q good dl el =
+    same-test (d .ok && (eqb (d .high) (e .high) && eqb (d .low) (e .low))) (eqb a b)
+    (λ z.
+    let y = and-right (d .ok) (eqb (d .high) (e .high) && eqb (d .low) (e .low)) z in
+    eq-eqb a b
+    (omega (
+      arith,
+      p .is (and-left (d .ok) (eqb (d .high) (e .high) && eqb (d .low) (e .low)) z),
+      q .is good,
+      eqb-true (d .high) (e .high) (and-left (eqb (d .high) (e .high)) (eqb (d .low) (e .low)) y),
+      eqb-true (d .low) (e .low) (and-right (eqb (d .high) (e .high)) (eqb (d .low) (e .low)) y),
+    )))
+    (λ z. back (eqb-true a b z))
+  where
+    back : a ≡ b → (d .ok && (eqb (d .high) (e .high) && eqb (d .low) (e .low))) ≡ true
+    back z =
+        let ok : d .ok ≡ true = p .fits ∙ ap (λ (n : ℕ). leb n (counters k - 1)) z ∙ sym (q .fits) ∙ good in
+        let sum : d .high * 2 ^ 64 + d .low ≡ e .high * 2 ^ 64 + e .low = sym (p .is ok) ∙ z ∙ q .is good in
+        let high : d .high ≡ e .high = omega arith in
+        let low : d .low ≡ e .low = omega arith in
+        rw (ok, eq-eqb (d .high) (e .high) high, eq-eqb (d .low) (e .low) low)
 
 -- ---- its words
 

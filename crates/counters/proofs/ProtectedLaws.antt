@@ -20,7 +20,7 @@ use Rattle.field_set.proofs.RuleLaws.{ruled}
 use Rattle.told_sizes.specs.Sums.{bytesOf, Summable}
 use Rattle.told_sizes.specs.Told.{mayHave}
 use Rattle.told_sizes.proofs.SumLaws.{part-most, protected-small}
-use Rattle.effective.specs.Sizes.{lastSize}
+use Rattle.effective.specs.Sizes.{sizeOf, lastSize}
 use Rattle.effective.proofs.SizesAdd.{size-is}
 use Rattle.counters.proofs.LastLaws.{values-stand, last-pairs}
 use Rattle.counters.specs.Protected.{protectedOf, counted, lastPairs, lastBytes, lastProtected, lastFits}
@@ -36,27 +36,30 @@ listed-small {w} s i h =
     let most = part-most 0xffff_ffff 3 66 at (at + 1) w (s .sizes) (omega (arith, s .words)) (omega arith) (omega arith) (omega (arith, s .few)) in
     omega (arith, most, sum-next w at (at + 1) (omega arith) l)
 
+-- its size
+module _ (t : Track) (w : List ℕ) (payload i : ℕ) (early : i + 1 < countIn w) where
+  -- as id 1 lists it
+  pub size-listed : has 1 w ≡ true → valueAt 1 i w ≡ sizeOf t w payload i
+  size-listed h = rw (size-is t w payload (omega arith) i, h, lt-ltb i (countIn w - 1) (omega arith))
+
+  -- that of all samples
+  pub size-default : has 1 w ≡ false → has 6 w ≡ true → valueAt 6 0 w ≡ sizeOf t w payload i
+  size-default h g = rw (size-is t w payload (omega arith) i, h, g)
+
+  -- by trex
+  pub size-trex : has 1 w ≡ false → has 6 w ≡ false → t .size ≡ sizeOf t w payload i
+  size-trex h g = rw (size-is t w payload (omega arith) i, h, g)
+
 module _ (t : Track) (w : List ℕ) (payload i j : ℕ) where
   -- by its subsamples
   pub own-pairs : has 11 w ≡ true → (r : ℕ) → r ≡ sum (slice (protectedAt + 1 + j) (protectedAt + 1 + j + valueAt 11 i w) w) → r ≡ protectedOf t w payload i j
   unfolding protectedOf bytesOf lines lineFor
   own-pairs on r e = e ∙ rw on
 
-  module _ (off : has 11 w ≡ false) (early : i + 1 < countIn w) where
-    -- by the size that id 1 lists
-    pub own-listed : has 1 w ≡ true → valueAt 1 i w ≡ protectedOf t w payload i j
-    unfolding protectedOf
-    own-listed h = rw (off, size-is t w payload (omega arith) i, h, lt-ltb i (countIn w - 1) (omega arith))
-
-    -- by that of all samples
-    pub own-default : has 1 w ≡ false → has 6 w ≡ true → valueAt 6 0 w ≡ protectedOf t w payload i j
-    unfolding protectedOf
-    own-default h g = rw (off, size-is t w payload (omega arith) i, h, g)
-
-    -- by trex
-    pub own-trex : has 1 w ≡ false → has 6 w ≡ false → t .size ≡ protectedOf t w payload i j
-    unfolding protectedOf
-    own-trex h g = rw (off, size-is t w payload (omega arith) i, h, g)
+  -- by its size
+  pub own-size : has 11 w ≡ false → (r : ℕ) → r ≡ sizeOf t w payload i → r ≡ protectedOf t w payload i j
+  unfolding protectedOf
+  own-size off r e = e ∙ rw off
 
 -- ---- of the last sample, by its subsamples
 

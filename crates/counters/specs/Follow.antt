@@ -1,17 +1,20 @@
 -- The IVs that a chunk has if each follows. 02, order 6: "The first IV follows from the last sample of the previous chunk".
-use Prim.Native.Nat.{ℕ, _+_, _-_, _*_, _/_, _^_, _≤_}
+use Prim.Native.Nat.{ℕ, _+_, _-_, _*_, _/_, _^_, _≤_, _<_}
 use mathlib.Core.Path.{_≡_}
 use mathlib.Core.Bool.{Bool, true, _&&_}
 use mathlib.Core.List.{List}
+use mathlib.Core.Logic.{_⊎_}
 use lib.ListN.{length}
 use lib.Seq.{slice, sets}
 use Rattle.laws.specs.Tests.{allLe, same}
 use Rattle.track.specs.declared.Track.{Track}
 use Rattle.track.specs.Track.{ivOk}
 use Rattle.field_table.specs.Lines.{setLen, ivsAt}
-use Rattle.field_set.specs.Lawful.{has, countIn, lawful}
+use Rattle.field_set.specs.Lawful.{has, valueAt, countIn, lawful}
+use Rattle.counters.specs.declared.counter.Counter.{Counter}
+use Rattle.counters.specs.declared.follow.Walk.{Walk}
 use Rattle.counters.specs.Counter.{following, counters, counterAt, countersOf, allWords}
-use Rattle.counters.specs.Protected.{protectedFrom}
+use Rattle.counters.specs.Protected.{protectedOf, protectedFrom}
 
 -- ==== The rules
 
@@ -58,3 +61,26 @@ pub record DerivedAs (t : Track) (last : ℕ) (r x : List ℕ) (payload : ℕ) (
   pub answered : ok ≡ derivedFit t last r x payload
   pub stored : ok ≡ true → after ≡ withDerived t last r x payload
   pub long : length after ≡ length x
+
+-- the sample i with the counter c, whose first subsample has the number j, is passed: its protected bytes and its subsamples are taken up, but not those of the last
+pub record Passed (t : Track) (x : List ℕ) (c : Counter) (i j : ℕ) (v : Walk) : Type 0 where
+  pub own : v .c ≡ c
+  pub small : v .bytes ≤ 2 ^ 48
+  pub on : ((i + 1 < countIn x) × ((payload : ℕ) → v .bytes ≡ protectedOf t x payload i j) × (v .j ≡ j + valueAt 11 i x))
+      ⊎ ((countIn x ≤ i + 1) × (v .j ≡ j))
+
+-- the counters of the samples of x, behind the counter n of a sample with so many protected bytes
+abbrev pub due : Track → ℕ → ℕ → List ℕ → ℕ → List ℕ
+due t n last x payload = following n last (protectedFrom t x payload (countIn x) 0 0)
+
+-- for IVs of k words each
+module _ (t : Track) (k n last : ℕ) (x : List ℕ) (payload : ℕ) where
+  -- the IVs of x are those
+  abbrev pub allFollow : Bool
+  allFollow = same (due t n last x payload) (countersOf k (countIn x) (slice (ivsAt + 1) (ivsAt + 1 + countIn x * k) x))
+
+  -- they were put there, or one passes its size
+  pub record AllPut (ok : Bool) (after : List ℕ) : Type 0 where
+    pub answered : ok ≡ allLe (counters k - 1) (due t n last x payload)
+    pub stored : ok ≡ true → after ≡ sets x (ivsAt + 1) (allWords k (due t n last x payload))
+    pub long : length after ≡ length x

@@ -5,6 +5,7 @@ ghost use mathlib.Core.Bool.{true};
 ghost use mathlib.Core.List.{List};
 ghost use mathlib.Core.Logic.{_⊎_};
 ghost use Prim.Native.Nat.{ℕ, _+_, _*_, _^_, _≤_};
+ghost use lib.Dec.{eqb};
 ghost use lib.ListN.{length};
 ghost use lib.Seq.{sets};
 ghost use Rattle.constants.specs.Maxima.{samplesMost};
@@ -13,6 +14,9 @@ ghost use Rattle.counters.specs.Counter.{blocks, topOf, counterAt, count
 use field_table::lines;
 
 const U64: u64 = 0xffff_ffff_ffff_ffff;
+
+// The place of the first IV's first word, behind the mark of id 9.
+const FIRST_IV: usize = lines::IVS + 1;
 
 // `ok` says that it doesn't pass its size.
 pub struct Counter {
@@ -36,7 +40,7 @@ pub fn counter_at(w: &[u64], k: usize, i: usize) -> Counter
     requires { ⌜ (length (now w) ≡ setLen) × ((k ≡ 1) ⊎ (k ≡ 2)) × (i + 1 ≤ samplesMost) ⌝ }
     ensures { λ c. ⌜ Counts k (counterAt k i (now (w .entry))) c ⌝ }
 {
-    let at = lines::IVS + 1 + i * k;
+    let at = FIRST_IV + i * k;
     if k == 2 {
         return Counter {
             ok: true,
@@ -79,6 +83,16 @@ pub fn next(top: u64, c: Counter, bytes: u64) -> Counter
     }
 }
 
+// Whether d is the counter that follows c by so many protected bytes.
+pub fn comes(top: u64, c: Counter, bytes: u64, d: Counter) -> bool
+    requires { ⌜ bytes ≤ 2 ^ 48 ⌝ }
+    ensures { λ b. ⌜ ((k n m : ℕ) → (k ≡ 1) ⊎ (k ≡ 2) → top ≡ topOf k → Counts k n c → Counts k m d → d .ok ≡ true
+        → b ≡ eqb (n + blocks bytes) m) ⌝ }
+{
+    let e = next(top, c, bytes);
+    e.ok & ((e.high == d.high) & (e.low == d.low))
+}
+
 // Its words, as the IV with the number i.
 pub fn put_counter(c: Counter, k: usize, i: usize, x: &mut [u64])
     requires { ⌜ (length (now x) ≡ setLen) × ((k ≡ 1) ⊎ (k ≡ 2)) × (i + 1 ≤ samplesMost) ⌝ }
@@ -87,7 +101,7 @@ pub fn put_counter(c: Counter, k: usize, i: usize, x: &mut [u64])
         × ((n : ℕ) → Counts k n c → c .ok ≡ true
         → now (x .exit) ≡ sets (now (x .entry)) (ivsAt + 1 + i * k) (counterWords k n)) ⌝ }
 {
-    let at = lines::IVS + 1 + i * k;
+    let at = FIRST_IV + i * k;
     if k == 2 {
         x[at] = c.high;
         x[at + 1] = c.low;

@@ -7,30 +7,50 @@ ghost use Rattle.laws.specs.Tests.{sum};
 ghost use Rattle.constants.specs.Maxima.{subsamplesMost};
 ghost use Rattle.field_set.specs.Lawful.{has, valueAt, valuesOf, countIn, lawful};
 ghost use Rattle.told_sizes.specs.Sums.{Summable};
-ghost use Rattle.effective.specs.Sizes.{Sized};
+ghost use Rattle.effective.specs.Sizes.{sizeOf, Sized};
 ghost use Rattle.counters.specs.Protected.{protectedOf, lastPairs, lastBytes, lastProtected, lastFits};
 use constants::maxima;
 use field_table::lines;
 use told_sizes::sums::add_up;
 use track::Track;
 
-// Those of a sample that isn't the last, the first of whose subsamples has the number j: no payload is asked for, since the size of such a sample is told.
+// The place of the first size that id 1 lists, behind its mark.
+const FIRST_SIZE: usize = lines::SIZES + 1;
+
+// That of the size of all samples.
+const ONE_SIZE: usize = lines::SIZE + 1;
+
+// That of the first subsample count.
+pub const FIRST_COUNT: usize = lines::SUBSAMPLES + 1;
+
+// That of the first subsample's protected bytes.
+const FIRST_PROTECTED: usize = lines::PROTECTED + 1;
+
+// The size of a sample that isn't the last: it is told, so that no payload is asked for.
+fn told_size(t: Track, w: &[u64], i: usize) -> u64
+    requires { ⌜ Summable (now w) × (i + 1 < countIn (now w)) ⌝ }
+    ensures { λ r. ⌜ ((payload : ℕ) → r ≡ sizeOf t (now (w .entry)) payload i) × (r ≤ 2 ^ 48) ⌝ }
+{
+    if w[lines::SIZES] != 0 {
+        return w[FIRST_SIZE + i];
+    }
+    if w[lines::SIZE] != 0 {
+        return w[ONE_SIZE];
+    }
+    t.size as u64
+}
+
+// Those of a sample that isn't the last, the first of whose subsamples has the number j.
 pub fn protected_of(t: Track, w: &[u64], i: usize, j: usize) -> u64
     requires { ⌜ Summable (now w) × (i + 1 < countIn (now w)) ⌝ }
     requires { ⌜ (has 11 (now w) ≡ true → j + valueAt 11 i (now w) ≤ subsamplesMost) ⌝ }
     ensures { λ r. ⌜ ((payload : ℕ) → r ≡ protectedOf t (now (w .entry)) payload i j) × (r ≤ 2 ^ 48) ⌝ }
 {
     if w[lines::SUBSAMPLES] != 0 {
-        let from = lines::PROTECTED + 1 + j;
-        return add_up(w, from, from + w[lines::SUBSAMPLES + 1 + i] as usize);
+        let from = FIRST_PROTECTED + j;
+        return add_up(w, from, from + w[FIRST_COUNT + i] as usize);
     }
-    if w[lines::SIZES] != 0 {
-        return w[lines::SIZES + 1 + i];
-    }
-    if w[lines::SIZE] != 0 {
-        return w[lines::SIZE + 1];
-    }
-    t.size as u64
+    told_size(t, w, i)
 }
 
 // How many subsamples there are.
@@ -38,8 +58,7 @@ fn pairs_in(w: &[u64]) -> usize
     requires { ⌜ Summable (now w) × (has 11 (now w) ≡ true) ⌝ }
     ensures { λ r. ⌜ r ≡ sum (valuesOf 11 (countIn (now (w .entry))) (now (w .entry))) ⌝ }
 {
-    let from = lines::SUBSAMPLES + 1;
-    add_up(w, from, from + w[lines::COUNT] as usize) as usize
+    add_up(w, FIRST_COUNT, FIRST_COUNT + w[lines::COUNT] as usize) as usize
 }
 
 // Those of the last sample by its subsamples, which are the last of all.
@@ -49,7 +68,7 @@ fn last_bytes(w: &[u64], pairs: usize) -> u64
     ensures { λ r. ⌜ r ≡ lastBytes (now (w .entry)) ⌝ }
 {
     let own = w[lines::SUBSAMPLES + w[lines::COUNT] as usize] as usize;
-    let end = lines::PROTECTED + 1 + pairs;
+    let end = FIRST_PROTECTED + pairs;
     add_up(w, end - own, end)
 }
 

@@ -1,33 +1,29 @@
 -- `counters::counter::counter_at` meets its contract, for each size of an IV. Assumes nothing.
-use borrow.Author.Needs.{needs}
 use native.Mathlib.Omega.{arith}
 use Rattle.counters.proofs.CounterLaws.{iv-place, one-word, read-one, read-two}
 use Rattle.counters.proofs.counter.counter_at.Statement.{statement}
 use Rattle.counters.proofs.counter.counter_at.Tie as tie
 
-add-at : tie.Need-add-at
-add-at c = search needs
-
 mul-at : tie.Need-mul-at
 mul-at c = omega (arith, iv-place (c .args .k) (c .args .i) (c .pre .1) (c .pre .2))
 
-add-at-2 : tie.Need-add-at-2
-add-at-2 c = omega (arith, iv-place (c .args .k) (c .args .i) (c .pre .1) (c .pre .2))
+add-at : tie.Need-add-at
+add-at c = omega (arith, iv-place (c .args .k) (c .args .i) (c .pre .1) (c .pre .2))
 
-mul-t8 : tie.Need-mul-t8
-mul-t8 c = omega (arith, iv-place (c .before .args .k) (c .before .args .i) (c .before .pre .1) (c .before .pre .2))
+mul-t7 : tie.Need-mul-t7
+mul-t7 c = omega (arith, iv-place (c .before .args .k) (c .before .args .i) (c .before .pre .1) (c .before .pre .2))
 
-shared-slice-read-t10 : tie.Need-shared-slice-read-t10
-shared-slice-read-t10 c = omega (arith, iv-place (c .before .before .args .k) (c .before .before .args .i) (c .before .before .pre .1) (c .before .before .pre .2))
+shared-slice-read-t9 : tie.Need-shared-slice-read-t9
+shared-slice-read-t9 c = omega (arith, iv-place (c .before .before .args .k) (c .before .before .args .i) (c .before .before .pre .1) (c .before .before .pre .2))
 
-add-t11 : tie.Need-add-t11
-add-t11 c = omega (arith, iv-place (c .before .before .args .k) (c .before .before .args .i) (c .before .before .pre .1) (c .before .before .pre .2))
+add-t10 : tie.Need-add-t10
+add-t10 c = omega (arith, iv-place (c .before .before .args .k) (c .before .before .args .i) (c .before .before .pre .1) (c .before .before .pre .2))
 
-mul-t12 : tie.Need-mul-t12
-mul-t12 c = omega (arith, iv-place (c .before .before .args .k) (c .before .before .args .i) (c .before .before .pre .1) (c .before .before .pre .2))
+mul-t11 : tie.Need-mul-t11
+mul-t11 c = omega (arith, iv-place (c .before .before .args .k) (c .before .before .args .i) (c .before .before .pre .1) (c .before .before .pre .2))
 
-shared-slice-read-t14 : tie.Need-shared-slice-read-t14
-shared-slice-read-t14 c =
+shared-slice-read-t13 : tie.Need-shared-slice-read-t13
+shared-slice-read-t13 c =
     let b = c .before .before .before in
     omega (arith, iv-place (b .args .k) (b .args .i) (b .pre .1) (b .pre .2))
 
@@ -41,8 +37,8 @@ returns c =
 mul-t5 : tie.Need-mul-t5
 mul-t5 c = omega (arith, iv-place (c .before .args .k) (c .before .args .i) (c .before .pre .1) (c .before .pre .2))
 
-shared-slice-read-t16 : tie.Need-shared-slice-read-t16
-shared-slice-read-t16 c = omega (arith, iv-place (c .before .before .args .k) (c .before .before .args .i) (c .before .before .pre .1) (c .before .before .pre .2))
+shared-slice-read-t15 : tie.Need-shared-slice-read-t15
+shared-slice-read-t15 c = omega (arith, iv-place (c .before .before .args .k) (c .before .before .args .i) (c .before .before .pre .1) (c .before .before .pre .2))
 
 returns-2 : tie.Need-returns-2
 returns-2 c =
@@ -55,15 +51,14 @@ pub counter-at-spec : {M : Type 1} → statement M
 counter-at-spec =
     tie.close
     (tie.spec
-    add-at
     mul-at
-    add-at-2
-    mul-t8
-    shared-slice-read-t10
-    add-t11
-    mul-t12
-    shared-slice-read-t14
+    add-at
+    mul-t7
+    shared-slice-read-t9
+    add-t10
+    mul-t11
+    shared-slice-read-t13
     returns
     mul-t5
-    shared-slice-read-t16
+    shared-slice-read-t15
     returns-2)

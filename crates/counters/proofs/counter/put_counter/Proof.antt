@@ -11,14 +11,11 @@ use Rattle.counters.proofs.CounterLaws.{iv-place, one-word, words-one, 
 use Rattle.counters.proofs.counter.put_counter.Statement.{statement}
 use Rattle.counters.proofs.counter.put_counter.Tie as tie
 
-add-at : tie.Need-add-at
-add-at c = search needs
-
 mul-at : tie.Need-mul-at
 mul-at c = omega (arith, iv-place (c .args .k) (c .args .i) (c .pre .1) (c .pre .2))
 
-add-at-2 : tie.Need-add-at-2
-add-at-2 c = omega (arith, iv-place (c .args .k) (c .args .i) (c .pre .1) (c .pre .2))
+add-at : tie.Need-add-at
+add-at c = omega (arith, iv-place (c .args .k) (c .args .i) (c .pre .1) (c .pre .2))
 
 mul-x : tie.Need-mul-x
 mul-x c = omega (arith, iv-place (c .before .args .k) (c .before .args .i) (c .before .pre .1) (c .before .pre .2))
@@ -72,9 +69,8 @@ pub put-counter-spec : {M : Type 1} → statement M
 put-counter-spec =
     tie.close
     (tie.spec
-    add-at
     mul-at
-    add-at-2
+    add-at
     mul-x
     slice-write-x
     add-x

@@ -20,9 +20,6 @@ shared-slice-read-own-2 c = search needs
 add-end : tie.Need-add-end
 add-end c = search needs
 
-add-end-2 : tie.Need-add-end-2
-add-end-2 c = search needs
-
 sub-add-up : tie.Need-sub-add-up
 sub-add-up c =
     let p = c .before .before .before .pre in
@@ -47,7 +44,6 @@ last-bytes-spec =
     mul-own
     shared-slice-read-own-2
     add-end
-    add-end-2
     sub-add-up
     add-up-requires
     returns)

@@ -6,9 +6,6 @@ use Rattle.counters.proofs.ProtectedLaws.{pairs-are}
 use Rattle.counters.proofs.protected.pairs_in.Statement.{statement}
 use Rattle.counters.proofs.protected.pairs_in.Tie as tie
 
-add-from : tie.Need-add-from
-add-from c = search needs
-
 shared-slice-read-add-up : tie.Need-shared-slice-read-add-up
 shared-slice-read-add-up c = search needs
 
@@ -24,4 +21,4 @@ returns : tie.Need-returns
 returns c = let p = c .before .before .before .pre in c .add-up .ensures ∙ pairs-are (p .0) (p .1)
 
 pub pairs-in-spec : {M : Type 1} → statement M
-pairs-in-spec = tie.close (tie.spec add-from shared-slice-read-add-up add-add-up add-up-requires returns)
+pairs-in-spec = tie.close (tie.spec shared-slice-read-add-up add-add-up add-up-requires returns)
