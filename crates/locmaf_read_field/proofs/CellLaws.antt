@@ -1,13 +1,14 @@
 -- What each function of `cells` stored and answered is what the specs say of its field. Assumes nothing.
-use Prim.Native.Nat.{ℕ, _+_, _*_, _≤_}
+use Prim.Native.Nat.{ℕ, zero, suc, _+_, _*_, _≤_, _<_}
 use native.Mathlib.Nat.{add-sub-cancel-left}
 use native.Mathlib.Numerals.{add-one}
+use native.Mathlib.Omega.{arith}
 use mathlib.Core.Path.{_≡_, refl, sym, _∙_, ap}
 use mathlib.Core.Bool.{Bool, true, false, false≢true, _&&_}
 use mathlib.Core.List.{List, []}
 use borrow.Author.Tests.{eqb-true, eq-eqb, ne-eqb}
-use lib.ListN.{length, set, replicate, length-set}
-use lib.Seq.{slice, sets, length-sets, length-slice}
+use lib.ListN.{length, getD, set, replicate, length-set}
+use lib.Seq.{slice, sets, length-sets, length-slice, getD-set-other, set-getD}
 use Rattle.wire.specs.declared.form.Row.{Row}
 use Rattle.wire.specs.declared.zigzag.Coding.{Coding}
 use Rattle.wire.specs.declared.zigzag.Reached.the-variants.{To, Outside as Beyond}
@@ -22,7 +23,7 @@ use Rattle.field_table.specs.declared.lines.Want.{Want}
 use Rattle.field_table.specs.declared.lines.Want.the-variants.{One, LessOne, Count, Ivs, Sum}
 use Rattle.locmaf_read_said.specs.declared.said.Span.{Span}
 use Rattle.locmaf_read_field.specs.declared.cells.Cell.{Cell}
-use Rattle.locmaf_read_field.specs.Cells.{Came, TakenAs, Listed, told, right, misfitOf, outOfRange, filledAs, carried, sentOne, sentIvs, sentList, spanBytes, listIn}
+use Rattle.locmaf_read_field.specs.Cells.{Came, TakenAs, TakenIf, Listed, told, right, misfitOf, outOfRange, filledAs, carried, sentOne, sentIvs, sentList, spanBytes, listIn}
 use Rattle.field_rules.specs.Carried.{carriedBy}
 use Rattle.field_rules.specs.Fields.{isIvs, packed}
 
@@ -50,6 +51,10 @@ refused : {f : Came} {place : ℕ} {x : List ℕ} {c : Cell} {after : List ℕ} 
 refused {f} e w n =
     record { answered = e; stored = λ a b d. absurd (broken (f .cell) w (rw e at a) (rw e at b) (rw e at d)); long = n }
 
+-- what was stored is known, whatever stood there
+pub taken-always : {clear : Type 0} {f : Came} {place : ℕ} {x : List ℕ} {c : Cell} {after : List ℕ} → TakenAs f place x c after → TakenIf clear f place x c after
+taken-always h = record { answered = h .answered; taken = λ _. h; long = h .long }
+
 -- ---- a single value
 module _ (coding : Coding) (old bound z place : ℕ) (x : List ℕ) {c : Cell} where
   pub one-outside : reached coding old bound z ≡ Beyond → c ≡ outOfRange → TakenAs (sentOne coding old bound z) place x c x
@@ -63,12 +68,32 @@ module _ (coding : Coding) (old bound z place : ℕ) (x : List ℕ) {c : Cell} w
       rw e (record { answered = q; stored = λ _ _ _. rw add-one; long = simp length-set })
 
 -- ---- a field that is carried on
+
+-- zeros stored where zeros stand
+zeros-there : (k i : ℕ) (x : List ℕ) → ((n : ℕ) → i ≤ n → n < i + k → getD x n 0 ≡ 0) → sets x i (replicate k 0) ≡ x
+zeros-there zero i x h = refl
+zeros-there (suc k) i x h =
+    let same : set x i 0 ≡ x = ap (set x i) (sym (h i (omega arith) (omega arith))) ∙ set-getD x i 0 in
+    ap (λ (w : List ℕ). sets w (suc i) (replicate k 0)) same ∙ zeros-there k (suc i) x (λ n a b. h n (omega arith) (omega arith))
+
+-- behind a mark that is stored
+zeros-behind : (k place : ℕ) (x : List ℕ) → ((n : ℕ) → place < n → n ≤ place + k → getD x n 0 ≡ 0)
+    → sets (set x place 1) (suc place) (replicate k 0) ≡ set x place 1
+zeros-behind k place x h =
+    zeros-there k (suc place) (set x place 1)
+    (λ n a b. getD-set-other x place n 1 0 (λ e. omega arith) ∙ h n (omega arith) (omega arith))
+
 module _ (want : Want) (j k place : ℕ) (r x : List ℕ) {c : Cell} where
-  pub carry-ivs : isIvs want ≡ true → c ≡ right → (olds after : List ℕ) → after ≡ sets (set x place 1) (place + 1) (replicate k 0)
-      → TakenAs (carried want j k olds) place x c after
+  pub carry-ivs : isIvs want ≡ true → c ≡ right → (olds : List ℕ) {clear : Type 0}
+      → (clear → (n : ℕ) → place < n → n ≤ place + k → getD x n 0 ≡ 0) → TakenIf clear (carried want j k olds) place x c (set x place 1)
   unfolding carried
-  carry-ivs i q olds after w =
-      rw i (record { answered = q; stored = λ _ _ _. w ∙ rw add-one; long = ap length w ∙ simp (length-sets, length-set) })
+  carry-ivs i q olds zeros =
+      rw i
+      (record {
+        answered = q;
+        taken = λ z. record { answered = q; stored = λ _ _ _. sym (zeros-behind k place x (zeros z)); long = length-set x place 1 };
+        long = length-set x place 1;
+      })
 
   pub carry-long : isIvs want ≡ false → carriedBy j k ≡ false → c ≡ misfitOf want → (olds : List ℕ) → TakenAs (carried want j k olds) place x c x
   unfolding carried

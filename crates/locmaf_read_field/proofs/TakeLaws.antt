@@ -21,7 +21,7 @@ use Rattle.locmaf_read_said.specs.declared.said.Span.{Span}
 use Rattle.locmaf_read_said.specs.declared.said.Word.{Word}
 use Rattle.locmaf_read_said.specs.declared.said.Word.the-variants.{Omitted, Deleted, Sent}
 use Rattle.locmaf_read_field.specs.declared.cells.Cell.{Cell}
-use Rattle.locmaf_read_field.specs.Cells.{Came, TakenAs, right, carried, sentOne, keptField, sentField, cellOf, valuesAt, valuesIf, listSent, sentIn, said}
+use Rattle.locmaf_read_field.specs.Cells.{Came, TakenAs, Clear, TakenIf, right, carried, sentOne, keptField, sentField, cellOf, valuesAt, valuesIf, listSent, sentIn, said}
 use Rattle.field_rules.specs.Fields.{codingOf, stood, oldValues}
 
 -- ---- the reference's values: b says that the field stood
@@ -59,7 +59,8 @@ module _ (b : Bool) (r : List ℕ) (was : Measure) (l : Line) (m : Measure) {x :
       rw e (record { answered = q; stored = λ _ _ _. refl; long = refl })
 
   pub kept-on : not b ≡ false → (j k : ℕ) → j ≡ wanted (l .want) was → k ≡ wanted (l .want) m → {after : List ℕ}
-      → TakenAs (carried (l .want) j k (valuesAt r l j)) (l .place) x c after → TakenAs (keptBy b r was l m) (l .place) x c after
+      → TakenIf (Clear l k x) (carried (l .want) j k (valuesAt r l j)) (l .place) x c after
+      → TakenIf (Clear l (wanted (l .want) m) x) (keptBy b r was l m) (l .place) x c after
   kept-on n j k ej ek h =
       let e : b ≡ true = passed refl n in
       rw (e, ← ej, ← ek) h
@@ -92,13 +93,13 @@ module _ (F : List Row) (o : List ℕ) (t : Track) (coding : Coding) (held : Boo
   take-none e n q = rw (e, n) (record { answered = q; stored = λ _ _ _. refl; long = refl })
 
   module _ (after : List ℕ) where
-    pub take-omitted : word ≡ Omitted → TakenAs (keptBy (stood held r l) r was l m) (l .place) x c after
-        → TakenAs (cellOf t coding held r was l m (said F o l word)) (l .place) x c after
+    pub take-omitted : word ≡ Omitted → {clear : Type 0} → TakenIf clear (keptBy (stood held r l) r was l m) (l .place) x c after
+        → TakenIf clear (cellOf t coding held r was l m (said F o l word)) (l .place) x c after
     unfolding cellOf said oldValues
-    take-omitted e h = rw e (go (stood held r l) h)
+    take-omitted e {clear} h = rw e (go (stood held r l) h)
       where
-        go : (b : Bool) → TakenAs (keptBy b r was l m) (l .place) x c after
-            → TakenAs (keptField b (l .want) (wanted (l .want) was) (wanted (l .want) m) (valuesIf b r was l)) (l .place) x c after
+        go : (b : Bool) → TakenIf clear (keptBy b r was l m) (l .place) x c after
+            → TakenIf clear (keptField b (l .want) (wanted (l .want) was) (wanted (l .want) m) (valuesIf b r was l)) (l .place) x c after
         go true h = h
         go false h = h
 

@@ -1,11 +1,11 @@
 -- One field of the new set: what the object says of it, against the reference.
-use Prim.Native.Nat.{ℕ, _+_, _*_, _≤_}
+use Prim.Native.Nat.{ℕ, _+_, _*_, _≤_, _<_}
 use mathlib.Core.Path.{_≡_}
 use mathlib.Core.Bool.{Bool, true, false, cond}
 use mathlib.Core.List.{List, [], _∷_}
 use mathlib.Core.Option.{none, some}
 use lib.Dec.{eqb}
-use lib.ListN.{length, replicate}
+use lib.ListN.{length, getD, replicate}
 use lib.Seq.{slice, sets}
 use Rattle.wire.specs.declared.form.Row.{Row}
 use Rattle.wire.specs.declared.zigzag.Coding.{Coding}
@@ -118,6 +118,16 @@ module _ (t : Track) (coding : Coding) (held : Bool) (r : List ℕ) (was : Measu
 pub record TakenAs (f : Came) (place : ℕ) (before : List ℕ) (c : Cell) (after : List ℕ) : Type 0 where
   pub answered : c ≡ f .cell
   pub stored : (c .first ≡ true) → (c .second ≡ true) → (c .within ≡ true) → after ≡ sets before place (wordsOf (f .field))
+  pub long : length after ≡ length before
+
+-- k words behind the mark of a line are 0, where the line is that of the IVs
+abbrev pub Clear : Line → ℕ → List ℕ → Type 0
+Clear l k x = isIvs (l .want) ≡ true → (j : ℕ) → l .place < j → j ≤ l .place + k → getD x j 0 ≡ 0
+
+-- a call took a field, and where that is IVs that are left out it stored their mark alone: what stands behind it is known if it was clear before
+pub record TakenIf (clear : Type 0) (f : Came) (place : ℕ) (before : List ℕ) (c : Cell) (after : List ℕ) : Type 0 where
+  pub answered : c ≡ f .cell
+  pub taken : clear → TakenAs f place before c after
   pub long : length after ≡ length before
 
 -- the first n values at the place of a line

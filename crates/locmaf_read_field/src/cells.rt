@@ -11,7 +11,7 @@ ghost use Rattle.laws.specs.Bytes.{de};
 ghost use Rattle.wire.specs.Form.{rows};
 ghost use Rattle.field_table.specs.Lines.{wanted, Small};
 ghost use Rattle.locmaf_read_said.specs.declared.said.Word.the-variants.{Sent};
-ghost use Rattle.locmaf_read_field.specs.Cells.{right, misfitOf, outOfRange, filledAs, carried, sentOne, sentIvs, keptField, sentField, valuesAt, valuesIf, spanBytes, listSent, sentIn, said, cellOf, TakenAs, Listable, Spans, RegionFits, Takeable};
+ghost use Rattle.locmaf_read_field.specs.Cells.{right, misfitOf, outOfRange, filledAs, carried, sentOne, sentIvs, keptField, sentField, valuesAt, valuesIf, spanBytes, listSent, sentIn, said, cellOf, TakenAs, Clear, TakenIf, Listable, Spans, RegionFits, Takeable};
 ghost use Rattle.field_rules.specs.Fields.{packed};
 use field_rules::carried::carries;
 use field_rules::rules::absent_value;
@@ -102,16 +102,16 @@ fn pack(o: &[u8], at: usize, k: usize, x: &mut [u64], to: usize)
 }
 
 // A field of which the object says nothing: it had j values, and is to have k. IVs are derived later: they get room, and none of the old ones.
+// The room takes no store, since the words are 0 before they are read.
 fn carry(r: &[u64], l: Line, j: usize, k: usize, x: &mut [u64]) -> Cell
     requires { ⌜ (l .place + 1 + k ≤ length (now r)) × (l .place + 1 + k ≤ length (now x)) ⌝ }
-    ensures { λ c. ⌜ TakenAs (carried (l .want) j k (valuesAt (now (r .entry)) l j))
+    ensures { λ c. ⌜ TakenIf (Clear l k (now (x .entry))) (carried (l .want) j k (valuesAt (now (r .entry)) l j))
         (l .place) (now (x .entry)) c (now (x .exit)) ⌝ }
 {
     let want = l.want;
     let place = l.place;
     if is_ivs(want) {
         x[place] = 1;
-        words::blank(x, place + 1, k);
         return well();
     }
     if !carries(j, k) {
@@ -235,7 +235,7 @@ fn keep(stood: bool, r: &[u64], was: Measure, l: Line, m: Measure, x: &mut [u64]
     requires { ⌜ (Small was) × (Small m) ⌝ }
     requires { ⌜ (l .place + 1 + wanted (l .want) m ≤ length (now r))
         × (l .place + 1 + wanted (l .want) m ≤ length (now x)) ⌝ }
-    ensures { λ c. ⌜ TakenAs
+    ensures { λ c. ⌜ TakenIf (Clear l (wanted (l .want) m) (now (x .entry)))
         (keptField stood (l .want) (wanted (l .want) was) (wanted (l .want) m)
         (valuesAt (now (r .entry)) l (wanted (l .want) was)))
         (l .place) (now (x .entry)) c (now (x .exit)) ⌝ }
@@ -302,7 +302,8 @@ pub fn take(
 ) -> Cell
     requires { ⌜ Takeable l held (now r) (now x) was m ⌝ }
     requires { ⌜ Spans (rows form) (now o) l word ⌝ }
-    ensures { λ c. ⌜ TakenAs (cellOf t coding held (now (r .entry)) was l m (said (rows form) (now (o .entry)) l word))
+    ensures { λ c. ⌜ TakenIf (Clear l (wanted (l .want) m) (now (x .entry)))
+        (cellOf t coding held (now (r .entry)) was l m (said (rows form) (now (o .entry)) l word))
         (l .place) (now (x .entry)) c (now (x .exit)) ⌝ }
 {
     let place = l.place;

@@ -414,7 +414,7 @@ unfolding every rawLine lines _and_
 all-raw = refl
 
 -- and what that says of a line
-raw-at : (i : ℕ) → i < lineCount → isIvs (getD lines i spare .want) ≡ true
+pub raw-at : (i : ℕ) → i < lineCount → isIvs (getD lines i spare .want) ≡ true
     → (getD lines i spare .id ≡ 9) × (getD lines i spare .bound ≡ 0xffff_ffff_ffff_ffff)
 unfolding rawLine
 raw-at i h e =

@@ -1,5 +1,5 @@
 -- The last two rules of the fields: what is found by taking the lines behind id 11 is what they ask. Assumes nothing.
-use Prim.Native.Nat.{ℕ}
+use Prim.Native.Nat.{ℕ, _+_}
 use native.Mathlib.Omega.{arith}
 use mathlib.Core.Path.{_≡_, refl, sym, _∙_, ap}
 use mathlib.Core.Bool.{Bool, true, false, not, _&&_}
@@ -13,12 +13,12 @@ use Rattle.laws.proofs.TestLaws.{both, and-left, and-right}
 use Rattle.wire.specs.declared.form.Row.{Row}
 use Rattle.track.specs.declared.Track.{Track}
 use Rattle.field_table.specs.declared.lines.Measure.{Measure}
-use Rattle.field_table.specs.Lines.{every, lines, setLen, firstFlagsLine, clearLine, protectedLine, ivSizeLine}
+use Rattle.field_table.specs.Lines.{every, lines, setLen, subsamplesLine, firstFlagsLine, clearLine, protectedLine, ivSizeLine}
 use Rattle.field_set.specs.Lawful.{setRules, sameIvSize}
 use Rattle.locmaf_read_field.specs.declared.cells.Cell.{Cell}
 use Rattle.locmaf_read_said.specs.Said.{Says, saysIn}
 use Rattle.locmaf_read_said.specs.declared.against.Against.{Against}
-use Rattle.locmaf_read_set.specs.Read.{marksIn, marks, cameOf, lastLines, lastWords, lastRungs, Readable, TakenAll, ReadAs, LastReadAs}
+use Rattle.locmaf_read_set.specs.Read.{marksIn, marks, cameOf, lastLines, lastWords, lastRungs, Readable, ClearFrom, TakenAll, ReadAs, LastReadAs}
 use Rattle.locmaf_read_set.proofs.CameLaws.{late-first}
 use Rattle.locmaf_read_set.proofs.StandingLaws.{marks-said}
 
@@ -54,7 +54,7 @@ module _ (t : Track) (delta : Bool) (r : List ℕ) (says : Says) (m : Measure) w
       (both _ _ (late-first t delta r says m clearLine (omega arith) (omega arith))
       (both _ _ (late-first t delta r says m protectedLine (omega arith) (omega arith)) (both _ _ (late-first t delta r says m ivSizeLine (omega arith) (omega arith)) refl)))
 
-  module _ (second within : Bool) (x : List ℕ) (long : length x ≡ setLen) (d : Cell) (after : List ℕ) (hd : TakenAll (cameOf t delta r says m) lastLines x d after)
+  module _ (second within : Bool) (x : List ℕ) (long : length x ≡ setLen) (d : Cell) (after : List ℕ) (hd : TakenAll (ClearFrom (subsamplesLine + 1) x) (cameOf t delta r says m) lastLines x d after)
       (rules : Bool) (er : rules ≡ setRules t (m .count) (marks t delta r says)) where
     -- the first of the two
     rules-test : (second and (every (λ l. cameOf t delta r says m l .cell .second) lastLines and setRules t (m .count) (marks t delta r says)))
@@ -70,7 +70,7 @@ module _ (t : Track) (delta : Bool) (r : List ℕ) (says : Says) (m : Measure) w
       rules-hold = held (sym rules-test) q₁
 
       last-stored : d .within ≡ true → after ≡ lastWords t delta r says m x
-      last-stored w = hd .stored (hd .first ∙ late-all) (and-left (d .second) rules (and-right second (d .second && rules) (held refl q₁))) w
+      last-stored w = hd .stored (λ le. absurd (omega arith)) (hd .first ∙ late-all) (and-left (d .second) rules (and-right second (d .second && rules) (held refl q₁))) w
 
       -- the second
       values-test : (within and (every (λ l. cameOf t delta r says m l .cell .within) lastLines and sameIvSize t (lastWords t delta r says m x)))

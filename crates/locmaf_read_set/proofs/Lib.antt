@@ -1,4 +1,5 @@
 pub mod CameLaws
+pub mod ClearLaws
 pub mod LeafLaws
 pub mod ReadableLaws
 pub mod TakingLaws

@@ -32,7 +32,7 @@ use Rattle.field_rules.specs.Words.{setWords, measure, wasOf}
 use Rattle.locmaf_read_set.specs.Read.{countFrom, countReached, countOf, cameOf, subsamples, came, fieldOf, stands, marks, newWords, fieldRungs, setRungs}
 use Rattle.field_rules.proofs.SetLaws.{eleven-for, AllFit, Keeps, Within, map-same, words-start, words-count, words-marks, words-around, around-id, words-regions, words-length}
 use Rattle.locmaf_read_set.proofs.CameLaws.{came-early, came-length, came-fits, came-stands}
-use Rattle.locmaf_read_set.proofs.RungLaws.{fits-of}
+use Rattle.locmaf_read_set.proofs.ClearLaws.{fits-of}
 
 -- a count that was reached is at most 64 where the old one is
 count-within : (coding : Coding) (o : Option (List ℕ)) (old : ℕ) → old ≤ samplesMost → onReached (countFrom coding o old) (λ n. n) 0 ≤ samplesMost

@@ -2,7 +2,7 @@
 use Prim.Native.Nat.{ℕ, _≤_, _<_}
 use native.Mathlib.Nat.{le-refl}
 use native.Mathlib.Omega.{arith}
-use mathlib.Core.Path.{_≡_, refl, sym, ap}
+use mathlib.Core.Path.{_≡_, refl, sym, _∙_, ap}
 use mathlib.Core.Bool.{Bool, true, false, false≢true}
 use mathlib.Core.List.{List, []}
 use mathlib.Core.Option.{Option, none, some}
@@ -13,7 +13,7 @@ use Rattle.wire.specs.declared.zigzag.Coding.{Coding}
 use Rattle.track.specs.declared.Track.{Track}
 use Rattle.field_table.specs.declared.lines.Line.{Line}
 use Rattle.field_table.specs.declared.lines.Measure.{Measure}
-use Rattle.field_table.specs.Lines.{lines, spare, setLen, Small, lineCount}
+use Rattle.field_table.specs.Lines.{lines, spare, setLen, wanted, Small, lineCount}
 use Rattle.field_set.specs.Lawful.{regionOk, measureOf, lawful}
 use Rattle.field_set.proofs.LawfulLaws.{lawful-facts, region-at}
 use Rattle.locmaf_read_said.specs.declared.said.Word.{Word}
@@ -22,15 +22,17 @@ use Rattle.locmaf_read_said.specs.Said.{Saying, omitted, deleted, sent, saying,
 use Rattle.laws.specs.Tests.{among}
 use Rattle.field_rules.specs.Fields.{numbers, codingFor, stood}
 use Rattle.locmaf_read_field.specs.declared.cells.Cell.{Cell}
-use Rattle.locmaf_read_field.specs.Cells.{right, cellOf, said, TakenAs, Spans, Takeable}
+use Rattle.locmaf_read_field.specs.Cells.{Came, right, cellOf, said, TakenAs, Clear, TakenIf, Spans, Takeable}
 use Rattle.locmaf_read_field.proofs.RoomLaws.{takeable}
 use Rattle.locmaf_read_field.proofs.TakeLaws.{take-none, take-deleted}
 use Rattle.locmaf_read_field.proofs.MarkedLaws.{kinded, said-is, spans, marked-omitted, marked-deleted, marked-sent}
 use Rattle.locmaf_read_said.specs.declared.against.Against.{Against}
 use Rattle.field_rules.specs.Words.{wasOf}
+use Rattle.field_rules.proofs.RoomLaws.{wanted-room}
 use Rattle.locmaf_read_index.specs.Places.{standsAt}
 use Rattle.locmaf_read_said.proofs.TellingLaws.{brand-bytes}
-use Rattle.locmaf_read_set.specs.Read.{cameOf, standsBy, stands, wordStands, staysIn, brandsIn, brandsFit, Readable, Measured}
+use Rattle.locmaf_read_set.specs.Read.{cameOf, standsBy, stands, wordStands, staysIn, brandsIn, brandsFit, Readable, Measured, ClearFrom}
+use Rattle.locmaf_read_set.proofs.ClearLaws.{clear-line}
 
 -- the lengths of a lawful reference are small
 pub was-small : (t : Track) (delta : Bool) (r : List ℕ) → t .«iv_size» ≤ 16 → (delta ≡ true → lawful t r ≡ true) → Small (wasOf t delta r)
@@ -118,10 +120,15 @@ module _ (F : List Row) (o index gone : List ℕ) (t : Track) (a : Against) (r :
             )
 
         -- so it takes that of the line
-        pub line-taken : (m : Measure) (x : List ℕ) (c : Cell) (y : List ℕ)
-            → TakenAs (cellOf t (a .coding) (a .held) r (a .was) l m (said F o l word)) (l .place) x c y
-            → TakenAs (cameOf t (a .held) r (saysIn F o index) m (getD lines i spare)) (getD lines i spare .place) x c y
-        line-taken m x c y k = rw (taken-is m, ap (λ (z : Line). z .place) el) at k
+        pub line-taken : (m : Measure) → Measured m → (x : List ℕ) (c : Cell) (y : List ℕ)
+            → TakenIf (Clear l (wanted (l .want) m) x) (cellOf t (a .coding) (a .held) r (a .was) l m (said F o l word)) (l .place) x c y
+            → TakenIf (ClearFrom i x) (cameOf t (a .held) r (saysIn F o index) m (getD lines i spare)) (getD lines i spare .place) x c y
+        line-taken m mm x c y k =
+            record {
+              answered = k .answered ∙ ap (λ (z : Came). z .cell) (taken-is m);
+              taken = λ z. rw (taken-is m, ap (λ (z : Line). z .place) el) at (k .taken (rw el (clear-line i lt _ (wanted-room i lt m (mm .small) (mm .few)) x z)));
+              long = k .long;
+            }
 
     -- a line whose field doesn't stand has nothing to take
     pub skipped : staysIn index gone (a .held) r (getD lines i spare) ≡ false → (m : Measure) (x : List ℕ)

@@ -5,7 +5,6 @@ use native.Mathlib.Omega.{arith}
 use mathlib.Core.Path.{_≡_, refl, sym, _∙_, ap}
 use mathlib.Core.Bool.{Bool, true, false, false≢true, not, _&&_}
 use mathlib.Core.List.{List, [], _∷_, _++_}
-use mathlib.Core.Option.{none, some}
 use borrow.Author.Tests.{leb-true}
 use lib.Dec.{leb}
 use lib.ListN.{length, getD}
@@ -29,11 +28,11 @@ use Rattle.locmaf_read_field.specs.declared.cells.Cell.{Cell}
 use Rattle.locmaf_read_said.specs.Said.{Says}
 use Rattle.field_rules.specs.Fields.{numbers, Held, wordsOf}
 use Rattle.locmaf_read_field.specs.Cells.{Came}
-use Rattle.field_rules.proofs.RoomLaws.{wanted-room}
 use Rattle.field_rules.specs.Words.{measure, storeAll, setWords, noFields}
-use Rattle.locmaf_read_set.specs.Read.{brandsFit, brandsIn, marks, newWords, countReached, countOf, cameOf, subsamples, came, fieldOf, fieldRungs, firstRungs, lastLines, lastWords, lastRungs, Measured, TakenAll, ReadAs, LastReadAs}
-use Rattle.field_rules.proofs.SetLaws.{eleven-for, Fits, AllFit, words-length, stored-words, eleven-values, parted}
+use Rattle.locmaf_read_set.specs.Read.{brandsFit, brandsIn, marks, newWords, countReached, countOf, cameOf, subsamples, came, fieldOf, fieldRungs, firstRungs, lastLines, lastWords, lastRungs, Measured, ClearFrom, TakenAll, ReadAs, LastReadAs}
+use Rattle.field_rules.proofs.SetLaws.{eleven-for, AllFit, words-length, stored-words, eleven-values, parted}
 use Rattle.locmaf_read_set.proofs.CameLaws.{came-early, second-eleven, came-length}
+use Rattle.locmaf_read_set.proofs.ClearLaws.{all-fit, clear-eleven}
 use Rattle.locmaf_read_set.proofs.LastLaws.{refused, late-all}
 
 -- ---- a table in three runs
@@ -114,11 +113,6 @@ last-tests true true s z h = sym (h refl)
 last-tests true false s z h = refl
 last-tests false u s z h = refl
 
--- a field that has room
-pub fits-of : (l : Line) (h : Held) → ((vs : List ℕ) → h ≡ some vs → length vs ≤ l .room) → Fits l h
-fits-of l none k = tt
-fits-of l (some vs) k = k vs refl
-
 -- lengths within the maxima
 pub measured : (t : Track) (n k : ℕ) → t .«iv_size» ≤ 16 → n ≤ samplesMost → k ≤ subsamplesMost → Measured (measure t n k)
 measured t n k iv few h = record { small = record { count = few; ivs = omega arith; sum = omega arith }; few = h }
@@ -166,19 +160,19 @@ module _ (t : Track) (delta : Bool) (r : List ℕ) (says : Says) (n : ℕ) (en :
       ∙ rw (ex, ey, ez, same-front p (slice 0 subsamplesLine lines) early-front, same-front p (slice subsamplesLine (subsamplesLine + 1) lines) early-eleven, same-rest p (lastLines))
 
   module _ (words : length r ≡ setLen) (law : delta ≡ true → lawful t r ≡ true) (iv : t .«iv_size» ≤ 16) (few : n ≤ samplesMost) where
-    fits-at : (k : ℕ) → k ≤ subsamplesMost → AllFit (λ l. cameOf t delta r says (measure t n k) l .field)
-    fits-at k h i lt =
-        let m = measured t n k iv few h in
-        let room = wanted-room i lt (measure t n k) (m .small) (m .few) in
-        fits-of (getD lines i spare) (cameOf t delta r says (measure t n k) (getD lines i spare) .field)
-        (λ vs e. omega (arith, came-length t delta r words law i lt says (measure t n k) vs e, room))
+    pub fits-at : (k : ℕ) → k ≤ subsamplesMost → AllFit (λ l. cameOf t delta r says (measure t n k) l .field)
+    fits-at k h = all-fit t delta r words law says (measure t n k) (measured t n k iv few h)
 
     -- ---- id 11, and the lines before it
     module _ (x₀ : List ℕ) (ex : x₀ ≡ setWords 0 n noFields) (b : Cell) (x₁ : List ℕ)
-        (hb : TakenAll (cameOf t delta r says (measure t n 0)) (slice subsamplesLine (subsamplesLine + 1) lines) x₀ b x₁)
+        (hb : TakenAll (ClearFrom subsamplesLine x₀) (cameOf t delta r says (measure t n 0)) (slice subsamplesLine (subsamplesLine + 1) lines) x₀ b x₁)
         (c : Tally) (hc : TallyOf c ((253 - t .«iv_size») / 6) (valuesOf 11 n x₁)) where
       eleven-long : length x₁ ≡ setLen
       eleven-long = hb .long ∙ start-long n x₀ ex
+
+      -- id 11 stands behind the IVs
+      eleven-clear : ClearFrom subsamplesLine x₀
+      eleven-clear le = absurd (omega arith)
 
       eleven-second : b .second ≡ true
       eleven-second = hb .second ∙ every-eleven (λ l. cameOf t delta r says (measure t n 0) l .cell .second) ∙ second-eleven t delta r says (measure t n 0)
@@ -199,7 +193,7 @@ module _ (t : Track) (delta : Bool) (r : List ℕ) (says : Says) (n : ℕ) (en :
         unfolding wanted lines
         tallied-are bw =
             let f : Line → Held = λ l. cameOf t delta r says (measure t n 0) l .field in
-            let e : x₁ ≡ storeAll f (slice subsamplesLine (subsamplesLine + 1) lines) (setWords 0 n noFields) = hb .stored bf eleven-second bw ∙ ap (storeAll f (slice subsamplesLine (subsamplesLine + 1) lines)) ex in
+            let e : x₁ ≡ storeAll f (slice subsamplesLine (subsamplesLine + 1) lines) (setWords 0 n noFields) = hb .stored eleven-clear bf eleven-second bw ∙ ap (storeAll f (slice subsamplesLine (subsamplesLine + 1) lines)) ex in
             ap (valuesOf 11 n) e
             ∙ eleven-values f (fits-at 0 (omega arith) subsamplesLine (omega arith)) n
             (λ vs q. came-length t delta r words law subsamplesLine (omega arith) says (measure t n 0) vs q)
@@ -233,7 +227,7 @@ module _ (t : Track) (delta : Bool) (r : List ℕ) (says : Says) (n : ℕ) (en :
             go true q = ap (λ (k : Bool). k and leb (sum (subsamples t delta r says)) subsamplesMost) (saiz-found q) ∙ inner q (c .ok) refl
             go false q = refl
 
-      module _ (e : Cell) (x₂ : List ℕ) (he : TakenAll (cameOf t delta r says (measure t n 0)) (slice 0 subsamplesLine lines) x₁ e x₂)
+      module _ (e : Cell) (x₂ : List ℕ) (he : TakenAll (ClearFrom 0 x₁) (cameOf t delta r says (measure t n 0)) (slice 0 subsamplesLine lines) x₁ e x₂)
           (index : List ℕ) (ew : brandsIn index ≡ brandsFit (says 23)) where
         front-long : length x₂ ≡ setLen
         front-long = he .long ∙ eleven-long
@@ -321,11 +315,11 @@ module _ (t : Track) (delta : Bool) (r : List ℕ) (says : Says) (n : ℕ) (en :
               let k : Line → Held = λ l. cameOf t delta r says lengths l .field in
               let fk : f ≡ k = λ j l. came-is l j .field in
               let s₁ : x₁ ≡ storeAll f (slice subsamplesLine (subsamplesLine + 1) lines) (setWords 0 n noFields) =
-              hb .stored b-first eleven-second b-within
+              hb .stored eleven-clear b-first eleven-second b-within
               ∙ ap (storeAll g (slice subsamplesLine (subsamplesLine + 1) lines)) ex
               ∙ sym (store-same f g early (λ l h. ap (λ (z : Came). z .field) (came-any 0 l h)) (slice subsamplesLine (subsamplesLine + 1) lines) early-eleven _) in
               let s₂ : x₂ ≡ storeAll f (slice 0 subsamplesLine lines) x₁ =
-              he .stored e-first es ew
+              he .stored (rw s₁ (clear-eleven f n)) e-first es ew
               ∙ sym (store-same f g early (λ l h. ap (λ (z : Came). z .field) (came-any 0 l h)) (slice 0 subsamplesLine lines) early-front x₁) in
               let fit : AllFit f = rw fk (fits-at (sum (subsamples t delta r says)) (omega (arith, sum-is, sum-small))) in
               ap (λ (z : Line → Held). storeAll z lastLines x₂) (sym fk)

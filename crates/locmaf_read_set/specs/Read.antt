@@ -1,5 +1,5 @@
 -- The set of moof fields that an object gives, and what is asked of it, step by step in the order of 01.
-use Prim.Native.Nat.{ℕ, _+_, _-_, _/_, _%_, _≤_}
+use Prim.Native.Nat.{ℕ, _+_, _-_, _/_, _%_, _≤_, _<_}
 use mathlib.Core.Path.{_≡_}
 use mathlib.Core.Bool.{Bool, true, false, cond, not, _&&_, _||_}
 use mathlib.Core.List.{List, [], _∷_, map}
@@ -20,7 +20,7 @@ use Rattle.wire.specs.Zigzag.{reached, onReached}
 use Rattle.track.specs.declared.Track.{Track}
 use Rattle.field_table.specs.declared.lines.Line.{Line}
 use Rattle.field_table.specs.declared.lines.Measure.{Measure}
-use Rattle.field_table.specs.Lines.{lines, lineFor, every, setLen, Small, lineCount, subsamplesLine}
+use Rattle.field_table.specs.Lines.{lines, lineFor, every, setLen, Small, lineCount, ivsAt, subsamplesAt, ivsLine, subsamplesLine}
 use Rattle.field_set.specs.declared.lawful.Tally.{Tally}
 use Rattle.field_set.specs.Lawful.{TallyOf, valuesOf, saizOk, setRules, sameIvSize, lawful}
 use Rattle.locmaf_read_said.specs.declared.said.Word.{Word}
@@ -142,12 +142,16 @@ pub record Measured (m : Measure) : Type 0 where
   pub small : Small m
   pub few : m .sum ≤ subsamplesMost
 
--- a run of lines was taken: what was answered, and where all is right what is stored
-pub record TakenAll (f : Line → Came) (ls : List Line) (before : List ℕ) (c : Cell) (after : List ℕ) : Type 0 where
+-- the room of the IVs is 0 in the words x, where it is still to be read: i is the number of the next line
+abbrev pub ClearFrom : ℕ → List ℕ → Type 0
+ClearFrom i x = i ≤ ivsLine → (j : ℕ) → ivsAt < j → j < subsamplesAt → getD x j 0 ≡ 0
+
+-- a run of lines was taken: what was answered, and where all is right what is stored, if the room of the IVs was clear
+pub record TakenAll (clear : Type 0) (f : Line → Came) (ls : List Line) (before : List ℕ) (c : Cell) (after : List ℕ) : Type 0 where
   pub first : c .first ≡ every (λ l. f l .cell .first) ls
   pub second : c .second ≡ every (λ l. f l .cell .second) ls
   pub within : c .within ≡ every (λ l. f l .cell .within) ls
-  pub stored : (c .first ≡ true) → (c .second ≡ true) → (c .within ≡ true) → after ≡ storeAll (λ l. f l .field) ls before
+  pub stored : clear → (c .first ≡ true) → (c .second ≡ true) → (c .within ≡ true) → after ≡ storeAll (λ l. f l .field) ls before
   pub long : length after ≡ length before
 
 -- the fields up to id 11's were taken into the words `after`, with lengths that go by m: id 11 came to b, its counts to c, and those before it to e
@@ -158,9 +162,9 @@ pub record FrontTaken (t : Track) (delta : Bool) (r : List ℕ) (says : Says) (m
   pub lengths : m ≡ measure t (m .count) 0
   pub reached : countReached t delta r says ≡ To (m .count)
   pub empty : start ≡ setWords 0 (m .count) noFields
-  pub pairs : TakenAll (cameOf t delta r says (measure t (m .count) 0)) (slice subsamplesLine (subsamplesLine + 1) lines) start b eleven
+  pub pairs : TakenAll (ClearFrom subsamplesLine start) (cameOf t delta r says (measure t (m .count) 0)) (slice subsamplesLine (subsamplesLine + 1) lines) start b eleven
   pub tally : TallyOf c ((entryMost - 2 - t .«iv_size») / 6) (valuesOf 11 (m .count) eleven)
-  pub others : TakenAll (cameOf t delta r says (measure t (m .count) 0)) (slice 0 subsamplesLine lines) eleven e after
+  pub others : TakenAll (ClearFrom 0 eleven) (cameOf t delta r says (measure t (m .count) 0)) (slice 0 subsamplesLine lines) eleven e after
 
 -- a row of rules was asked: the number, and where it is 0 the words
 pub record ReadAs (rungs : List Rung) (words : List ℕ) (number : ℕ) (after : List ℕ) : Type 0 where

@@ -14,8 +14,8 @@ ghost use Rattle.field_set.specs.Lawful.{lawful};
 ghost use Rattle.wire.specs.declared.zigzag.Reached.the-variants.{To};
 ghost use Rattle.locmaf_read_said.specs.Said.{saysIn, scalarIn, Telling};
 ghost use Rattle.field_rules.specs.Words.{noFields, setWords};
-ghost use Rattle.locmaf_read_field.specs.Cells.{TakenAs};
-ghost use Rattle.locmaf_read_set.specs.Read.{countFrom, countReached, brandsIn, staysIn, marksIn, cameOf, Lent, Readable, Measured, TakenAll, FrontTaken, noneSent, bareRungs, SetReadAs, FieldsReadAs, firstRungs, LastReadAs};
+ghost use Rattle.locmaf_read_field.specs.Cells.{TakenIf};
+ghost use Rattle.locmaf_read_set.specs.Read.{countFrom, countReached, brandsIn, staysIn, marksIn, cameOf, Lent, Readable, Measured, ClearFrom, TakenAll, FrontTaken, noneSent, bareRungs, SetReadAs, FieldsReadAs, firstRungs, LastReadAs};
 use constants::ids;
 use constants::maxima;
 use field_set::lawful;
@@ -133,7 +133,7 @@ fn take_line(
 ) -> Cell
     requires { ⌜ Readable (rows form) (now o) (now index) (now gone) t a (now r) ⌝ }
     requires { ⌜ (Measured m) × (i < lineCount) × (length (now x) ≡ setLen) ⌝ }
-    ensures { λ c. ⌜ TakenAs
+    ensures { λ c. ⌜ TakenIf (ClearFrom i (now (x .entry)))
         (cameOf t (a .held) (now (r .entry)) (saysIn (rows form) (now (o .entry)) (now (index .entry))) m
         (getD lines i spare))
         (getD lines i spare .place) (now (x .entry)) c (now (x .exit)) ⌝ }
@@ -163,7 +163,7 @@ fn take_lines(
     requires { ⌜ Readable (rows form) (now o) (now index) (now gone) t a (now r) ⌝ }
     requires { ⌜ (Measured m) × (from ≤ to) × (to ≤ lineCount) × (length (now x) ≡ setLen) ⌝ }
     requires { ⌜ now marks ≡ marksIn (now index) (now gone) (a .held) (now r) ⌝ }
-    ensures { λ c. ⌜ TakenAll
+    ensures { λ c. ⌜ TakenAll (ClearFrom from (now (x .entry)))
         (cameOf t (a .held) (now (r .entry)) (saysIn (rows form) (now (o .entry)) (now (index .entry))) m)
         (slice from to lines) (now (x .entry)) c (now (x .exit)) ⌝ }
 {

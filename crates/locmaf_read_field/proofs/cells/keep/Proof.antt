@@ -1,5 +1,6 @@
 -- `locmaf_read_field::cells::keep` meets its contract, by the laws of `proofs/TakeLaws.antt`. Assumes nothing.
 use denote.Ref.{now}
+use Rattle.locmaf_read_field.proofs.CellLaws.{taken-always}
 use Rattle.locmaf_read_field.proofs.TakeLaws.{kept-none, kept-on}
 use borrow.Author.Needs.{needs}
 use Rattle.locmaf_read_field.proofs.cells.keep.Statement.{statement}
@@ -11,7 +12,7 @@ well-requires c κs = search needs
 returns : tie.Need-returns
 returns c =
     let a = c .before .before .before .before .args in
-    kept-none (a .stood) (now (a .r)) (a .was) (a .l) (a .m) (c .before .if1 .taken) (c .well .ensures)
+    taken-always (kept-none (a .stood) (now (a .r)) (a .was) (a .l) (a .m) (c .before .if1 .taken) (c .well .ensures))
 
 length-of-requires : tie.Need-length-of-requires
 length-of-requires c κs = search needs

@@ -1,4 +1,5 @@
 -- `locmaf_read_field::cells::take` meets its contract, by the laws of `proofs/TakeLaws.antt`. Assumes nothing.
+use Rattle.locmaf_read_field.proofs.CellLaws.{taken-always}
 use Rattle.locmaf_read_field.proofs.TakeLaws.{take-deleted, take-omitted, take-sent}
 use borrow.Author.Needs.{needs}
 use Rattle.locmaf_read_field.proofs.cells.take.Statement.{statement}
@@ -31,7 +32,7 @@ send-requires c κs =
     (p .0, rw (c .before .before .word .given .1) at (p .1))
 
 returns : tie.Need-returns
-returns c = take-deleted _ _ _ _ _ _ _ _ _ _ _ _ (c .before .enum-told .given .1) (c .well .ensures)
+returns c = taken-always (take-deleted _ _ _ _ _ _ _ _ _ _ _ _ (c .before .enum-told .given .1) (c .well .ensures))
 
 same-length : tie.Need-same-length
 same-length c = c .before .before .keep .ensures .long
@@ -43,7 +44,7 @@ same-length-2 : tie.Need-same-length-2
 same-length-2 c = c .before .before .send .ensures .long
 
 returns-3 : tie.Need-returns-3
-returns-3 c = take-sent _ _ _ _ _ _ _ _ _ _ _ _ _ _ (c .before .before .before .before .before .word .given .1) (c .before .before .send .ensures)
+returns-3 c = taken-always (take-sent _ _ _ _ _ _ _ _ _ _ _ _ _ _ (c .before .before .before .before .before .word .given .1) (c .before .before .send .ensures))
 
 pub take-spec : {M : Type 1} → statement M
 take-spec =

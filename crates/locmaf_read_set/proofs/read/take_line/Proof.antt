@@ -34,7 +34,7 @@ returns c =
     let w = k .before .before in
     let l = w .before in
     let p = l .before .before .before .before .before .before .pre in
-    line-taken _ _ _ _ _ _ _ (p .0) _ (p .1 .1) _ (l .line-at .ensures) _ (w .word-of .ensures) _ _ _ _ (k .take .ensures)
+    line-taken _ _ _ _ _ _ _ (p .0) _ (p .1 .1) _ (l .line-at .ensures) _ (w .word-of .ensures) _ (p .1 .0) _ _ _ (k .take .ensures)
 
 pub take-line-spec : {M : Type 1} → statement M
 take-line-spec =

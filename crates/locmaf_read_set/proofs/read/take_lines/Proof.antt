@@ -5,6 +5,7 @@ use mathlib.Core.Logic.{⊎-elim}
 use Rattle.wire.specs.Form.{rows}
 use Rattle.locmaf_read_said.specs.Said.{saysIn}
 use Rattle.locmaf_read_set.specs.Read.{cameOf}
+use Rattle.locmaf_read_set.proofs.ClearLaws.{all-fit}
 use Rattle.locmaf_read_set.proofs.StandingLaws.{marks-count, unmarked}
 use Rattle.locmaf_read_set.proofs.TakingLaws.{Taking, taking-start, taking-end, taking-as, here, enough, taking-next, taking-skip}
 use borrow.Author.Needs.{needs}
@@ -19,7 +20,7 @@ abbrev μ-loop : tie.MeasureT-loop
 μ-loop form a o index gone marks t r m from to x₀ first₀ second₀ within₀ i₀ x first second within i = to - i
 
 loop-holds : tie.Need-loop-holds Inv-loop μ-loop
-loop-holds c = let p = c .before .before .before .before .before .before .pre in taking-start _ _ _ _ (p .1 .0 .1) (p .1 .0 .2) (p .1 .0 .3)
+loop-holds c = let p = c .before .before .before .before .before .before .pre in taking-start _ _ _ _ (p .1 .0 .1) (p .1 .0 .2) (p .1 .0 .3) (all-fit _ _ _ (p .0 .words) (p .0 .lawful) _ _ (p .1 .0 .0))
 
 mul-if1 : tie.Need-mul-if1 Inv-loop μ-loop
 mul-if1 c = search needs

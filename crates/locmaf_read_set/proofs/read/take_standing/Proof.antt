@@ -10,10 +10,11 @@ use Rattle.wire.specs.Form.{rows}
 use Rattle.field_table.specs.Lines.{lines, setLen, subsamplesLine}
 use Rattle.field_rules.specs.Words.{measure}
 use Rattle.locmaf_read_said.specs.Said.{saysIn}
-use Rattle.locmaf_read_set.specs.Read.{cameOf, TakenAll}
+use Rattle.locmaf_read_set.specs.Read.{cameOf, ClearFrom, TakenAll}
+use Rattle.locmaf_read_field.proofs.CellLaws.{taken-always}
 use Rattle.locmaf_read_set.proofs.StandingLaws.{unmarked}
 use Rattle.locmaf_read_set.proofs.TakingLaws.{taken-one}
-use Rattle.locmaf_read_set.proofs.RungLaws.{measured, start-long}
+use Rattle.locmaf_read_set.proofs.RungLaws.{measured, start-long, fits-at}
 use borrow.Author.Needs.{needs}
 use Rattle.locmaf_read_set.proofs.read.take_standing.Statement.{statement}
 use Rattle.locmaf_read_set.proofs.read.take_standing.Tie as tie
@@ -44,18 +45,19 @@ take-line-requires c κs =
 -- id 11, where it stands and where it doesn't
 eleven : (c : tie.Joined1)
     → (let a = c .before .before .before .before .before .before .before .before .before .before .args in
-    TakenAll
+    TakenAll (ClearFrom subsamplesLine (now (a .x)))
     (cameOf (a .t) (a .a .held) (now (a .r)) (saysIn (rows (a .form)) (now (a .o)) (now (a .index))) (measure (a .t) (a .n) 0))
     (slice subsamplesLine (subsamplesLine + 1) lines) (now (a .x)) (c .if1 .b) (c .if1 .x))
 eleven c =
     let s = c .before .before .before in
     let p = s .before .before .before .before .before .before .before .pre in
     let long = start-long _ _ (p .1 .2) in
+    let fit = fits-at _ _ _ _ _ (p .1 .1) (p .0 .words) (p .0 .lawful) (p .0 .iv) (p .1 .0) 0 (omega arith) in
     ⊎-elim
     (λ w.
-    taken-one _ _ (omega arith) _ long
-    (unmarked _ _ _ _ _ _ _ (p .0) _ (s .standing .ensures) subsamplesLine (omega arith) (w .0 .taken) _ _) (w .2) (w .3 ∙ w .1 .ensures))
-    (λ w. taken-one _ _ (omega arith) _ long (w .2 .ensures) (w .5) (w .6))
+    taken-one _ _ (omega arith) _ long fit
+    (taken-always (unmarked _ _ _ _ _ _ _ (p .0) _ (s .standing .ensures) subsamplesLine (omega arith) (w .0 .taken) _ _)) (w .2) (w .3 ∙ w .1 .ensures))
+    (λ w. taken-one _ _ (omega arith) _ long fit (w .2 .ensures) (w .5) (w .6))
     (c .if1 .came)
 
 -- the words are as many behind it
