@@ -28,11 +28,11 @@ fn pairs_sum(c: &[u8], at: usize, k: usize) -> u64
     ensures { λ r. ⌜ r ≡ pairsSum (now (c .entry)) k at ⌝ }
 {
     let mut sum = 0;
-    let mut i = 0;
-    while i < k {
-        let p = at + 6 * i;
+    let mut p = at;
+    let end = at + 6 * k;
+    while p < end {
         sum += numbers::u16_at(c, p) + numbers::u32_at(c, p + 2);
-        i += 1;
+        p += 6;
     }
     sum
 }

@@ -184,10 +184,11 @@ fn put_rows(t: Track, w: &[u64], payload: u64, out: &mut [u8], at: usize) -> usi
 {
     let n = w[lines::COUNT] as usize;
     let last = effective::sizes::last_size(t, w, payload);
+    let listed = effective::sizes::listed_sizes(w);
     let mut p = at;
     let mut i = 0;
     while i < n {
-        let size = effective::sizes::size_at(w, last, i);
+        let size = effective::sizes::size_at(w, listed, last, i);
         p = put_row(w, size, i, out, p);
         i += 1;
     }

@@ -13,7 +13,7 @@ use Rattle.laws.proofs.SliceLaws.{slice-none}
 use Rattle.laws.proofs.TestLaws.{sum-next}
 use Rattle.track.specs.declared.Track.{Track}
 use Rattle.field_set.specs.Lawful.{has, valuesOf, countIn, valueAt}
-use Rattle.effective.specs.Sizes.{sizeOf, lastSize, sizeBy}
+use Rattle.effective.specs.Sizes.{sizeOf, lastSize, listedSizes, sizeBy}
 
 -- ---- words taken off a whole, one after another
 
@@ -67,30 +67,35 @@ module _ (t : Track) (w : List ℕ) (payload : ℕ) where
 
   -- each size, by the last
   pub size-by : (i : ℕ) → sizeOf t w payload i ≡ sizeBy w (lastSize t w payload) i
-  unfolding sizeOf sizeBy lastSize
+  unfolding sizeOf sizeBy listedSizes lastSize
   size-by i =
       rw same-false
       (go (leb (countIn w) 1) refl (has 1 w))
     where
       go : (a : Bool) → leb (countIn w) 1 ≡ a → (b : Bool)
           → cond a payload (cond b (cond (ltb i (countIn w - 1)) (valueAt 1 i w) (payload - sum (valuesOf 1 (countIn w - 1) w))) (cond (has 6 w) (valueAt 6 0 w) (t .size)))
-          ≡ cond b (cond (ltb i (countIn w - 1)) (valueAt 1 i w) (cond a payload (cond b (payload - sum (valuesOf 1 (countIn w - 1) w)) (cond (has 6 w) (valueAt 6 0 w) (t .size))))) (cond a payload (cond b (payload - sum (valuesOf 1 (countIn w - 1) w)) (cond (has 6 w) (valueAt 6 0 w) (t .size))))
+          ≡ cond (ltb i (cond b (countIn w - 1) 0)) (valueAt 1 i w) (cond a payload (cond b (payload - sum (valuesOf 1 (countIn w - 1) w)) (cond (has 6 w) (valueAt 6 0 w) (t .size))))
       go true e true =
           let le : countIn w ≤ 1 = leb-true _ _ e in
           rw (le-ltb i (countIn w - 1) (omega arith))
-      go true e false = refl
+      go true e false = rw (le-ltb i 0 (omega arith))
       go false e true = refl
-      go false e false = refl
+      go false e false = rw (le-ltb i 0 (omega arith))
 
-module _ (w : List ℕ) (last i : ℕ) where
-  pub size-same : has 1 w ≡ false → last ≡ sizeBy w last i
-  unfolding sizeBy
-  size-same h = rw h
+module _ (w : List ℕ) where
+  pub listed-none : has 1 w ≡ false → 0 ≡ listedSizes w
+  unfolding listedSizes
+  listed-none h = rw h
 
-  pub size-listed : has 1 w ≡ true → i + 1 < countIn w → valueAt 1 i w ≡ sizeBy w last i
-  unfolding sizeBy
-  size-listed h lt = rw (h, lt-ltb i (countIn w - 1) (omega arith))
+  pub listed-some : has 1 w ≡ true → (n : ℕ) → n ≡ countIn w - 1 → n ≡ listedSizes w
+  unfolding listedSizes
+  listed-some h n e = rw h e
 
-  pub size-last : has 1 w ≡ true → countIn w ≤ i + 1 → last ≡ sizeBy w last i
-  unfolding sizeBy
-  size-last h le = rw (h, le-ltb i (countIn w - 1) (omega arith))
+  module _ (last i n : ℕ) (e : n ≡ listedSizes w) where
+    pub size-listed : i < n → valueAt 1 i w ≡ sizeBy w last i
+    unfolding sizeBy
+    size-listed lt = rw (lt-ltb i (listedSizes w) (omega arith))
+
+    pub size-last : n ≤ i → last ≡ sizeBy w last i
+    unfolding sizeBy
+    size-last le = rw (le-ltb i (listedSizes w) (omega arith))

@@ -24,8 +24,12 @@ sizeOf t w payload i =
 unfoldable pub lastSize : Track → List ℕ → ℕ → ℕ
 lastSize t w payload = sizeOf t w payload (countIn w - 1)
 
+-- how many samples id 1 has a size of
+unfoldable pub listedSizes : List ℕ → ℕ
+listedSizes w = cond (has 1 w) (countIn w - 1) 0
+
 unfoldable pub sizeBy : List ℕ → ℕ → ℕ → ℕ
-sizeBy w last i = cond (has 1 w) (cond (ltb i (countIn w - 1)) (valueAt 1 i w) last) last
+sizeBy w last i = cond (ltb i (listedSizes w)) (valueAt 1 i w) last
 
 -- the sizes that id 1 has don't pass the payload, which keeps its maximum
 pub record Sized (w : List ℕ) (payload : ℕ) : Type 0 where

@@ -8,7 +8,7 @@ ghost use Rattle.laws.specs.Tests.{sum};
 ghost use Rattle.constants.specs.Maxima.{samplesMost};
 ghost use Rattle.field_table.specs.Lines.{setLen};
 ghost use Rattle.field_set.specs.Lawful.{countIn};
-ghost use Rattle.effective.specs.Sizes.{lastSize, sizeBy, Sized};
+ghost use Rattle.effective.specs.Sizes.{lastSize, listedSizes, sizeBy, Sized};
 use field_table::lines;
 use track::Track;
 
@@ -46,15 +46,27 @@ pub fn last_size(t: Track, w: &[u64], payload: u64) -> u64
     t.size as u64
 }
 
-// The size of the sample with the number i.
-pub fn size_at(w: &[u64], last: u64, i: usize) -> u64
-    requires { ⌜ (length (now w) ≡ setLen) × (i < samplesMost) ⌝ }
-    ensures { λ r. ⌜ r ≡ sizeBy (now (w .entry)) last i ⌝ }
+// How many samples have a size of their own among the words: all but the last, where id 1 stands.
+pub fn listed_sizes(w: &[u64]) -> usize
+    requires { ⌜ length (now w) ≡ setLen ⌝ }
+    ensures { λ r. ⌜ r ≡ listedSizes (now (w .entry)) ⌝ }
 {
     if w[lines::SIZES] == 0 {
-        return last;
+        return 0;
     }
-    if i as u64 + 1 < w[lines::COUNT] {
+    if w[lines::COUNT] == 0 {
+        return 0;
+    }
+    w[lines::COUNT] as usize - 1
+}
+
+// The size of the sample with the number i, where the first `listed` of them have one of their own.
+pub fn size_at(w: &[u64], listed: usize, last: u64, i: usize) -> u64
+    requires { ⌜ (length (now w) ≡ setLen) × (i < samplesMost) ⌝ }
+    requires { ⌜ listed ≡ listedSizes (now w) ⌝ }
+    ensures { λ r. ⌜ r ≡ sizeBy (now (w .entry)) last i ⌝ }
+{
+    if i < listed {
         return w[lines::SIZES + 1 + i];
     }
     last

@@ -6,19 +6,19 @@ use Rattle.cmaf_read_rules.proofs.protection.pairs_sum.Statement.{state
 use Rattle.cmaf_read_rules.proofs.protection.pairs_sum.Tie as tie
 
 abbrev Inv-loop : tie.InvT-loop
-Inv-loop c at k sum₀ i₀ sum i = Adding c at k sum i
+Inv-loop c at k sum₀ p₀ end sum p = Adding c at k sum p
 
 abbrev μ-loop : tie.MeasureT-loop
-μ-loop c at k sum₀ i₀ sum i = k - i
+μ-loop c at k sum₀ p₀ end sum p = end - p
+
+mul-end : tie.Need-mul-end Inv-loop μ-loop
+mul-end c = search needs
+
+add-end : tie.Need-add-end Inv-loop μ-loop
+add-end c = search needs
 
 loop-holds : tie.Need-loop-holds Inv-loop μ-loop
 loop-holds c = adding-start _ _ _
-
-mul-p : tie.Need-mul-p Inv-loop μ-loop
-mul-p c = search needs
-
-add-p : tie.Need-add-p Inv-loop μ-loop
-add-p c = search needs
 
 u16-at-requires : tie.Need-u16-at-requires Inv-loop μ-loop
 u16-at-requires c κs = search needs
@@ -35,8 +35,8 @@ add-sum c = search needs
 add-sum-2 : tie.Need-add-sum-2 Inv-loop μ-loop
 add-sum-2 c = search needs
 
-add-i : tie.Need-add-i Inv-loop μ-loop
-add-i c = search needs
+add-p : tie.Need-add-p Inv-loop μ-loop
+add-p c = search needs
 
 loop-less : tie.Need-loop-less Inv-loop μ-loop
 loop-less c = search needs
@@ -56,15 +56,15 @@ pairs-sum-spec =
     (tie.spec
     Inv-loop
     μ-loop
+    mul-end
+    add-end
     loop-holds
-    mul-p
-    add-p
     u16-at-requires
     add-u32-at
     u32-at-requires
     add-sum
     add-sum-2
-    add-i
+    add-p
     loop-less
     loop-again
     returns)

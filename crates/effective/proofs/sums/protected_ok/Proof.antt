@@ -9,10 +9,10 @@ use Rattle.effective.proofs.sums.protected_ok.Statement.{statement}
 use Rattle.effective.proofs.sums.protected_ok.Tie as tie
 
 abbrev Inv-loop : tie.InvT-loop
-Inv-loop w payload n last ok₀ j₀ i₀ ok j i = Matching w n last ok j i
+Inv-loop w payload n last listed ok₀ j₀ i₀ ok j i = Matching w n last ok j i
 
 abbrev μ-loop : tie.MeasureT-loop
-μ-loop w payload n last ok₀ j₀ i₀ ok j i = n - i
+μ-loop w payload n last listed ok₀ j₀ i₀ ok j i = n - i
 
 shared-slice-read-if1 : tie.Need-shared-slice-read-if1 Inv-loop μ-loop
 shared-slice-read-if1 c = search needs
@@ -29,8 +29,11 @@ last-size-requires c κs =
     let s = c .before .before .before .before .pre in
     ((s .0 .words, s .0 .few), sizes-sized _ _ _ (s .1 .1) (s .1 .0))
 
+listed-sizes-requires : tie.Need-listed-sizes-requires Inv-loop μ-loop
+listed-sizes-requires c κs = c .before .before .before .before .before .pre .0 .words
+
 loop-holds : tie.Need-loop-holds Inv-loop μ-loop
-loop-holds c = match-start (c .before .before .before .before .before .pre .0) _
+loop-holds c = match-start (c .before .before .before .before .before .before .pre .0) _
 
 add-k : tie.Need-add-k Inv-loop μ-loop
 add-k c = search needs
@@ -47,8 +50,8 @@ shared-slice-read-k c = search needs
 pair-bytes-requires : tie.Need-pair-bytes-requires Inv-loop μ-loop
 unfolding lines lineFor
 pair-bytes-requires c κs =
-    let s = c .before .before .before .before .before .before .before .before .pre .0 in
-    (s, match-fits s _ (has-yes 11 _ (c .before .before .before .before .before .if1 .left)) _ _ _ (c .before .before .loop .inv) (c .before .loop-test .taken))
+    let s = c .before .before .before .before .before .before .before .before .before .pre .0 in
+    (s, match-fits s _ (has-yes 11 _ (c .before .before .before .before .before .before .if1 .left)) _ _ _ (c .before .before .loop .inv) (c .before .loop-test .taken))
 
 size-at-requires : tie.Need-size-at-requires Inv-loop μ-loop
 size-at-requires c κs = search needs
@@ -56,8 +59,8 @@ size-at-requires c κs = search needs
 add-j : tie.Need-add-j Inv-loop μ-loop
 unfolding lines lineFor
 add-j c =
-    let s = c .before .before .before .before .before .before .before .before .before .before .pre .0 in
-    omega (arith, match-fits s _ (has-yes 11 _ (c .before .before .before .before .before .before .before .if1 .left)) _ _ _ (c .before .before .before .before .loop .inv) (c .before .before .before .loop-test .taken))
+    let s = c .before .before .before .before .before .before .before .before .before .before .before .pre .0 in
+    omega (arith, match-fits s _ (has-yes 11 _ (c .before .before .before .before .before .before .before .before .if1 .left)) _ _ _ (c .before .before .before .before .loop .inv) (c .before .before .before .loop-test .taken))
 
 add-i : tie.Need-add-i Inv-loop μ-loop
 add-i c = search needs
@@ -68,14 +71,14 @@ loop-less c = search needs
 loop-again : tie.Need-loop-again Inv-loop μ-loop
 unfolding lines lineFor
 loop-again c =
-    let s = c .before .before .before .before .before .before .before .before .before .before .pre .0 in
-    match-next s _ (has-yes 11 _ (c .before .before .before .before .before .before .before .if1 .left)) _ _ _ (c .before .before .before .before .loop .inv) (c .before .before .before .loop-test .taken)
+    let s = c .before .before .before .before .before .before .before .before .before .before .before .pre .0 in
+    match-next s _ (has-yes 11 _ (c .before .before .before .before .before .before .before .before .if1 .left)) _ _ _ (c .before .before .before .before .loop .inv) (c .before .before .before .loop-test .taken)
     _ (c .before .pair-bytes .ensures .0) _ (c .size-at .ensures)
 
 returns-2 : tie.Need-returns-2 Inv-loop μ-loop
 unfolding lines lineFor
 returns-2 c =
-    match-end _ _ _ (has-yes 11 _ (c .before .before .before .before .if1 .left)) _ (c .before .before .last-size .ensures) _ _ _ (c .before .loop .inv) (c .loop-test .left)
+    match-end _ _ _ (has-yes 11 _ (c .before .before .before .before .before .if1 .left)) _ (c .before .before .before .last-size .ensures) _ _ _ (c .before .loop .inv) (c .loop-test .left)
 
 pub protected-ok-spec : {M : Type 1} → statement M
 protected-ok-spec =
@@ -87,6 +90,7 @@ protected-ok-spec =
     returns
     shared-slice-read-n
     last-size-requires
+    listed-sizes-requires
     loop-holds
     add-k
     add-k-2
