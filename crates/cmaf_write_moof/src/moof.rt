@@ -183,8 +183,8 @@ fn put_rows(t: Track, w: &[u64], payload: u64, out: &mut [u8], at: usize) -> usi
         (now (out .exit)) r ⌝ }
 {
     let n = w[lines::COUNT] as usize;
-    let last = effective::sizes::last_size(t, w, payload);
     let listed = effective::sizes::listed_sizes(w);
+    let last = effective::sizes::last_size(t, w, payload);
     let mut p = at;
     let mut i = 0;
     while i < n {

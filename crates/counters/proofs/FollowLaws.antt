@@ -6,13 +6,13 @@ use native.Mathlib.Omega.{arith}
 use mathlib.Core.Path.{_≡_, refl, sym, _∙_, ap, ap₂}
 use mathlib.Core.Bool.{Bool, true, false, false≢true, not, _&&_, _||_}
 use mathlib.Core.List.{List, [], _∷_}
-use borrow.Author.Tests.{eqb-true, ltb-true, ltb-false}
-use lib.Dec.{eqb, ltb}
+use borrow.Author.Tests.{eqb-true}
+use lib.Dec.{eqb}
 use lib.ListN.{length, getD}
 use lib.Seq.{slice}
-use Rattle.laws.specs.Tests.{_and_, same}
+use Rattle.laws.specs.Tests.{same}
 use Rattle.laws.proofs.SliceLaws.{take-slice, drop-slice}
-use Rattle.laws.proofs.TestLaws.{and-left, and-right, and-true, and-false, neither}
+use Rattle.laws.proofs.TestLaws.{and-true, and-false, neither}
 use Rattle.track.specs.declared.Track.{Track}
 use Rattle.field_table.specs.Lines.{lines, lineFor, ivsAt}
 use Rattle.field_set.specs.Lawful.{has, countIn}
@@ -21,7 +21,7 @@ use Rattle.counters.specs.declared.follow.Walk.{Walk}
 use Rattle.counters.specs.Counter.{blocks, following, counterOf, countersOf, counterAt, Counts}
 use Rattle.counters.specs.Follow.{ivWords, countersIn, derived, ivsFollow, Passed, allFollow}
 use Rattle.counters.proofs.CounterLaws.{iv-room}
-use Rattle.counters.proofs.WalkLaws.{Walked, bytesLeft, follow-next, follow-end}
+use Rattle.counters.proofs.WalkLaws.{Walked, bytesLeft, follow-head, follow-next, follow-end}
 
 -- ---- the counters that stand
 
@@ -49,70 +49,60 @@ unfolding countersOf
 standing-end k x i le = let z : countIn x - i ≡ 0 = omega arith in rw z
 
 -- nothing is the same as nothing
-none : true ≡ (true and same [] [])
-unfolding same _and_
+none : true ≡ same [] []
+unfolding same
 none = refl
 
 -- ---- the walk
 
--- those before the sample i were found the same or not, and what is left to be compared, from the counter n on
-pub record Following (t : Track) (k n last : ℕ) (x : List ℕ) (v : Walk) (ok : Bool) (i : ℕ) : Type 0 where
+-- those before the sample i are the same, and what is left to be compared tells all, from the counter n on
+pub record Following (t : Track) (k n last : ℕ) (x : List ℕ) (v : Walk) (i : ℕ) : Type 0 where
   pub number : ℕ
   pub counts : Counts k number (v .c)
-  pub rest : (payload : ℕ) → (ok and same (following number (v .bytes) (bytesLeft t x payload i (v .j))) (standing k x i)) ≡ allFollow t k n last x payload
+  pub rest : (payload : ℕ) → same (following number (v .bytes) (bytesLeft t x payload i (v .j))) (standing k x i) ≡ allFollow t k n last x payload
 
 module _ (t : Track) {k : ℕ} {x : List ℕ} (s : Walked k x) (n last : ℕ) where
-  pub follow-start : (c : Counter) → Counts k n c → Following t k n last x (record { c = c; bytes = last; j = 0 }) true 0
-  unfolding _and_
+  pub follow-start : (c : Counter) → Counts k n c → Following t k n last x (record { c = c; bytes = last; j = 0 }) 0
   follow-start c h =
       let z : countIn x - 0 ≡ countIn x = omega arith in
       let y : ivsAt + 1 + 0 * k ≡ ivsAt + 1 = omega arith in
       record { number = n; counts = h; rest = λ payload. rw (z, y) }
 
-  module _ (v : Walk) (ok : Bool) (i : ℕ) (h : Following t k n last x v ok i) where
-    -- the walk goes on while they are the same
-    pub follow-more : ok ≡ true → i < countIn x → (b : Bool) → b ≡ eqb (h .number + blocks (v .bytes)) (counterAt k i x)
-        → (e : Counter) → Counts k (counterAt k i x) e → (w : Walk) → Passed t x e i (v .j) w → Following t k n last x w b (i + 1)
-    unfolding same
-    follow-more go lt b test e he w p =
-        record {
-          number = now;
-          counts = rw (p .own) he;
-          rest = λ payload.
-              left-is payload (eqb to now) refl
-              ∙ (rw (go, follow-next t x payload (h .number) (v .bytes) (v .j) i e w lt p, standing-next k x i lt long) at (h .rest payload));
-        }
-      where
-        to : ℕ
-        to = h .number + blocks (v .bytes)
+  module _ (v : Walk) (i : ℕ) (h : Following t k n last x v i) where
+    module _ (lt : i < countIn x) (b : Bool) (test : b ≡ eqb (h .number + blocks (v .bytes)) (counterAt k i x)) where
+      abbrev to : ℕ
+      to = h .number + blocks (v .bytes)
 
-        now : ℕ
-        now = counterAt k i x
+      abbrev now : ℕ
+      now = counterAt k i x
 
-        long : ivsAt + 1 + countIn x * k ≤ length x
-        long = omega (arith, iv-room k (countIn x) (s .words) (s .sums .few), s .sums .words)
+      long : ivsAt + 1 + countIn x * k ≤ length x
+      long = omega (arith, iv-room k (countIn x) (s .words) (s .sums .few), s .sums .words)
 
-        left-is : (payload : ℕ) (o : Bool) → eqb to now ≡ o
-            → (b and same (following now (w .bytes) (bytesLeft t x payload (i + 1) (w .j))) (standing k x (i + 1)))
-            ≡ (true and (eqb to now and same (following to (w .bytes) (bytesLeft t x payload (i + 1) (w .j))) (standing k x (i + 1))))
-        left-is payload true q =
-            ap₂ (λ (a : Bool) (m : ℕ). a and same (following m (w .bytes) (bytesLeft t x payload (i + 1) (w .j))) (standing k x (i + 1))) test (sym (eqb-true to now q))
-            ∙ sym (and-true _ refl)
-        left-is payload false q = and-false _ (test ∙ q) ∙ sym (and-true _ refl ∙ and-false _ q)
+      -- the one that stands next is another
+      pub follow-other : b ≡ false → (payload : ℕ) → false ≡ allFollow t k n last x payload
+      unfolding same
+      follow-other q payload =
+          sym (and-false _ (sym test ∙ q))
+          ∙ (rw (follow-head t x payload (h .number) (v .bytes) (v .j) i lt, standing-next k x i lt long) at (h .rest payload))
 
-    -- its end
-    pub follow-end-is : (ok && ltb i (countIn x)) ≡ false → (payload : ℕ) → ok ≡ allFollow t k n last x payload
-    follow-end-is q payload = by ok refl
-      where
-        by : (o : Bool) → ok ≡ o → ok ≡ allFollow t k n last x payload
-        by true e =
-            let le : countIn x ≤ i = ltb-false i (countIn x) (rw e at q) in
-            e ∙ none ∙ (rw (e, follow-end t x payload (h .number) (v .bytes) (v .j) i le, standing-end k x i le) at (h .rest payload))
-        by false e = e ∙ sym (and-false _ e) ∙ h .rest payload
+      -- it is the same, and its sample is passed
+      pub follow-more : b ≡ true → (e : Counter) → Counts k now e → (w : Walk) → Passed t x e i (v .j) w → Following t k n last x w (i + 1)
+      unfolding same
+      follow-more q e he w p =
+          let is : eqb to now ≡ true = sym test ∙ q in
+          record {
+            number = now;
+            counts = rw (p .own) he;
+            rest = λ payload.
+                ap (λ (m : ℕ). same (following m (w .bytes) (bytesLeft t x payload (i + 1) (w .j))) (standing k x (i + 1))) (sym (eqb-true to now is))
+                ∙ sym (and-true _ is)
+                ∙ (rw (follow-next t x payload (h .number) (v .bytes) (v .j) i e w lt p, standing-next k x i lt long) at (h .rest payload));
+          }
 
--- what its test says
-pub goes-on : (ok : Bool) (i n : ℕ) → (ok && ltb i n) ≡ true → (ok ≡ true) × (i < n)
-goes-on ok i n h = (and-left ok (ltb i n) h, ltb-true i n (and-right ok (ltb i n) h))
+    -- all are
+    pub follow-end-is : countIn x ≤ i → (payload : ℕ) → true ≡ allFollow t k n last x payload
+    follow-end-is le payload = none ∙ (rw (follow-end t x payload (h .number) (v .bytes) (v .j) i le, standing-end k x i le) at (h .rest payload))
 
 -- the walk isn't begun where no IVs stand
 pub follow-none : (t : Track) (last : ℕ) (r x : List ℕ) (payload : ℕ) → (eqb (getD r ivsAt 0) 0 || eqb (getD x ivsAt 0) 0) ≡ true → false ≡ ivsFollow t last r x payload

@@ -123,16 +123,21 @@ abbrev pub bytesLeft : Track → List ℕ → ℕ → ℕ → ℕ → List ℕ
 bytesLeft t x payload i j = protectedFrom t x payload (countIn x - i) i j
 
 -- the counter of the sample i, and those behind it
+pub follow-head : (t : Track) (x : List ℕ) (payload n bytes j i : ℕ) → i < countIn x
+    → following n bytes (bytesLeft t x payload i j)
+    ≡ (n + blocks bytes) ∷ following (n + blocks bytes) (protectedOf t x payload i j) (bytesLeft t x payload (i + 1) (j + valueAt 11 i x))
+unfolding following protectedFrom
+follow-head t x payload n bytes j i lt = let m : countIn x - i ≡ suc (countIn x - suc i) = omega arith in rw (m, add-one i)
+
+-- by where the walk stands behind it
 pub follow-next : (t : Track) (x : List ℕ) (payload n bytes j i : ℕ) (c : Counter) (w : Walk) → i < countIn x → Passed t x c i j w
     → following n bytes (bytesLeft t x payload i j) ≡ (n + blocks bytes) ∷ following (n + blocks bytes) (w .bytes) (bytesLeft t x payload (i + 1) (w .j))
 unfolding following protectedFrom
-follow-next t x payload n bytes j i c w lt p =
-    let m : countIn x - i ≡ suc (countIn x - suc i) = omega arith in
-    rw (m, add-one i) (ap (λ (l : List ℕ). (n + blocks bytes) ∷ l) rest)
+follow-next t x payload n bytes j i c w lt p = follow-head t x payload n bytes j i lt ∙ ap (λ (l : List ℕ). (n + blocks bytes) ∷ l) rest
   where
-    rest : following (n + blocks bytes) (protectedOf t x payload i j) (protectedFrom t x payload (countIn x - suc i) (suc i) (j + valueAt 11 i x))
-        ≡ following (n + blocks bytes) (w .bytes) (protectedFrom t x payload (countIn x - suc i) (suc i) (w .j))
-    rest = ⊎-elim (λ q. rw (q .1 payload, q .2)) (λ q. let z : countIn x - suc i ≡ 0 = omega (arith, q .0) in rw z) (p .on)
+    rest : following (n + blocks bytes) (protectedOf t x payload i j) (bytesLeft t x payload (i + 1) (j + valueAt 11 i x))
+        ≡ following (n + blocks bytes) (w .bytes) (bytesLeft t x payload (i + 1) (w .j))
+    rest = ⊎-elim (λ q. rw (q .1 payload, q .2)) (λ q. let z : countIn x - (i + 1) ≡ 0 = omega (arith, q .0) in rw z) (p .on)
 
 -- none is left
 pub follow-end : (t : Track) (x : List ℕ) (payload n bytes j i : ℕ) → countIn x ≤ i → following n bytes (bytesLeft t x payload i j) ≡ []

@@ -52,15 +52,16 @@ fn all_follow(t: Track, k: usize, c: Counter, last: u64, x: &[u64]) -> bool
         bytes: last,
         j: 0,
     };
-    let mut same = true;
     let mut i = 0;
-    while same & (i < n) {
+    while i < n {
         let d = counter::counter_at(x, k, i);
-        same = counter::comes(top, v.c, v.bytes, d);
+        if !counter::comes(top, v.c, v.bytes, d) {
+            return false;
+        }
         v = past(t, x, d, i, v.j);
         i += 1;
     }
-    same
+    true
 }
 
 // Whether the IVs of the new set are those.

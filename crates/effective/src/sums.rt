@@ -42,8 +42,8 @@ pub fn protected_ok(t: Track, w: &[u64], payload: u64) -> bool
         return true;
     }
     let n = w[lines::COUNT] as usize;
-    let last = crate::sizes::last_size(t, w, payload);
     let listed = crate::sizes::listed_sizes(w);
+    let last = crate::sizes::last_size(t, w, payload);
     let mut ok = true;
     let mut j = 0;
     let mut i = 0;

@@ -16,6 +16,7 @@ ghost use Rattle.encoder.specs.Planned.{Encodable, ReadOfOne, OfEach, fr
 use crate::properties;
 use cmaf_read_chunk::read::Chunk;
 use constants::ids;
+use field_table::lines;
 use prft_value::Prft;
 use share_words::share;
 use track::Track;
@@ -43,6 +44,9 @@ pub fn follows(t: Track, wish: bool, s: &[u64], x: &[u64]) -> bool
     ensures { λ f. ⌜ (wish ≡ true → Leaves t true (now (s .entry)) (now (x .entry)) f) ⌝ }
 {
     if !wish {
+        return false;
+    }
+    if x[lines::IVS] == 0 {
         return false;
     }
     counters::follow::ivs_follow(t, s[share::LAST], &s[share::SET..], x)

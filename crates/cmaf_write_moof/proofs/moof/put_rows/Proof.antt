@@ -13,38 +13,38 @@ use Rattle.cmaf_write_moof.proofs.moof.put_rows.Statement.{statement}
 use Rattle.cmaf_write_moof.proofs.moof.put_rows.Tie as tie
 
 abbrev Inv-loop : tie.InvT-loop
-Inv-loop w payload out₀ at n last listed p₀ i₀ out p i = (i ≤ n) × Left out₀ at (rowsBy w last n 0) out p (rowsBy w last (n - i) i)
+Inv-loop w payload out₀ at n listed last p₀ i₀ out p i = (i ≤ n) × Left out₀ at (rowsBy w last n 0) out p (rowsBy w last (n - i) i)
 
 abbrev μ-loop : tie.MeasureT-loop
-μ-loop w payload out₀ at n last listed p₀ i₀ out p i = n - i
+μ-loop w payload out₀ at n listed last p₀ i₀ out p i = n - i
 
 shared-slice-read-n : tie.Need-shared-slice-read-n Inv-loop μ-loop
 shared-slice-read-n c = search needs
 
-last-size-requires : tie.Need-last-size-requires Inv-loop μ-loop
-last-size-requires c κs = (c .before .before .before .pre .0, c .before .before .before .pre .1 .0)
-
 listed-sizes-requires : tie.Need-listed-sizes-requires Inv-loop μ-loop
-listed-sizes-requires c κs = c .before .before .before .before .pre .0 .0
+listed-sizes-requires c κs = c .before .before .before .pre .0 .0
+
+last-size-requires : tie.Need-last-size-requires Inv-loop μ-loop
+last-size-requires c κs = let p = c .before .before .before .before .pre in (p .0, p .1 .0)
 
 loop-holds : tie.Need-loop-holds Inv-loop μ-loop
 loop-holds c =
     let b = c .before .before .before .before .before in
     let a = b .args in
-    let e = rows-by (a .t) (a .w .now) (a .payload) (c .before .last-size .result) (c .before .last-size .ensures) (countIn (a .w .now)) 0 in
+    let e = rows-by (a .t) (a .w .now) (a .payload) (c .last-size .result) (c .last-size .ensures) (countIn (a .w .now)) 0 in
     (omega arith, rw sub-zero (left-all _ _ _ (rw e (b .pre .1 .1))))
 
 size-at-requires : tie.Need-size-at-requires Inv-loop μ-loop
 size-at-requires c κs =
-    let b = c .before .before in
-    let h = b .before .before .before .before .before .pre .0 in
+    let b = c .before .before .before in
+    let h = b .before .before .before .before .pre .0 in
     ((h .0, omega (arith, h .1)), b .listed-sizes .ensures)
 
 put-row-requires : tie.Need-put-row-requires Inv-loop μ-loop
 put-row-requires c κs =
     let b₁ = c .before .before .before in
-    let b₂ = b₁ .before .before in
-    let b₃ = b₂ .before .before .before .before in
+    let b₂ = b₁ .before in
+    let b₃ = b₂ .before .before .before .before .before in
     let w = b₃ .args .w .now in
     let l = b₁ .loop in
     let e = rows-next w (b₂ .last-size .result) (countIn w) (l .i) (c .before .size-at .result) (c .before .before .loop-test .taken) (c .before .size-at .ensures) in
@@ -61,8 +61,8 @@ loop-again c =
     let b₁ = c .before .before .before .before in
     let b₂ = b₁ .before in
     let b₃ = b₂ .before in
-    let b₄ = b₃ .before .before in
-    let b₅ = b₄ .before .before .before .before in
+    let b₄ = b₃ .before in
+    let b₅ = b₄ .before .before .before .before .before in
     let w = b₅ .args .w .now in
     let l = b₃ .loop in
     let e = rows-next w (b₄ .last-size .result) (countIn w) (l .i) (b₁ .size-at .result) (b₂ .loop-test .taken) (b₁ .size-at .ensures) in
@@ -73,8 +73,8 @@ same-length c = left-same (c .before .loop .inv .1)
 
 returns : tie.Need-returns Inv-loop μ-loop
 returns c =
-    let b = c .before .before .before in
-    let a = b .before .before .before .before .args in
+    let b = c .before .before in
+    let a = b .before .before .before .before .before .args in
     let w = a .w .now in
     let l = c .before .loop in
     let e = rows-by (a .t) w (a .payload) (b .last-size .result) (b .last-size .ensures) (countIn w) 0 in
@@ -87,8 +87,8 @@ put-rows-spec =
     Inv-loop
     μ-loop
     shared-slice-read-n
-    last-size-requires
     listed-sizes-requires
+    last-size-requires
     loop-holds
     size-at-requires
     put-row-requires

@@ -9,10 +9,10 @@ use Rattle.effective.proofs.sums.protected_ok.Statement.{statement}
 use Rattle.effective.proofs.sums.protected_ok.Tie as tie
 
 abbrev Inv-loop : tie.InvT-loop
-Inv-loop w payload n last listed ok₀ j₀ i₀ ok j i = Matching w n last ok j i
+Inv-loop w payload n listed last ok₀ j₀ i₀ ok j i = Matching w n last ok j i
 
 abbrev μ-loop : tie.MeasureT-loop
-μ-loop w payload n last listed ok₀ j₀ i₀ ok j i = n - i
+μ-loop w payload n listed last ok₀ j₀ i₀ ok j i = n - i
 
 shared-slice-read-if1 : tie.Need-shared-slice-read-if1 Inv-loop μ-loop
 shared-slice-read-if1 c = search needs
@@ -24,13 +24,13 @@ returns c = match-none _ _ _ (has-no 11 _ (c .if1 .taken))
 shared-slice-read-n : tie.Need-shared-slice-read-n Inv-loop μ-loop
 shared-slice-read-n c = search needs
 
+listed-sizes-requires : tie.Need-listed-sizes-requires Inv-loop μ-loop
+listed-sizes-requires c κs = c .before .before .before .before .pre .0 .words
+
 last-size-requires : tie.Need-last-size-requires Inv-loop μ-loop
 last-size-requires c κs =
-    let s = c .before .before .before .before .pre in
+    let s = c .before .before .before .before .before .pre in
     ((s .0 .words, s .0 .few), sizes-sized _ _ _ (s .1 .1) (s .1 .0))
-
-listed-sizes-requires : tie.Need-listed-sizes-requires Inv-loop μ-loop
-listed-sizes-requires c κs = c .before .before .before .before .before .pre .0 .words
 
 loop-holds : tie.Need-loop-holds Inv-loop μ-loop
 loop-holds c = match-start (c .before .before .before .before .before .before .pre .0) _
@@ -78,7 +78,7 @@ loop-again c =
 returns-2 : tie.Need-returns-2 Inv-loop μ-loop
 unfolding lines lineFor
 returns-2 c =
-    match-end _ _ _ (has-yes 11 _ (c .before .before .before .before .before .if1 .left)) _ (c .before .before .before .last-size .ensures) _ _ _ (c .before .loop .inv) (c .loop-test .left)
+    match-end _ _ _ (has-yes 11 _ (c .before .before .before .before .before .if1 .left)) _ (c .before .before .last-size .ensures) _ _ _ (c .before .loop .inv) (c .loop-test .left)
 
 pub protected-ok-spec : {M : Type 1} → statement M
 protected-ok-spec =
@@ -89,8 +89,8 @@ protected-ok-spec =
     shared-slice-read-if1
     returns
     shared-slice-read-n
-    last-size-requires
     listed-sizes-requires
+    last-size-requires
     loop-holds
     add-k
     add-k-2

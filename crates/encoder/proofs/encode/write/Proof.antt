@@ -5,7 +5,7 @@ use Rattle.field_set.proofs.TidyLaws.{lawful-tidy}
 use Rattle.slots.specs.declared.lawful.Side.the-variants.{Encoder}
 use Rattle.told_sizes.proofs.SumLaws.{lawful-summable}
 use Rattle.effective.proofs.DurationLaws.{lawful-timed}
-use Rattle.reference.proofs.OpenLaws.{share-tidy}
+use Rattle.reference.proofs.OpenLaws.{opened-facts, share-tidy}
 use Rattle.reference.proofs.AcceptedLaws.{renewable, all-kept}
 use borrow.Author.Needs.{needs}
 use Rattle.encoder.proofs.encode.write.Statement.{statement}
@@ -30,7 +30,8 @@ renew-requires c κs =
     let b = c .before .before .before .before .before .before .before .before .before .before .before .before .before .before .before .before .before .before .before in
     let e = b .pre .0 in
     let q = c .before .before .before .keep .ensures in
-    renewable (now (b .args .s)) (e .on-share .share) _ _ _ (now (b .args .x)) _ _ q (e .set-long) (lawful-timed _ _ (e .set-long) (e .lawful-set)) (lawful-summable _ _ (e .set-long) (e .lawful-set)) (e .sized) _ (e .lawful-set)
+    renewable (now (b .args .s)) (e .on-share .share) _ _ _ (now (b .args .x)) _ _ q (e .set-long) (lawful-timed _ _ (e .set-long) (e .lawful-set)) (lawful-summable _ _ (e .set-long) (e .lawful-set)) (e .sized)
+    (opened-facts Encoder _ (e .on-share .lawful-share) (e .on-share .opened) .track) _ (e .on-share .track-is) (e .lawful-set)
 
 same-length : tie.Need-same-length
 same-length c = search needs
@@ -46,7 +47,7 @@ returns c =
     record {
       answer = refl;
       written = d .before .before .before .before .before .before .before .put-front .ensures;
-      kept = all-kept (now (b .args .s)) (a .share) _ _ _ (now (b .args .x)) _ _ (d .keep .ensures) _ (a .track-is) _ (c .before .before .renew .ensures);
+      kept = all-kept (now (b .args .s)) (a .share) _ _ _ (now (b .args .x)) _ _ (d .keep .ensures) _ (c .before .before .renew .ensures);
     }
 
 pub write-spec : {M : Type 1} → statement M

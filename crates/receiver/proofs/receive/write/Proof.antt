@@ -4,7 +4,7 @@ use Rattle.field_set.proofs.TidyLaws.{lawful-tidy}
 use Rattle.slots.specs.declared.lawful.Side.the-variants.{Receiver}
 use Rattle.told_sizes.proofs.SumLaws.{lawful-summable}
 use Rattle.effective.proofs.DurationLaws.{lawful-timed}
-use Rattle.reference.proofs.OpenLaws.{share-tidy}
+use Rattle.reference.proofs.OpenLaws.{opened-facts, share-tidy}
 use Rattle.reference.proofs.AcceptedLaws.{renewable, all-kept}
 use Rattle.receiver.proofs.JudgeLaws.{end-inside}
 use Rattle.receiver.proofs.AcceptLaws.{count-small, sequence-is, set-good, writable, need-is, done-is}
@@ -46,7 +46,7 @@ renew-requires c κs =
     let l = r .writable .set .long in
     let g = set-good _ _ _ _ _ h _ _ _ r in
     renewable (now (b .args .s)) (h .share) _ _ _ (now (b .args .x)) _ _ (c .before .before .before .keep .ensures) l (lawful-timed _ _ l g) (lawful-summable _ _ l g)
-    (writable _ _ _ _ _ h _ _ _ r (v .named) .sized) (b .args .t) g
+    (writable _ _ _ _ _ h _ _ _ r (v .named) .sized) (opened-facts Receiver _ (h .lawful) (h .opened) .track) _ (h .track) g
 
 same-length : tie.Need-same-length
 same-length c = search needs
@@ -62,7 +62,7 @@ returns c =
     λ F v.
     let h = v .acceptable .head in
     done-is _ _ _ _ _ h _ _ _ (v .acceptable .ready) (v .named) (now (a .output)) _ _ _ _ (sequence-is _ _ _ _ _ h) (w .put-front .ensures)
-    (all-kept (now (a .s)) (h .share) _ _ _ (now (a .x)) _ _ (d .keep .ensures) _ (h .track) _ (c .before .before .renew .ensures))
+    (all-kept (now (a .s)) (h .share) _ _ _ (now (a .x)) _ _ (d .keep .ensures) _ (c .before .before .renew .ensures))
 
 pub write-spec : {M : Type 1} → statement M
 write-spec =
