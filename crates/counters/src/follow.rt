@@ -40,7 +40,7 @@ fn past(t: Track, x: &[u64], c: Counter, i: usize, j: usize) -> Walk
     Walk { c, bytes: 0, j }
 }
 
-// Whether the IVs of the new set follow, from the counter c on. The first one that doesn't ends the walk.
+// Whether the IVs of the new set are those that follow from the counter c. The first one that isn't ends the walk.
 fn all_follow(t: Track, k: usize, c: Counter, last: u64, x: &[u64]) -> bool
     requires { ⌜ (length (now x) ≡ setLen) × (lawful t (now x) ≡ true) × ((k ≡ 1) ⊎ (k ≡ 2)) × (last ≤ 2 ^ 48) ⌝ }
     ensures { λ b. ⌜ ((n payload : ℕ) → Counts k n c → b ≡ allFollow t k n last (now (x .entry)) payload) ⌝ }
@@ -64,7 +64,7 @@ fn all_follow(t: Track, k: usize, c: Counter, last: u64, x: &[u64]) -> bool
     true
 }
 
-// Whether the IVs of the new set are those.
+// Whether they follow from the reference's last one.
 pub fn ivs_follow(t: Track, last: u64, r: &[u64], x: &[u64]) -> bool
     requires { ⌜ Behind t last (now r) (now x) ⌝ }
     ensures { λ b. ⌜ ((payload : ℕ) → b ≡ ivsFollow t last (now (r .entry)) (now (x .entry)) payload) ⌝ }
@@ -82,7 +82,7 @@ pub fn ivs_follow(t: Track, last: u64, r: &[u64], x: &[u64]) -> bool
     )
 }
 
-// The IVs that follow from the counter c on are put into the room that the new set has for them. The last one tells whether one passes its size.
+// The IVs that follow from the counter c are put into the room that the new set has for them. The last one tells whether any passes its size.
 fn put_all(t: Track, k: usize, c: Counter, last: u64, x: &mut [u64]) -> bool
     requires { ⌜ (length (now x) ≡ setLen) × (lawful t (now x) ≡ true) × ((k ≡ 1) ⊎ (k ≡ 2)) × (last ≤ 2 ^ 48) ⌝ }
     ensures { λ ok. ⌜ ((n payload : ℕ) → Counts k n c → c .ok ≡ true → AllPut t k n last (now (x .entry)) payload ok (now (x .exit))) ⌝ }
@@ -104,7 +104,7 @@ fn put_all(t: Track, k: usize, c: Counter, last: u64, x: &mut [u64]) -> bool
     v.c.ok
 }
 
-// They are put into the room that the new set has for them, unless one passes its size.
+// Those that follow from the reference's last one are put there, unless one passes its size.
 pub fn derive(t: Track, last: u64, r: &[u64], x: &mut [u64]) -> bool
     requires { ⌜ Behind t last (now r) (now x) ⌝ }
     requires { ⌜ (has 9 (now r) ≡ true) × (has 9 (now x) ≡ true) ⌝ }

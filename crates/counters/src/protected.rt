@@ -1,14 +1,14 @@
 // The protected bytes of a sample: all of it, or those that its subsamples have.
 // Letters: `t` the track, `w` the words of a set, `i` which sample, counted from 0, `j` the number of a subsample.
 ghost use mathlib.Core.Path.{_≡_};
-ghost use mathlib.Core.Bool.{true, false};
+ghost use mathlib.Core.Bool.{true};
 ghost use Prim.Native.Nat.{ℕ, _+_, _^_, _≤_, _<_};
 ghost use Rattle.laws.specs.Tests.{sum};
 ghost use Rattle.constants.specs.Maxima.{subsamplesMost};
 ghost use Rattle.field_set.specs.Lawful.{has, valueAt, valuesOf, countIn, lawful};
 ghost use Rattle.told_sizes.specs.Sums.{Summable};
 ghost use Rattle.effective.specs.Sizes.{sizeOf, Sized};
-ghost use Rattle.counters.specs.Protected.{protectedOf, lastPairs, lastBytes, lastProtected, lastFits};
+ghost use Rattle.counters.specs.Protected.{protectedOf, lastBytes, lastProtected, lastFits};
 use constants::maxima;
 use field_table::lines;
 use told_sizes::sums::add_up;
@@ -40,7 +40,7 @@ fn told_size(t: Track, w: &[u64], i: usize) -> u64
     t.size as u64
 }
 
-// Those of a sample that isn't the last, the first of whose subsamples has the number j.
+// The protected bytes of a sample that isn't the last, the first of whose subsamples has the number j.
 pub fn protected_of(t: Track, w: &[u64], i: usize, j: usize) -> u64
     requires { ⌜ Summable (now w) × (i + 1 < countIn (now w)) ⌝ }
     requires { ⌜ (has 11 (now w) ≡ true → j + valueAt 11 i (now w) ≤ subsamplesMost) ⌝ }
