@@ -6,7 +6,7 @@ use native.Mathlib.Omega.{arith}
 use mathlib.Core.Path.{_≡_, refl, sym, _∙_, ap, ap₂}
 use mathlib.Core.Bool.{Bool, true, false, false≢true, not, _&&_, _||_}
 use mathlib.Core.List.{List, [], _∷_}
-use borrow.Author.Tests.{eqb-true}
+use borrow.Author.Tests.{eqb-true, eq-eqb}
 use lib.Dec.{eqb}
 use lib.ListN.{length, getD}
 use lib.Seq.{slice}
@@ -113,6 +113,14 @@ follow-none t last r x payload h = by (eqb (getD r ivsAt 0) 0) (eqb (getD x ivsA
     by true b e = refl
     by false true e = refl
     by false false e = absurd (false≢true e)
+
+-- nor where the new set has none
+pub follow-absent : (t : Track) (last : ℕ) (r x : List ℕ) (payload : ℕ) → getD x ivsAt 0 ≡ 0 → false ≡ ivsFollow t last r x payload
+follow-absent t last r x payload h = follow-none t last r x payload (by (eqb (getD r ivsAt 0) 0) (eqb (getD x ivsAt 0) 0) (eq-eqb _ _ h))
+  where
+    by : (a b : Bool) → b ≡ true → (a || b) ≡ true
+    by true b e = refl
+    by false b e = e
 
 -- and is where they do
 pub both-stand : (r x : List ℕ) → (eqb (getD r ivsAt 0) 0 || eqb (getD x ivsAt 0) 0) ≡ false → (has 9 r ≡ true) × (has 9 x ≡ true)
