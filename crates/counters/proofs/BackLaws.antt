@@ -21,7 +21,7 @@ use Rattle.field_table.specs.Lines.{setLen, ivsAt, u64}
 use Rattle.field_set.specs.Lawful.{has, countIn, lawful}
 use Rattle.field_set.proofs.LawfulLaws.{lawful-facts}
 use Rattle.field_set.proofs.RuleLaws.{ruled}
-use Rattle.counters.specs.Counter.{following, counters, counterOf, counterWords, countersOf, allWords}
+use Rattle.iv_counter.specs.Counter.{following, counters, counterOf, counterWords, countersOf, allWords}
 use Rattle.counters.specs.Protected.{protectedFrom}
 use Rattle.counters.specs.Follow.{ivWords, derived, ivsFollow, derivedFit, withDerived}
 use Rattle.counters.proofs.OutsideLaws.{sets-back}

@@ -17,7 +17,7 @@ use Rattle.field_set.specs.Lawful.{has, inUse, valueAt, countIn, valuesOf}
 use Rattle.told_sizes.specs.Sums.{bytesOf, pairBytes, Summable}
 use Rattle.effective.specs.Sizes.{sizeOf}
 use Rattle.effective.specs.Sums.{sizesOk, samplesOk, protectedOk}
-use Rattle.counters.specs.Counter.{following, counterAt}
+use Rattle.iv_counter.specs.Counter.{following, counterAt}
 use Rattle.counters.specs.Protected.{protectedOf, protectedFrom}
 use Rattle.counters.specs.Follow.{ivWords, derived}
 use Rattle.counters.proofs.OutsideLaws.{Outside, word-before, word-behind, take-before, slice-behind, mark-outside}

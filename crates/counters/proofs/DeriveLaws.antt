@@ -19,13 +19,13 @@ use Rattle.track.specs.declared.Track.{Track}
 use Rattle.field_table.specs.Lines.{ivsAt, subsamplesAt}
 use Rattle.field_set.specs.Lawful.{valueAt, countIn}
 use Rattle.told_sizes.specs.Sums.{Summable}
-use Rattle.counters.specs.declared.counter.Counter.{Counter}
+use Rattle.iv_counter.specs.declared.Counter.{Counter}
 use Rattle.counters.specs.declared.follow.Walk.{Walk}
-use Rattle.counters.specs.Counter.{blocks, following, counters, counterWords, allWords, counterAt, Counts}
+use Rattle.iv_counter.specs.Counter.{blocks, following, counters, counterWords, allWords, counterAt, Counts}
 use Rattle.counters.specs.Protected.{protectedOf}
 use Rattle.counters.specs.Follow.{ivWords, derived, derivedFit, withDerived, DerivedAs, Passed, due, AllPut}
 use Rattle.counters.proofs.BesideLaws.{beside-length, beside-count, beside-pairs, beside-summable, beside-protected-of}
-use Rattle.counters.proofs.CounterLaws.{iv-room}
+use Rattle.iv_counter.proofs.CounterLaws.{iv-room}
 use Rattle.counters.proofs.WalkLaws.{Walked, Place, place-fits, bytesLeft, follow-next, follow-end}
 
 -- ---- a set with other words in the room of its IVs

@@ -16,11 +16,11 @@ use Rattle.laws.proofs.TestLaws.{and-true, and-false, neither}
 use Rattle.track.specs.declared.Track.{Track}
 use Rattle.field_table.specs.Lines.{lines, lineFor, ivsAt}
 use Rattle.field_set.specs.Lawful.{has, countIn}
-use Rattle.counters.specs.declared.counter.Counter.{Counter}
+use Rattle.iv_counter.specs.declared.Counter.{Counter}
 use Rattle.counters.specs.declared.follow.Walk.{Walk}
-use Rattle.counters.specs.Counter.{blocks, following, counterOf, countersOf, counterAt, Counts}
+use Rattle.iv_counter.specs.Counter.{blocks, following, counterOf, countersOf, counterAt, Counts}
 use Rattle.counters.specs.Follow.{ivWords, countersIn, derived, ivsFollow, Passed, allFollow}
-use Rattle.counters.proofs.CounterLaws.{iv-room}
+use Rattle.iv_counter.proofs.CounterLaws.{iv-room}
 use Rattle.counters.proofs.WalkLaws.{Walked, bytesLeft, follow-head, follow-next, follow-end}
 
 -- ---- the counters that stand

@@ -1,4 +1,3 @@
-pub mod CounterLaws
 pub mod ProtectedLaws
 pub mod LastLaws
 pub mod OutsideLaws

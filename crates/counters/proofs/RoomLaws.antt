@@ -18,7 +18,7 @@ use Rattle.field_table.specs.Lines.{lines, lineFor, spare, every, wanted, setLe
 use Rattle.field_table.proofs.LineLaws.{line-count}
 use Rattle.field_set.specs.Lawful.{has, inUse, countIn, valuesOf, regionOk, regionsOk, sameIvSize, measureOf, lawful}
 use Rattle.field_set.proofs.LawfulLaws.{usedOf, Region, region-facts, Lawful, lawful-facts, lawful-all}
-use Rattle.counters.specs.Counter.{allWords}
+use Rattle.iv_counter.specs.Counter.{allWords}
 use Rattle.counters.specs.Follow.{ivWords, derived, withDerived}
 use Rattle.counters.proofs.OutsideLaws.{sets-there, slice-behind, marks-outside}
 use Rattle.counters.proofs.BesideLaws.{beside-word, beside-slice, beside-count, beside-has, beside-counts}

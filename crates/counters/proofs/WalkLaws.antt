@@ -22,12 +22,12 @@ use Rattle.field_set.proofs.RuleLaws.{ruled}
 use Rattle.field_set.proofs.ValueLaws.{pairsLeft, pairs-all, pairs-end, pairs-on}
 use Rattle.told_sizes.specs.Sums.{Summable}
 use Rattle.told_sizes.proofs.SumLaws.{lawful-summable, part-most}
-use Rattle.counters.specs.declared.counter.Counter.{Counter}
+use Rattle.iv_counter.specs.declared.Counter.{Counter}
 use Rattle.counters.specs.declared.follow.Walk.{Walk}
-use Rattle.counters.specs.Counter.{blocks, following, counters, counterAt}
+use Rattle.iv_counter.specs.Counter.{blocks, following, counters, counterAt}
 use Rattle.counters.specs.Protected.{protectedOf, protectedFrom}
 use Rattle.counters.specs.Follow.{ivWords, Behind, Passed}
-use Rattle.counters.proofs.CounterLaws.{Words, iv-place, read-one, read-two}
+use Rattle.iv_counter.proofs.CounterLaws.{Words, iv-place, read-one, read-two}
 use Rattle.counters.proofs.IvsLaws.{iv-words}
 use Rattle.counters.proofs.ProtectedLaws.{some-samples}
 

@@ -11,9 +11,9 @@ use Rattle.track.specs.declared.Track.{Track}
 use Rattle.track.specs.Track.{ivOk}
 use Rattle.field_table.specs.Lines.{setLen, ivsAt}
 use Rattle.field_set.specs.Lawful.{has, valueAt, countIn, lawful}
-use Rattle.counters.specs.declared.counter.Counter.{Counter}
+use Rattle.iv_counter.specs.declared.Counter.{Counter}
 use Rattle.counters.specs.declared.follow.Walk.{Walk}
-use Rattle.counters.specs.Counter.{following, counters, counterAt, countersOf, allWords}
+use Rattle.iv_counter.specs.Counter.{following, counters, counterAt, countersOf, allWords}
 use Rattle.counters.specs.Protected.{protectedOf, protectedFrom}
 
 -- ==== The rules

@@ -10,12 +10,11 @@ ghost use Rattle.constants.specs.Maxima.{subsamplesMost};
 ghost use Rattle.field_table.specs.Lines.{setLen};
 ghost use Rattle.field_set.specs.Lawful.{has, valueAt, countIn, lawful};
 ghost use Rattle.told_sizes.specs.Sums.{Summable};
-ghost use Rattle.counters.specs.Counter.{Counts};
+ghost use Rattle.iv_counter.specs.Counter.{Counts};
 ghost use Rattle.counters.specs.Follow.{ivsFollow, Behind, DerivedAs, Passed, allFollow, AllPut};
-use crate::counter;
-use crate::counter::Counter;
 use crate::protected;
 use field_table::lines;
+use iv_counter::Counter;
 use track::Track;
 
 // A walk over the samples of a chunk: the counter and the protected bytes of the one before, and the number of the next one's first subsample.
@@ -45,7 +44,7 @@ fn all_follow(t: Track, k: usize, c: Counter, last: u64, x: &[u64]) -> bool
     requires { ⌜ (length (now x) ≡ setLen) × (lawful t (now x) ≡ true) × ((k ≡ 1) ⊎ (k ≡ 2)) × (last ≤ 2 ^ 48) ⌝ }
     ensures { λ b. ⌜ ((n payload : ℕ) → Counts k n c → b ≡ allFollow t k n last (now (x .entry)) payload) ⌝ }
 {
-    let top = counter::top_of(k);
+    let top = iv_counter::top_of(k);
     let n = x[lines::COUNT] as usize;
     let mut v = Walk {
         c,
@@ -54,8 +53,8 @@ fn all_follow(t: Track, k: usize, c: Counter, last: u64, x: &[u64]) -> bool
     };
     let mut i = 0;
     while i < n {
-        let d = counter::counter_at(x, k, i);
-        if !counter::comes(top, v.c, v.bytes, d) {
+        let d = iv_counter::counter_at(x, k, i);
+        if !iv_counter::comes(top, v.c, v.bytes, d) {
             return false;
         }
         v = past(t, x, d, i, v.j);
@@ -76,7 +75,7 @@ pub fn ivs_follow(t: Track, last: u64, r: &[u64], x: &[u64]) -> bool
     all_follow(
         t,
         k,
-        counter::counter_at(r, k, r[lines::COUNT] as usize - 1),
+        iv_counter::counter_at(r, k, r[lines::COUNT] as usize - 1),
         last,
         x,
     )
@@ -87,7 +86,7 @@ fn put_all(t: Track, k: usize, c: Counter, last: u64, x: &mut [u64]) -> bool
     requires { ⌜ (length (now x) ≡ setLen) × (lawful t (now x) ≡ true) × ((k ≡ 1) ⊎ (k ≡ 2)) × (last ≤ 2 ^ 48) ⌝ }
     ensures { λ ok. ⌜ ((n payload : ℕ) → Counts k n c → c .ok ≡ true → AllPut t k n last (now (x .entry)) payload ok (now (x .exit))) ⌝ }
 {
-    let top = counter::top_of(k);
+    let top = iv_counter::top_of(k);
     let n = x[lines::COUNT] as usize;
     let mut v = Walk {
         c,
@@ -96,8 +95,8 @@ fn put_all(t: Track, k: usize, c: Counter, last: u64, x: &mut [u64]) -> bool
     };
     let mut i = 0;
     while i < n {
-        let d = counter::next(top, v.c, v.bytes);
-        counter::put_counter(d, k, i, &mut *x);
+        let d = iv_counter::next(top, v.c, v.bytes);
+        iv_counter::put_counter(d, k, i, &mut *x);
         v = past(t, x, d, i, v.j);
         i += 1;
     }
@@ -114,7 +113,7 @@ pub fn derive(t: Track, last: u64, r: &[u64], x: &mut [u64]) -> bool
     put_all(
         t,
         k,
-        counter::counter_at(r, k, r[lines::COUNT] as usize - 1),
+        iv_counter::counter_at(r, k, r[lines::COUNT] as usize - 1),
         last,
         x,
     )

@@ -1,4 +1,3 @@
 // The IVs of a cenc track as counters: which one follows from another, and by how many protected bytes.
-pub mod counter; // counter.rt: an IV as a counter, and the next one
 pub mod protected; // protected.rt: the protected bytes of a sample
 pub mod follow; // follow.rt: whether the IVs of a chunk follow, and the ones that would

@@ -16,7 +16,7 @@ use Rattle.field_table.specs.Lines.{setLen, ivsAt, subsamplesAt}
 use Rattle.field_set.specs.Lawful.{has, countIn, lawful as lawfulSet}
 use Rattle.field_set.proofs.LawfulLaws.{lawful-facts}
 use Rattle.effective.specs.Sums.{sizesOk, protectedOk}
-use Rattle.counters.specs.Counter.{allWords}
+use Rattle.iv_counter.specs.Counter.{allWords}
 use Rattle.counters.specs.Follow.{ivWords, derived, derivedFit, withDerived}
 use Rattle.counters.proofs.BesideLaws.{beside-length, beside-sizes, beside-protected}
 use Rattle.counters.proofs.IvsLaws.{ivs-in}

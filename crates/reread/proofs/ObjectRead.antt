@@ -20,7 +20,7 @@ use Rattle.field_table.specs.Lines.{lines, spare, lineFor, ivsLine, ivsAt, subs
 use Rattle.field_set.specs.Lawful.{has, countIn}
 use Rattle.field_set.proofs.LawfulLaws.{lawful-facts}
 use Rattle.effective.specs.Sums.{sizesOk, protectedOk}
-use Rattle.counters.specs.Counter.{counters}
+use Rattle.iv_counter.specs.Counter.{counters}
 use Rattle.counters.specs.Follow.{ivWords, ivsFollow, derived, derivedFit}
 use Rattle.counters.proofs.IvsLaws.{ivs-in}
 use Rattle.counters.proofs.BesideLaws.{beside-has, beside-derived, beside-sizes, beside-protected}

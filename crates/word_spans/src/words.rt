@@ -1,8 +1,8 @@
-// Words moved from one run to another, and words that become 0.
+// Words moved from one run to another.
 // Letters: `r` the words of the reference's set, `n` how many, `x` the words of the new set.
 ghost use mathlib.Core.Path.{_≡_};
 ghost use Prim.Native.Nat.{_+_, _≤_};
-ghost use lib.ListN.{length, replicate};
+ghost use lib.ListN.{length};
 ghost use lib.Seq.{slice, sets};
 
 // The n words of r from a place on, into x from another place on.
@@ -13,18 +13,6 @@ pub fn copy(r: &[u64], from: usize, n: usize, x: &mut [u64], to: usize)
     let mut i = 0;
     while i < n {
         x[to + i] = r[from + i];
-        i += 1;
-    }
-}
-
-// The n words of x from a place on become 0.
-pub fn blank(x: &mut [u64], to: usize, n: usize)
-    requires { ⌜ to + n ≤ length (now x) ⌝ }
-    ensures { λ u. ⌜ now (x .exit) ≡ sets (now (x .entry)) to (replicate n 0) ⌝ }
-{
-    let mut i = 0;
-    while i < n {
-        x[to + i] = 0;
         i += 1;
     }
 }

@@ -4,7 +4,7 @@ use Prim.Native.Nat.{ℕ, _-_}
 use native.Mathlib.Omega.{arith}
 use mathlib.Core.Path.{_∙_}
 use borrow.Author.Tests.{not-true, not-false}
-use Rattle.counters.specs.Counter.{Counts}
+use Rattle.iv_counter.specs.Counter.{Counts}
 use Rattle.counters.proofs.WalkLaws.{Walked, Place, walked, stands-fit, place-start, place-fits, place-next}
 use Rattle.counters.proofs.FollowLaws.{Following, follow-start, follow-other, follow-more, follow-end-is}
 use Rattle.counters.proofs.follow.all_follow.Statement.{statement}

@@ -4,7 +4,7 @@ use Prim.Native.Nat.{ℕ, _-_}
 use native.Mathlib.Omega.{arith}
 use mathlib.Core.Path.{_≡_, _∙_}
 use mathlib.Core.Bool.{true}
-use Rattle.counters.specs.Counter.{Counts}
+use Rattle.iv_counter.specs.Counter.{Counts}
 use Rattle.counters.proofs.WalkLaws.{Walked, Place, walked, place-start, place-next}
 use Rattle.counters.proofs.DeriveLaws.{Put, Deriving, put-none, put-more, put-length, put-asks, put-passed, derive-start, derive-more, derive-end}
 use Rattle.counters.proofs.follow.put_all.Statement.{statement}

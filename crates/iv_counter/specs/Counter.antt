@@ -8,7 +8,7 @@ use lib.Dec.{eqb, leb}
 use lib.ListN.{length, take, drop}
 use lib.Seq.{slice}
 use Rattle.field_table.specs.Lines.{ivsAt}
-use Rattle.counters.specs.declared.counter.Counter.{Counter}
+use Rattle.iv_counter.specs.declared.Counter.{Counter}
 
 -- ==== The rules
 

@@ -1,10 +1,10 @@
--- `counters::counter::comes` meets its contract, by the next counter compared. Assumes nothing.
+-- `iv_counter::comes` meets its contract, by the next counter compared. Assumes nothing.
 use borrow.Author.Needs.{needs}
 use Prim.Native.Nat.{_+_}
-use Rattle.counters.specs.Counter.{blocks}
-use Rattle.counters.proofs.CounterLaws.{compared}
-use Rattle.counters.proofs.counter.comes.Statement.{statement}
-use Rattle.counters.proofs.counter.comes.Tie as tie
+use Rattle.iv_counter.specs.Counter.{blocks}
+use Rattle.iv_counter.proofs.CounterLaws.{compared}
+use Rattle.iv_counter.proofs.comes.Statement.{statement}
+use Rattle.iv_counter.proofs.comes.Tie as tie
 
 next-requires : tie.Need-next-requires
 next-requires c κs = search needs

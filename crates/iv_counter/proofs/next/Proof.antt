@@ -1,10 +1,10 @@
--- `counters::counter::next` meets its contract: within the last word, with one carried, or past its size. Assumes nothing.
+-- `iv_counter::next` meets its contract: within the last word, with one carried, or past its size. Assumes nothing.
 use borrow.Author.Needs.{needs}
 use native.Mathlib.Omega.{arith}
-use Rattle.counters.specs.Counter.{blocks}
-use Rattle.counters.proofs.CounterLaws.{next-within, next-carried, next-past}
-use Rattle.counters.proofs.counter.next.Statement.{statement}
-use Rattle.counters.proofs.counter.next.Tie as tie
+use Rattle.iv_counter.specs.Counter.{blocks}
+use Rattle.iv_counter.proofs.CounterLaws.{next-within, next-carried, next-past}
+use Rattle.iv_counter.proofs.next.Statement.{statement}
+use Rattle.iv_counter.proofs.next.Tie as tie
 
 add-blocks : tie.Need-add-blocks
 add-blocks c = search needs

@@ -1,8 +1,8 @@
--- `counters::counter::counter_at` meets its contract, for each size of an IV. Assumes nothing.
+-- `iv_counter::counter_at` meets its contract, for each size of an IV. Assumes nothing.
 use native.Mathlib.Omega.{arith}
-use Rattle.counters.proofs.CounterLaws.{iv-place, one-word, read-one, read-two}
-use Rattle.counters.proofs.counter.counter_at.Statement.{statement}
-use Rattle.counters.proofs.counter.counter_at.Tie as tie
+use Rattle.iv_counter.proofs.CounterLaws.{iv-place, one-word, read-one, read-two}
+use Rattle.iv_counter.proofs.counter_at.Statement.{statement}
+use Rattle.iv_counter.proofs.counter_at.Tie as tie
 
 mul-at : tie.Need-mul-at
 mul-at c = omega (arith, iv-place (c .args .k) (c .args .i) (c .pre .1) (c .pre .2))

@@ -1,7 +1,7 @@
--- `counters::counter::top_of` meets its contract. Assumes nothing.
+-- `iv_counter::top_of` meets its contract. Assumes nothing.
 use borrow.Author.Tests.{ne-eqb}
-use Rattle.counters.proofs.counter.top_of.Statement.{statement}
-use Rattle.counters.proofs.counter.top_of.Tie as tie
+use Rattle.iv_counter.proofs.top_of.Statement.{statement}
+use Rattle.iv_counter.proofs.top_of.Tie as tie
 
 returns : tie.Need-returns
 returns c = rw (c .if1 .taken)

@@ -1,4 +1,4 @@
--- `counters::counter::put_counter` meets its contract, for each size of an IV. Assumes nothing.
+-- `iv_counter::put_counter` meets its contract, for each size of an IV. Assumes nothing.
 use borrow.Author.Needs.{needs}
 use Prim.Native.Nat.{ℕ, _+_, _*_}
 use native.Mathlib.Numerals.{add-one}
@@ -7,9 +7,9 @@ use mathlib.Core.Path.{refl, sym, ap}
 use mathlib.Core.List.{[], _∷_}
 use lib.ListN.{set, length-set}
 use Rattle.field_table.specs.Lines.{ivsAt}
-use Rattle.counters.proofs.CounterLaws.{iv-place, one-word, words-one, words-two}
-use Rattle.counters.proofs.counter.put_counter.Statement.{statement}
-use Rattle.counters.proofs.counter.put_counter.Tie as tie
+use Rattle.iv_counter.proofs.CounterLaws.{iv-place, one-word, words-one, words-two}
+use Rattle.iv_counter.proofs.put_counter.Statement.{statement}
+use Rattle.iv_counter.proofs.put_counter.Tie as tie
 
 mul-at : tie.Need-mul-at
 mul-at c = omega (arith, iv-place (c .args .k) (c .args .i) (c .pre .1) (c .pre .2))

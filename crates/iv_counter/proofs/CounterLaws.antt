@@ -16,8 +16,8 @@ use Rattle.constants.specs.Maxima.{samplesMost}
 use Rattle.laws.proofs.SliceLaws.{slice-none}
 use Rattle.laws.proofs.TestLaws.{and-left, and-right, same-test}
 use Rattle.field_table.specs.Lines.{ivsAt}
-use Rattle.counters.specs.declared.counter.Counter.{Counter}
-use Rattle.counters.specs.Counter.{counters, counterOf, counterWords, counterAt, topOf, Counts}
+use Rattle.iv_counter.specs.declared.Counter.{Counter}
+use Rattle.iv_counter.specs.Counter.{counters, counterOf, counterWords, counterAt, topOf, Counts}
 
 -- an IV has one word or two
 abbrev pub Words : ℕ → Type 0

@@ -10,7 +10,7 @@ ghost use lib.ListN.{length};
 ghost use lib.Seq.{sets};
 ghost use Rattle.constants.specs.Maxima.{samplesMost};
 ghost use Rattle.field_table.specs.Lines.{setLen, ivsAt};
-ghost use Rattle.counters.specs.Counter.{blocks, topOf, counterAt, counterWords, Counts};
+ghost use Rattle.iv_counter.specs.Counter.{blocks, topOf, counterAt, counterWords, Counts};
 use field_table::lines;
 
 const U64: u64 = 0xffff_ffff_ffff_ffff;
