@@ -10,6 +10,7 @@ use lib.Dec.{eqb, leb, ltb}
 use lib.ListN.{length, getD, drop}
 use lib.Seq.{slice, sets, length-sets}
 use Rattle.constants.specs.Maxima.{samplesMost}
+use Rattle.laws.proofs.StoreLaws.{word-before, word-behind}
 use Rattle.laws.specs.Tests.{_and_, sum}
 use Rattle.track.specs.declared.Track.{Track}
 use Rattle.field_table.specs.Lines.{lines, lineFor, ivsAt, subsamplesAt}
@@ -20,7 +21,7 @@ use Rattle.effective.specs.Sums.{sizesOk, samplesOk, protectedOk}
 use Rattle.iv_counter.specs.Counter.{following, counterAt}
 use Rattle.counters.specs.Protected.{protectedOf, protectedFrom}
 use Rattle.counters.specs.Follow.{ivWords, derived}
-use Rattle.counters.proofs.OutsideLaws.{Outside, word-before, word-behind, take-before, slice-behind, mark-outside}
+use Rattle.counters.proofs.OutsideLaws.{Outside, take-before, slice-behind, mark-outside}
 
 -- no more words are in use than a field wants
 used-le : (mark k : ℕ) → inUse mark k ≤ k

@@ -9,7 +9,7 @@ use mathlib.Core.List.{List, [], _∷_, _++_, map, append-assoc}
 use borrow.Author.Tests.{leb-true}
 use lib.Dec.{eqb, leb}
 use lib.ListN.{length, getD, set, take, drop, take-append-drop}
-use lib.Seq.{slice, sets, sets-eq, length-sets, length-slice, length-take-le, getD-set-other, take-set-le, drop-set-lt, take-add}
+use lib.Seq.{slice, sets, sets-eq, length-sets, length-slice, length-take-le, take-set-le, drop-set-lt, take-add}
 use Rattle.laws.specs.Tests.{_and_}
 use Rattle.laws.proofs.SliceLaws.{slice-front, slice-between}
 use Rattle.laws.proofs.TestLaws.{left, right, either}
@@ -17,16 +17,6 @@ use Rattle.field_table.specs.declared.lines.Line.{Line}
 use Rattle.field_table.specs.Lines.{lines, lineFor, every, marksOf, ivsAt, subsamplesAt}
 
 -- ---- stores, and words and parts outside of them
-
--- a word before a run of stores
-pub word-before : (vs w : List ℕ) (i p : ℕ) → p < i → getD (sets w i vs) p 0 ≡ getD w p 0
-word-before [] w i p h = refl
-word-before (v ∷ vs) w i p h = word-before vs (set w i v) (suc i) p (omega arith) ∙ getD-set-other w i p v 0 (omega arith)
-
--- a word behind it
-pub word-behind : (vs w : List ℕ) (i p : ℕ) → i + length vs ≤ p → getD (sets w i vs) p 0 ≡ getD w p 0
-word-behind [] w i p h = refl
-word-behind (v ∷ vs) w i p h = word-behind vs (set w i v) (suc i) p (omega arith) ∙ getD-set-other w i p v 0 (omega arith)
 
 -- the words before a place, and stores from there on
 pub take-before : (vs w : List ℕ) (i b : ℕ) → b ≤ i → take b (sets w i vs) ≡ take b w

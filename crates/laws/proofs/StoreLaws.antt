@@ -5,8 +5,8 @@ use native.Mathlib.Omega.{arith}
 use native.Mathlib.Numerals.{add-one}
 use mathlib.Core.Path.{_≡_, refl, sym, _∙_, ap}
 use mathlib.Core.List.{List, [], _∷_, _++_, append-assoc}
-use lib.ListN.{length, set, take, drop, replicate, take-append-drop, length-set}
-use lib.Seq.{sets, set-comm, set-append-left, length-take-le, take-suc-set, drop-set-lt}
+use lib.ListN.{length, getD, set, take, drop, replicate, take-append-drop, length-set}
+use lib.Seq.{sets, set-comm, set-append-left, length-take-le, take-suc-set, drop-set-lt, getD-set-other}
 use borrow.Rule.Slice.PartMut.{putMid, midOf, postOf, mid-len}
 
 -- a run after a run
@@ -15,6 +15,16 @@ sets-append [] vs l i = rw add-zero
 sets-append (u ∷ us) vs l i =
     sets-append us vs (set l i u) (suc i)
     ∙ ap (λ (k : ℕ). sets (sets (set l i u) (suc i) us) k vs) (suc-add i (length us) ∙ sym (add-suc i (length us)))
+
+-- a word before a run of stores
+pub word-before : (vs w : List ℕ) (i p : ℕ) → p < i → getD (sets w i vs) p 0 ≡ getD w p 0
+word-before [] w i p h = refl
+word-before (v ∷ vs) w i p h = word-before vs (set w i v) (suc i) p (omega arith) ∙ getD-set-other w i p v 0 (omega arith)
+
+-- a word behind it
+pub word-behind : (vs w : List ℕ) (i p : ℕ) → i + length vs ≤ p → getD (sets w i vs) p 0 ≡ getD w p 0
+word-behind [] w i p h = refl
+word-behind (v ∷ vs) w i p h = word-behind vs (set w i v) (suc i) p (omega arith) ∙ getD-set-other w i p v 0 (omega arith)
 
 -- a store before a run of stores
 pub set-sets : (vs l : List ℕ) (p i v : ℕ) → p < i → set (sets l i vs) p v ≡ sets (set l p v) i vs

@@ -1,16 +1,17 @@
 -- The room of the IVs is zeros until their line is read: a field stays in its own room, the lines before that of the IVs store before it, and id 11 behind
 -- it. Assumes nothing.
-use Prim.Native.Nat.{ℕ, suc, _+_, _≤_, _<_}
+use Prim.Native.Nat.{ℕ, _+_, _≤_, _<_}
 use native.Mathlib.Omega.{arith}
 use mathlib.Core.Path.{_≡_, refl, sym, _∙_, ap}
 use mathlib.Core.Bool.{Bool, true}
-use mathlib.Core.List.{List, [], _∷_}
+use mathlib.Core.List.{List}
 use mathlib.Core.Option.{none, some}
 use borrow.Author.Tests.{leb-true}
 use lib.Dec.{leb}
 use lib.ListN.{length, getD, set, take, replicate, getD-replicate}
 use lib.Seq.{slice, sets, length-take-le, getD-take, getD-set-other}
 use Rattle.laws.specs.Tests.{_and_}
+use Rattle.laws.proofs.StoreLaws.{word-before, word-behind}
 use Rattle.track.specs.declared.Track.{Track}
 use Rattle.field_table.specs.declared.lines.Line.{Line}
 use Rattle.field_table.specs.declared.lines.Measure.{Measure}
@@ -39,16 +40,6 @@ all-fit t delta r words law says m h i lt =
     let room = wanted-room i lt m (h .small) (h .few) in
     fits-of (getD lines i spare) (cameOf t delta r says m (getD lines i spare) .field)
     (λ vs e. omega (arith, came-length t delta r words law i lt says m vs e, room))
-
--- ---- stores, and words outside of them
-
-word-before : (vs w : List ℕ) (i p : ℕ) → p < i → getD (sets w i vs) p 0 ≡ getD w p 0
-word-before [] w i p h = refl
-word-before (v ∷ vs) w i p h = word-before vs (set w i v) (suc i) p (omega arith) ∙ getD-set-other w i p v 0 (omega arith)
-
-word-behind : (vs w : List ℕ) (i p : ℕ) → i + length vs ≤ p → getD (sets w i vs) p 0 ≡ getD w p 0
-word-behind [] w i p h = refl
-word-behind (v ∷ vs) w i p h = word-behind vs (set w i v) (suc i) p (omega arith) ∙ getD-set-other w i p v 0 (omega arith)
 
 -- ---- the lines before that of the IVs end before it
 
