@@ -10,12 +10,11 @@ use lib.ListN.{length, getD}
 use lib.Seq.{slice}
 use Rattle.constants.specs.Maxima.{subsamplesMost, payloadMost}
 use Rattle.laws.specs.Tests.{sum}
-use Rattle.laws.proofs.SliceLaws.{slice-none, slice-join}
-use Rattle.laws.proofs.TestLaws.{and-right, sum-append, sum-next}
+use Rattle.laws.proofs.TestLaws.{and-right, sum-next}
 use Rattle.track.specs.declared.Track.{Track}
 use Rattle.track.specs.Track.{cenc}
 use Rattle.field_table.specs.Lines.{lines, lineFor, sizesAt, subsamplesAt, protectedAt}
-use Rattle.field_set.specs.Lawful.{has, inUse, valueAt, countIn, valuesOf, lawful}
+use Rattle.field_set.specs.Lawful.{has, valueAt, countIn, valuesOf, lawful}
 use Rattle.field_set.proofs.RuleLaws.{ruled}
 use Rattle.told_sizes.specs.Sums.{bytesOf, Summable}
 use Rattle.told_sizes.specs.Told.{mayHave}

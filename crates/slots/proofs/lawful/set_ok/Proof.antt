@@ -1,16 +1,13 @@
 -- `slots::lawful::set_ok` meets its contract, by what its tests come to. Assumes nothing.
-use native.Mathlib.Omega.{arith}
-use mathlib.Core.Path.{_≡_, refl}
-use lib.ListN.{length, length-drop, length-take}
+use mathlib.Core.Path.{refl}
 use denote.Ref.{now}
 use borrow.Author.Needs.{needs}
 use borrow.Rule.Slice.PartAt.{part-to-end}
 use Rattle.laws.proofs.GateLaws.{failed, held}
-use Rattle.field_table.specs.Lines.{setLen}
-use Rattle.share_words.specs.Share.{setAt, shareLen}
+use Rattle.share_words.specs.Share.{setAt}
 use Rattle.told_sizes.proofs.SumLaws.{lawful-summable}
 use Rattle.effective.proofs.DurationLaws.{lawful-timed}
-use Rattle.slots.proofs.ShareLaws.{lent, lent-long, set-unlawful, last-unlawful, expected-unlawful, set-lawful}
+use Rattle.slots.proofs.ShareLaws.{lent-long, set-unlawful, last-unlawful, expected-unlawful, set-lawful}
 use Rattle.slots.proofs.lawful.set_ok.Statement.{statement}
 use Rattle.slots.proofs.lawful.set_ok.Tie as tie
 
