@@ -4,7 +4,7 @@ use crate::counts::{first, more};
 
 // Of a track: how many full objects the first receiver accepted, the chunk that the second one started at, counted from 1, or 0, and by how much its numbers in
 // the `mfhd` are less. Of any: the tracks where it started, the objects that both receivers got, and the first chunk of which they made something else, or 0.
-#[derive(Drop)]
+#[derive(Clone, Copy)]
 pub struct Join {
     pub full: u64,
     pub chunk: u64,

@@ -1,4 +1,6 @@
 // What `relay` counts, and the lines that it prints of it.
+#![tactic(auto)]
+
 pub mod counts; // counts.rt: counts added up, and the share of one in another
 pub mod joins; // joins.rt: what is counted of a second receiver
 pub mod report; // report.rt: the lines that people read

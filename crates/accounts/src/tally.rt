@@ -6,7 +6,7 @@ use crate::joins::Join;
 
 // One chunk's way. With the number 0: whether the object is a delta, the bytes of the heads (all but the payload) before and after, those of the payload, and
 // whether the rebuilt chunk gave the same object again; whether the chunk has IVs, and the bytes of those that the object left at home.
-#[derive(Drop)]
+#[derive(Clone, Copy)]
 pub struct Passed {
     pub number: u64,
     pub delta: bool,
@@ -19,7 +19,7 @@ pub struct Passed {
 }
 
 // Sums over chunks. `ivs` counts those that have IVs, `home` those that left them at home, `spared` the bytes of these. `bad` counts tracks with a bad file, `differs` is the number of the first chunk whose object differed, counted from 1, or 0.
-#[derive(Drop)]
+#[derive(Clone, Copy)]
 pub struct Tally {
     pub tracks: u64,
     pub bad: u64,

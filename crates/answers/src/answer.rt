@@ -5,7 +5,7 @@ ghost use Rattle.answers.specs.Answered.{refused_with};
 use byte_parts::Part;
 
 // The number, the front's length, and where the payload stands in what was lent.
-#[derive(Drop)]
+#[derive(Clone, Copy)]
 pub struct Answer {
     pub number: u64,
     pub front: u64,

@@ -29,7 +29,7 @@ use wire::form::Form;
 
 // The number 0, 5, 6, 8 or 7, and with 0 what the chunk has beside its set and its events: the `prft`, how many events, the bytes of their records, what
 // stands in the `styp` (no bytes: no box), and the payload.
-#[derive(Drop)]
+#[derive(Clone, Copy)]
 pub struct Chunk {
     pub number: u64,
     pub prft: Prft,
@@ -40,7 +40,7 @@ pub struct Chunk {
 }
 
 // The bytes of the events' records, or 8.
-#[derive(Drop)]
+#[derive(Clone, Copy)]
 struct Counted {
     number: u64,
     list: usize,

@@ -12,7 +12,7 @@ use track::Track;
 
 // What the samples have where the `trun` has no column for it: the `tfhd`'s, and where it has none either, the track's. So a field that the
 // `tfhd` doesn't have can't differ from the track's.
-#[derive(Drop)]
+#[derive(Clone, Copy)]
 pub struct Defaults {
     pub track: u64,
     pub description: u64,

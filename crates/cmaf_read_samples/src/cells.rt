@@ -14,7 +14,7 @@ use cmaf_read_trun::rows::Run;
 use media::flags::SampleFlags;
 
 // How a column's value stands in the set: as it is, with 2^31 added to a signed number, or as flags of five bits.
-#[derive(Drop)]
+#[derive(Clone, Copy)]
 pub enum Way {
     Plain,
     Raised,

@@ -11,7 +11,7 @@ use cmaf_read_tree::numbers;
 use track::Track;
 
 // The entries of a `senc`: whether they have subsamples, how many they are, the bytes of an IV, and where the first stands.
-#[derive(Drop)]
+#[derive(Clone, Copy)]
 pub struct Entries {
     pub map: bool,
     pub count: u64,
@@ -20,7 +20,7 @@ pub struct Entries {
 }
 
 // How many subsamples some entries have, or that they don't end where they must.
-#[derive(Drop)]
+#[derive(Clone, Copy)]
 pub enum Filled {
     With(u64),
     Wrong,

@@ -9,7 +9,7 @@ use boxes::kinds;
 use byte_parts::Part;
 
 // The boxes inside the `moof`, and where the last one that was found inside the `traf` ends.
-#[derive(Drop)]
+#[derive(Clone, Copy)]
 pub struct Inner {
     pub mfhd: Part,
     pub traf: Part,
@@ -23,7 +23,7 @@ pub struct Inner {
 }
 
 // The three boxes after the `trun`, and where the last box that was found there ends.
-#[derive(Drop)]
+#[derive(Clone, Copy)]
 struct Last {
     senc: Part,
     saiz: Part,

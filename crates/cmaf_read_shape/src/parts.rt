@@ -9,7 +9,7 @@ use cmaf_read_tree::heads;
 use cmaf_read_tree::heads::Head;
 
 // A box of any type; all zeros but its place where none stands.
-#[derive(Drop)]
+#[derive(Clone, Copy)]
 pub struct Any {
     pub kind: u64,
     pub at: usize,

@@ -9,7 +9,7 @@ use boxes::kinds;
 use byte_parts::Part;
 
 // The boxes at the top. The `emsg` boxes are one part, with how many they are.
-#[derive(Drop)]
+#[derive(Clone, Copy)]
 pub struct Top {
     pub styp: Part,
     pub prft: Part,
@@ -20,7 +20,7 @@ pub struct Top {
 }
 
 // A run of boxes of one type: the place after it, and how many.
-#[derive(Drop)]
+#[derive(Clone, Copy)]
 struct Row {
     end: usize,
     count: usize,

@@ -8,7 +8,7 @@ use crate::numbers;
 use boxes::kinds;
 
 // A box that stands in its list in full, by its size and its type; or bytes that are no such box.
-#[derive(Drop)]
+#[derive(Clone, Copy)]
 pub enum Head {
     Stands(usize, u64),
     Broken,

@@ -10,7 +10,7 @@ use cmaf_read_shape::words::bit;
 use cmaf_read_tree::numbers;
 
 // A `trun`: version and flags as one word, the samples, where the first row stands, and the bytes of a row.
-#[derive(Drop)]
+#[derive(Clone, Copy)]
 pub struct Run {
     pub word: u64,
     pub count: u64,

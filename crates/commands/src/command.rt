@@ -9,7 +9,7 @@ const HEAD: usize = 25;
 
 // Its bytes stand from one place up to another, where the next command starts. One that the input's end cuts is not whole and has no bytes,
 // and nothing comes after it.
-#[derive(Drop)]
+#[derive(Clone, Copy)]
 pub struct Command {
     pub whole: bool,
     pub call: u8,

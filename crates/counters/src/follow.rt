@@ -15,7 +15,7 @@ use iv_counter::Counter;
 use track::Track;
 
 // A walk over the samples of a chunk: the counter and the protected bytes of the one before, and the number of the next one's first subsample.
-#[derive(Drop)]
+#[derive(Clone, Copy)]
 struct Walk {
     c: Counter,
     bytes: u64,

@@ -12,7 +12,7 @@ const U64: u64 = 0xffff_ffff_ffff_ffff;
 
 // As a share keeps it: the sum, or a mark where the sum passes 64 bits. Every number of 64 bits can be a sum, so the mark is a word of its own; and since no BMDT is
 // derived from a sum that passes, nothing more is kept of it.
-#[derive(Drop)]
+#[derive(Clone, Copy)]
 pub struct Expected {
     pub past: u64,
     pub time: u64,

@@ -21,7 +21,7 @@ use track::Track;
 use wire::form::Form;
 
 // What is to be written: a delta or a full object with a block of so many bytes, if one fits.
-#[derive(Drop)]
+#[derive(Clone, Copy)]
 pub struct Plan {
     pub fits: bool,
     pub delta: bool,

@@ -1,4 +1,6 @@
 // An event as ten words; what they say stands in specs/. Code that reads or writes events goes by these places.
+#![tactic(auto)]
+
 use constants::maxima;
 
 // The words of an event, and those of all the events that a block or a chunk can have.

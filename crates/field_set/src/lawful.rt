@@ -24,7 +24,7 @@ const U32: u64 = 0xffff_ffff;
 const PAIRS: u64 = maxima::ENTRY - 2;
 
 // The subsample counts of the samples: whether each is small enough, and their sum.
-#[derive(Drop)]
+#[derive(Clone, Copy)]
 pub struct Tally {
     pub ok: bool,
     pub sum: usize,
@@ -48,7 +48,7 @@ fn tallied(w: &[u64], from: usize, to: usize, most: u64) -> Tally
 }
 
 // What is found of the words of a set: whether they are lawful, and if so the sum of the durations that they list, and how many subsamples there are.
-#[derive(Drop)]
+#[derive(Clone, Copy)]
 pub struct Tested {
     pub ok: bool,
     pub durations: u64,

@@ -8,7 +8,7 @@ use field_table::order;
 use track::Track;
 
 // The fields that the rules speak of: which of them stand.
-#[derive(Drop)]
+#[derive(Clone, Copy)]
 struct Stands {
     sizes: bool,
     durations: bool,

@@ -8,7 +8,7 @@ use constants::maxima::SAMPLES;
 
 // How many values a field has where it stands: one, a value for each sample or for each but the last, the words of the IVs, or a value for
 // each subsample.
-#[derive(Drop)]
+#[derive(Clone, Copy)]
 pub enum Want {
     One,
     LessOne,
@@ -18,7 +18,7 @@ pub enum Want {
 }
 
 // What a value counts as in a delta where the reference has none.
-#[derive(Drop)]
+#[derive(Clone, Copy)]
 pub enum Absent {
     Zero,
     Middle,
@@ -31,7 +31,7 @@ pub enum Absent {
 
 // A line: the place of the field's mark in the set's words, how many words its values have room for after it, how many of them are in use,
 // the largest value, and what an absent one counts as.
-#[derive(Drop)]
+#[derive(Clone, Copy)]
 pub struct Line {
     pub id: u64,
     pub place: usize,
@@ -42,7 +42,7 @@ pub struct Line {
 }
 
 // What decides how many values a field has: the sample count, the words of an IV and the sum of the subsample counts.
-#[derive(Drop)]
+#[derive(Clone, Copy)]
 pub struct Measure {
     pub count: usize,
     pub ivs: usize,

@@ -3,7 +3,7 @@ use crate::numbers;
 use libc::STDERR_FILENO;
 
 // What is asked for, where `join` is 0 without `--join`, and whether folders are named; and while the words are read, whether a number comes next, and whether that of `--join`.
-#[derive(Drop)]
+#[derive(Clone, Copy)]
 pub struct Options {
     pub every: u64,
     pub join: u64,
@@ -16,7 +16,7 @@ pub struct Options {
 }
 
 // What a word is.
-#[derive(Drop)]
+#[derive(Clone, Copy)]
 pub enum Word {
     Every,
     Join,

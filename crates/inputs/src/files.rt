@@ -5,7 +5,7 @@ use crate::numbers;
 use libc::STDERR_FILENO;
 
 // Where bytes end that were put behind others, and whether there was room.
-#[derive(Drop)]
+#[derive(Clone, Copy)]
 pub struct Joined {
     pub fits: bool,
     pub end: usize,

@@ -7,7 +7,7 @@ use crate::arguments::Word;
 use crate::{arguments, files, numbers};
 
 // Whether a folder is named, and how many bytes at the front of a buffer are its path.
-#[derive(Drop)]
+#[derive(Clone, Copy)]
 pub struct Named {
     pub folder: bool,
     pub length: usize,

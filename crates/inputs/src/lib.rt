@@ -1,4 +1,6 @@
 // What `relay` is started with, and what it reads: arguments, folders, files and the numbers in them.
+#![tactic(auto)]
+
 pub mod arguments; // arguments.rt: the words that the program is started with
 pub mod chunk_files; // chunk_files.rt: the chunks in a track's files
 pub mod files; // files.rt: a track's files, and what is wrong with them

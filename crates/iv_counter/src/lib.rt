@@ -1,5 +1,7 @@
 // An IV as a big-endian counter of 8 or 16 bytes, for both sizes alike: two words, of which the first is 0 where there is room for one.
 // Letters: `w` the words of a set, `x` those of a new one, `c` a counter, `k` how many words an IV has, `i` which one, counted from 0.
+#![tactic(auto)]
+
 ghost use Rattle.std.specs.Prelude.{◌≡◌, true, List, ◌⊎◌, ℕ, ◌+◌, ◌*◌, ◌^◌, ◌≤◌, eqb, length};
 ghost use Rattle.std.proofs.lemmas.List.Edits.{sets};
 ghost use Rattle.constants.specs.Maxima.{samples_most};
@@ -14,7 +16,7 @@ const U64: u64 = 0xffff_ffff_ffff_ffff;
 const FIRST_IV: usize = lines::IVS + 1;
 
 // `ok` says that it doesn't pass its size.
-#[derive(Drop)]
+#[derive(Clone, Copy)]
 pub struct Counter {
     pub ok: bool,
     pub high: u64,

@@ -1,5 +1,7 @@
 // The codec for programs in C: each call with its name in include/locmaf.h. A part of the lent bytes can't be handed over, so its length is: the
 // payload is the tail of the object or the chunk, and none on a refusal.
+#![tactic(auto)]
+
 ghost use Rattle.std.specs.Prelude.{◌≡◌};
 ghost use Rattle.wire.specs.Form.{rows};
 ghost use Rattle.wire.specs.declared.form.Form.TheVariants.{Rfc9000};

@@ -9,7 +9,7 @@ use wire::form::Form;
 use wire::varint::Got;
 
 // How many fill the bytes, or that the last is cut.
-#[derive(Drop)]
+#[derive(Clone, Copy)]
 pub enum Counted {
     Whole(usize),
     Cut,

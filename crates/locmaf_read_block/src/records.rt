@@ -16,7 +16,7 @@ use wire::form::Form;
 use wire::varint::Got;
 
 // A record: the parts of its strings and its message, and its numbers as they stand.
-#[derive(Drop)]
+#[derive(Clone, Copy)]
 pub struct Record {
     pub scheme: Part,
     pub value: Part,
@@ -28,28 +28,28 @@ pub struct Record {
 }
 
 // The record and how many bytes it takes, or that the bytes end too early.
-#[derive(Drop)]
+#[derive(Clone, Copy)]
 pub enum Recorded {
     One(Record, usize),
     Cut,
 }
 
 // A length with so many bytes after it: their part, and the place after them.
-#[derive(Drop)]
+#[derive(Clone, Copy)]
 pub enum Text {
     At(Part, usize),
     Cut,
 }
 
 // The two texts in front of a record's numbers: their parts, and the place after them.
-#[derive(Drop)]
+#[derive(Clone, Copy)]
 enum Names {
     At(Part, Part, usize),
     Cut,
 }
 
 // The four numbers in the middle of a record.
-#[derive(Drop)]
+#[derive(Clone, Copy)]
 pub struct Marks {
     pub timescale: u64,
     pub time: u64,
@@ -58,7 +58,7 @@ pub struct Marks {
 }
 
 // The four numbers and the place after them.
-#[derive(Drop)]
+#[derive(Clone, Copy)]
 pub enum Marked {
     At(Marks, usize),
     Cut,

@@ -10,7 +10,7 @@ use wire::form::Form;
 use wire::varint::Got;
 
 // What a tuple holds: one varint, a list of varints, bytes as they are, or records of events.
-#[derive(Drop)]
+#[derive(Clone, Copy)]
 pub enum Kind {
     Scalar(Part),
     Numbers(Part),
@@ -19,7 +19,7 @@ pub enum Kind {
 }
 
 // A tuple: its id, the number after the id (a scalar's value, or the length), and its kind with the part that it holds.
-#[derive(Drop)]
+#[derive(Clone, Copy)]
 pub struct Tuple {
     pub id: u64,
     pub number: u64,
@@ -27,7 +27,7 @@ pub struct Tuple {
 }
 
 // The tuple and the place after it, or that the bytes end too early.
-#[derive(Drop)]
+#[derive(Clone, Copy)]
 pub enum Taken {
     One(Tuple, usize),
     Cut,

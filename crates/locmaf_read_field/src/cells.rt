@@ -23,7 +23,7 @@ use wire::zigzag::{Coding, Reached};
 use word_spans::words;
 
 // What a field came to: that its length is right (asked of ids 13 and 15 only with the set's rules), and that its values are in range.
-#[derive(Drop)]
+#[derive(Clone, Copy)]
 pub struct Cell {
     pub first: bool,
     pub second: bool,

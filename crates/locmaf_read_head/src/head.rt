@@ -9,13 +9,13 @@ use wire::form::Form;
 use wire::varint::Got;
 
 // An object's head: whether it is a delta, and where its block starts and ends; or why it can't be read.
-#[derive(Drop)]
+#[derive(Clone, Copy)]
 pub enum Head {
     Block(Place),
     Refused(u64),
 }
 
-#[derive(Drop)]
+#[derive(Clone, Copy)]
 pub struct Place {
     pub delta: bool,
     pub at: usize,

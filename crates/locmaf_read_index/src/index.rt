@@ -16,7 +16,7 @@ use wire::form::Form;
 
 // How reading a block went: all is readable and each id is known and stands once, or an id is unknown or stands twice, or something in the
 // block ends too early.
-#[derive(Drop)]
+#[derive(Clone, Copy)]
 pub enum Indexed {
     Clean,
     Stray,
@@ -59,7 +59,7 @@ fn weigh(form: Form, s: &[u8], k: Kind, events: &mut [u64]) -> Counted
 }
 
 // The tuple, how many numbers it has and the place after it, or that it or a list in it ends too early.
-#[derive(Drop)]
+#[derive(Clone, Copy)]
 enum Entry {
     One(Tuple, usize, usize),
     Cut,

@@ -11,7 +11,7 @@ use track::Track;
 use wire::zigzag::Coding;
 
 // What an object is read against: a delta against the reference's fields and their lengths, a full object against nothing.
-#[derive(Drop)]
+#[derive(Clone, Copy)]
 pub struct Against {
     pub coding: Coding,
     pub held: bool,

@@ -7,7 +7,7 @@ ghost use Rattle.locmaf_read_said.specs.Said.{word_in};
 use locmaf_read_index::places;
 
 // Where the body of a tuple stands, the number after its id, and how many numbers it has.
-#[derive(Drop)]
+#[derive(Clone, Copy)]
 pub struct Span {
     pub at: usize,
     pub number: u64,
@@ -15,7 +15,7 @@ pub struct Span {
 }
 
 // Nothing, that the id is deleted, or numbers.
-#[derive(Drop)]
+#[derive(Clone, Copy)]
 pub enum Word {
     Omitted,
     Deleted,

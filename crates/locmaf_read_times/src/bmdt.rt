@@ -12,7 +12,7 @@ use locmaf_read_index::places;
 use media::clocks::TrackTicks;
 
 // The time, if there is one: from a sum past 64 bits none is derived.
-#[derive(Drop)]
+#[derive(Clone, Copy)]
 pub struct Bmdt {
     pub told: bool,
     pub ticks: TrackTicks,

@@ -17,7 +17,7 @@ use share_words::share;
 use wire::zigzag::{Coding, Reached};
 
 // A time, or that a number of it is outside its range.
-#[derive(Drop)]
+#[derive(Clone, Copy)]
 pub struct Told {
     pub ok: bool,
     pub prft: Prft,

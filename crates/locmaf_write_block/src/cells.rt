@@ -28,7 +28,7 @@ use wire::form::Form;
 use wire::zigzag::{Coded, Coding};
 
 // What is written: a delta or a full object, whether the IVs follow from the reference's, and the lengths that the fields of the reference and of the new set go by.
-#[derive(Drop)]
+#[derive(Clone, Copy)]
 pub struct Basis {
     pub delta: bool,
     pub follow: bool,
@@ -37,7 +37,7 @@ pub struct Basis {
 }
 
 // What an object says of a field.
-#[derive(Drop)]
+#[derive(Clone, Copy)]
 pub enum Change {
     Omitted,
     Deleted,

@@ -15,7 +15,7 @@ use wire::zigzag::{Coded, Coding};
 
 // What a part of an object takes: whether each of its numbers fits, and then its bytes. Everything is weighed before anything is written, since
 // one number too wide decides between a delta, a full object and a refusal.
-#[derive(Drop)]
+#[derive(Clone, Copy)]
 pub struct Weight {
     pub fits: bool,
     pub bytes: usize,

@@ -1,1 +1,2 @@
 // What a chunk says, by the rules of its boxes: definitions in specs/. There is no code.
+#![tactic(auto)]

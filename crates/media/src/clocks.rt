@@ -10,33 +10,33 @@ use wire::form::Form;
 use wire::zigzag::{Coded, Coding, Reached};
 
 // A time in ticks of the track's timescale.
-#[derive(Drop)]
+#[derive(Clone, Copy)]
 pub struct TrackTicks(pub u64);
 
 // A time in ticks of an event's own timescale: it is only ever carried.
-#[derive(Drop)]
+#[derive(Clone, Copy)]
 pub struct EventTicks(pub u64);
 
 // A time in units of NTP, a second being 2^32 of them.
-#[derive(Drop)]
+#[derive(Clone, Copy)]
 pub struct NtpUnits(pub u64);
 
 // The time of an event, which is on the track's clock or on its own.
-#[derive(Drop)]
+#[derive(Clone, Copy)]
 pub enum EventTime {
     Track(TrackTicks),
     Own(EventTicks),
 }
 
 // A time on the track's clock, or that a number on the wire leads below 0 or past the bound.
-#[derive(Drop)]
+#[derive(Clone, Copy)]
 pub enum TrackTime {
     At(TrackTicks),
     Outside,
 }
 
 // The same on NTP's clock.
-#[derive(Drop)]
+#[derive(Clone, Copy)]
 pub enum NtpTime {
     At(NtpUnits),
     Outside,

@@ -3,7 +3,7 @@
 ghost use Rattle.std.specs.Prelude.{◌≡◌, ◌%◌};
 ghost use Rattle.media.specs.Flags.{placed, non_sync, depends_on, is_depended_on, wide_of, five_of, only};
 
-#[derive(Drop)]
+#[derive(Clone, Copy)]
 pub struct SampleFlags(pub u32);
 
 impl SampleFlags {

@@ -1,5 +1,7 @@
 // The number in the `mfhd` of a chunk, which counts the objects that a receiver accepted; and two chunks compared but for it.
 // Letters: `a` bytes, `b` bytes.
+#![tactic(auto)]
+
 ghost use Rattle.std.specs.Prelude.{◌≡◌, true, ◌<◌, ◌^◌};
 ghost use Rattle.cmaf_read_shape.specs.Parts.{Inside};
 ghost use Rattle.mfhd_numbers.specs.Sequence.{mfhd_of, number_of, value_of, less_by, SameBut, SameAround};
@@ -9,7 +11,7 @@ use cmaf_read_shape::{inner, top};
 use cmaf_read_tree::numbers;
 
 // Two chunks: whether they are the same but for the numbers in their `mfhd`, and by how much the second one's is less.
-#[derive(Drop)]
+#[derive(Clone, Copy)]
 pub struct Compared {
     pub same: bool,
     pub less: u64,

@@ -1,11 +1,13 @@
 // A producer reference time as a value, whether it came off a box or off the wire.
+#![tactic(auto)]
+
 ghost use Rattle.std.specs.Prelude.{◌≡◌};
 ghost use Rattle.prft_value.specs.Prft.{absent_prft};
 
 use media::clocks::{NtpUnits, TrackTicks};
 
 // A producer reference time: whether there is one, when, at which media time, and the box's version and flags.
-#[derive(Drop)]
+#[derive(Clone, Copy)]
 pub struct Prft {
     pub stands: bool,
     pub ntp: NtpUnits,

@@ -30,7 +30,7 @@ use track::Track;
 use wire::form::Form;
 
 // The number, and what the front is made of beside the scratch words: the prft, how many events, and the brands.
-#[derive(Drop)]
+#[derive(Clone, Copy)]
 pub struct Judged {
     pub number: u64,
     pub prft: Prft,
@@ -54,7 +54,7 @@ fn part_of(index: &[u64], id: usize) -> Part
 }
 
 // What isn't a moof field nor of a single event, and whether all of it is within its maxima.
-#[derive(Drop)]
+#[derive(Clone, Copy)]
 struct Values {
     ok: bool,
     bmdt: TrackTicks,

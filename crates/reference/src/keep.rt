@@ -39,7 +39,7 @@ fn copy_set(s: &mut [u64], x: &[u64])
 }
 
 // What an accepted object replaces of the reference.
-#[derive(Drop)]
+#[derive(Clone, Copy)]
 pub struct Replaced {
     pub set: bool,
     pub prft: bool,

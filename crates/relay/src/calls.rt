@@ -10,7 +10,7 @@ pub const FIRST: u64 = 0;
 pub const SECOND: u64 = 1;
 
 // The number of a call, and with 0 how many bytes its output has, front and payload, and how many of them are the front.
-#[derive(Drop)]
+#[derive(Clone, Copy)]
 pub struct Whole {
     pub number: u64,
     pub front: u64,

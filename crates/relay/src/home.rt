@@ -11,7 +11,7 @@ use wire::form::Form;
 use wire::varint;
 
 // Of an object: whether its chunk has IVs, and the bytes that it did without, 0 where it has them.
-#[derive(Drop)]
+#[derive(Clone, Copy)]
 pub struct Home {
     pub ivs: bool,
     pub bytes: u64,

@@ -2,6 +2,8 @@
 // once more an object, by an encoder that has seen only rebuilt chunks: the two objects have to be the same, byte for byte.
 //
 // A proved program can't hand back an exit status, so its last line on standard output is its verdict, and the script `relay` makes the status of it.
+#![tactic(auto)]
+
 mod calls; // calls.rt: the two calls, with front and payload put together
 mod chunks; // chunks.rt: the chunks of a track one after another
 mod folder; // folder.rt: a track's folder

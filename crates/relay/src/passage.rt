@@ -9,7 +9,7 @@ use accounts::tally::Passed;
 use inputs::chunk_files;
 
 // What is counted of a chunk's way, the length of its object, and what the receiver made of that: its front and payload stand where the chunk was rebuilt.
-#[derive(Drop)]
+#[derive(Clone, Copy)]
 pub struct Passage {
     pub passed: Passed,
     pub object: usize,

@@ -1,1 +1,2 @@
 // The encoder's object, read by the receiver. There is no code.
+#![tactic(auto)]

@@ -1,6 +1,8 @@
 // Runs of varints: the values of a list field. One reader, one writer and one measuring pass serve every list field, full and delta. They
 // take as parameters how the values stand on the wire, the old list, what an absent old element counts as, and the largest value.
 // Letters: `s` bytes that are read, `n` how many.
+#![tactic(auto)]
+
 ghost use Rattle.std.specs.Prelude.{◌≡◌, ℕ, ◌+◌, ◌-◌, ◌≤◌, ◌<◌, List, length, get_or};
 ghost use Rattle.laws.specs.Writes.{Wrote};
 ghost use Rattle.wire.specs.Form.{rows};
@@ -11,7 +13,7 @@ use wire::varint::Got;
 use wire::zigzag::{Coded, Coding, Reached};
 
 // How reading a run went: as many numbers as were wanted fill its bytes and each value is in range, or what came in the way first.
-#[derive(Drop)]
+#[derive(Clone, Copy)]
 pub enum Outcome {
     Done,
     Misfit,
@@ -19,7 +21,7 @@ pub enum Outcome {
 }
 
 // The bytes that a run takes, or that one of its numbers is too wide.
-#[derive(Drop)]
+#[derive(Clone, Copy)]
 pub enum Measured {
     Bytes(usize),
     TooWide,
@@ -33,7 +35,7 @@ fn old_at(old: &[u64], i: usize, base: u64) -> u64
 }
 
 // A value and the place after its varint, or what came in the way.
-#[derive(Drop)]
+#[derive(Clone, Copy)]
 enum Next {
     Value(u64, usize),
     Cut,

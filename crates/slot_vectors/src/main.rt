@@ -1,5 +1,7 @@
 // Prints what the calls on a table of slots answer: on a fresh table, on lawful shares, and on shares of which one word is damaged. The
 // stored output is made by generators/slot_vectors.py, which knows the rules and the layout from their text and nothing of this code.
+#![tactic(auto)]
+
 use slots::lawful::Side;
 
 mod calls; // calls.rt: calls on the table, and what is printed of them

@@ -15,7 +15,7 @@ use track::{Asked, Track};
 use word_spans::scan;
 
 // Whose table it is. Only a receiver counts the objects that it accepted.
-#[derive(Drop)]
+#[derive(Clone, Copy)]
 pub enum Side {
     Encoder,
     Receiver,

@@ -1,10 +1,12 @@
 // What a track is opened with.
 // Letters: `a` the parameters as asked.
+#![tactic(auto)]
+
 ghost use Rattle.std.specs.Prelude.{◌≡◌, true};
 ghost use Rattle.track.specs.Track.{iv_ok, lawful, narrow};
 
 // The parameters as a host asks for them: any numbers.
-#[derive(Drop)]
+#[derive(Clone, Copy)]
 pub struct Asked {
     pub track: u64,
     pub timescale: u64,
@@ -17,7 +19,7 @@ pub struct Asked {
 }
 
 // The parameters of an open track, each in its range.
-#[derive(Drop)]
+#[derive(Clone, Copy)]
 pub struct Track {
     pub id: u32,
     pub timescale: u32,

@@ -4,13 +4,13 @@ ghost use Rattle.std.specs.Prelude.{◌≡◌, suc};
 ghost use Rattle.wire.specs.Form.{rows, by_first, by_value, limit, row, longest, ones, twos};
 
 // The form of a track's varints. Each function of this crate takes one, so that a second form is a second table.
-#[derive(Drop)]
+#[derive(Clone, Copy)]
 pub enum Form {
     Rfc9000,
 }
 
 // A row of a form's table: `width` first bytes, from `mark` on, each with `tail` bytes after it.
-#[derive(Drop)]
+#[derive(Clone, Copy)]
 pub struct Row {
     pub tail: usize,
     pub mark: u64,
@@ -18,7 +18,7 @@ pub struct Row {
 }
 
 // The row that was looked for, or that the table has none.
-#[derive(Drop)]
+#[derive(Clone, Copy)]
 pub enum Found {
     In(Row),
     Past,

@@ -11,7 +11,7 @@ ghost use Rattle.wire.specs.Varint.{encode, size_of, read_at, Begins};
 use crate::form::{Form, Found};
 
 // What reading finds: the value and the place after its bytes, or that the bytes end too early.
-#[derive(Drop)]
+#[derive(Clone, Copy)]
 pub enum Got {
     Value(u64, usize),
     Cut,

@@ -7,21 +7,21 @@ ghost use Rattle.wire.specs.Zigzag.{fitted, code_of, reached};
 use crate::form::Form;
 
 // How a value stands on the wire.
-#[derive(Drop)]
+#[derive(Clone, Copy)]
 pub enum Coding {
     Plain,
     Delta,
 }
 
 // The number on the wire, or that the form has no varint for it.
-#[derive(Drop)]
+#[derive(Clone, Copy)]
 pub enum Coded {
     Number(u64),
     TooWide,
 }
 
 // The value that a number on the wire stands for, or that it is outside its range.
-#[derive(Drop)]
+#[derive(Clone, Copy)]
 pub enum Reached {
     To(u64),
     Outside,

@@ -1,5 +1,7 @@
 // Prints what varints and runs of them give at the edges of their ranges. The stored output is made by generators/wire_vectors.py, which knows
 // the rules from their text and nothing of this code.
+#![tactic(auto)]
+
 mod lists; // lists.rt: lists against old ones
 mod made; // made.rt: runs made by hand
 mod numbers; // numbers.rt: single varints, written, read, cut and padded

@@ -8,7 +8,7 @@ ghost use Rattle.word_spans.specs.Totals.{both_lanes, TotalOf};
 
 // The bits that are set in some words, of those at an even distance from where they begin and of those at an odd one. A machine takes two words that
 // stand side by side in one step, and brings its two lanes together once, behind the loops, not at each turn.
-#[derive(Drop)]
+#[derive(Clone, Copy)]
 struct Lanes {
     even: u64,
     odd: u64,
@@ -138,7 +138,7 @@ pub fn bits(w: &[u64], from: usize, to: usize) -> u64
 }
 
 // What some words come to: the bits that are set in some of them, and their sum, where each has 32 bits.
-#[derive(Drop)]
+#[derive(Clone, Copy)]
 pub struct Total {
     pub bits: u64,
     pub sum: u64,
