@@ -38,12 +38,11 @@ class Function:
         self.asked = [(norm(a), b) for a, b in names["asked_at"]]
         self.needs = names["needs"]
         self.problems = []
+        self.goal = None
 
     def parent(self, p):
-        q = self.places[p]["parent"]
-        if q is None:
-            raise Left(f"no place before {p}")
-        return q
+        # an older Rattle had a place more on some ways
+        return self.places[p]["parent"] or p
 
     # a nested pair's position, as fields of a record
     @staticmethod
@@ -58,6 +57,29 @@ class Function:
                 return [f] + rest[len(want) :]
         return None
 
+    @staticmethod
+    def nest(parts):
+        return parts[0] if len(parts) == 1 else f"({parts[0]}, {Function.nest(parts[1:])})"
+
+    def whole(self, fields):
+        """All of a contract's `requires`, where it has several, as the pairs that they were."""
+        pre = self.n.get("pre")
+        if fields in (["requires"], ["pre"]) and pre and len(pre["fields"]) > 1:
+            return self.nest([f"c.requires.{f}" for f in pre["fields"]])
+        return None
+
+    def nearest(self, place, p, step):
+        """The place with this step, of those on the way to a place, that is nearest to another."""
+        way, q = [], self.goal or place
+        while q is not None:
+            way.append(q)
+            q = self.places[q]["parent"]
+        if p not in way:
+            return None
+        at = way.index(p)
+        found = [(abs(k - at), q) for k, q in enumerate(way) if self.places[q]["old"] == step]
+        return min(found)[1] if found else None
+
     def convert(self, place, fields):
         """The new path of the fields behind an old place."""
         fields = list(fields)
@@ -68,22 +90,30 @@ class Function:
         if not fields:
             return None
         here = self.places[p]
-        f0 = norm(fields[0])
-        if f0 in ("args", "requires", "lifetimes", "ranges") and here["parent"] is None:
+        f0 = norm(fields[0].strip("«»"))
+        if f0 == "pre" and here["parent"] is None:
+            f0 = fields[0] = "requires"
+        if f0 == "well_formed":
+            fields[0] = "well_formed"
+        if f0 in ("args", "requires", "lifetimes", "ranges", "well_formed"):
             if f0 == "requires" and self.n.get("pre") and len(self.n["pre"]["fields"]) > 1:
                 if len(fields) == 1:
                     return "c.requires"
-                got = self.named(self.n["pre"]["fields"], fields[1:])
+                names = self.n["pre"]["fields"]
+                got = self.named(names, fields[1:])
+                if got is None and set(fields[1:]) == {"1"} and len(fields) - 1 < len(names):
+                    return self.nest([f"c.requires.{f}" for f in names[len(fields) - 1 :]])
                 if got is None:
                     raise Left(f"requires.{'.'.join(fields[1:])}")
                 return "c.requires." + ".".join(got)
             return "c." + ".".join(fields)
         # the step of this place, or of one before it
         q = p
-        while q is not None and self.places[q]["old"] != f0:
-            q = self.places[q]["parent"]
-        if q is None:
-            raise Left(f"no step {fields[0]} at {p}")
+        if here["old"] != f0:
+            q = self.nearest(place, p, f0) or (self.nearest(place, p, f0[:-4]) if f0.endswith("_lem") else None)
+            if q is None:
+                raise Left(f"no step {fields[0]} at {p}")
+            f0 = self.places[q]["old"]
         s = self.places[q]
         rest = fields[1:]
         arm = self.n["arms"][s["i"]] if s["i"] < len(self.n["arms"]) else None
@@ -97,6 +127,8 @@ class Function:
                 raise Left(f"arm {fields[0]}.{'.'.join(rest)}")
             new, pre = best
             return ".".join(["c", step, new] + rest[len(pre) :])
+        if rest and rest[0] in ("taken", "left") and f0.startswith("if"):
+            rest = [{"taken": "true", "left": "false"}[rest[0]]] + rest[1:]
         if rest and rest[0] in ("auto", "new") and len(rest) > 1 and rest[1] in ("0", "1") and s["callee"]:
             params = self.n["params"].get(s["callee"])
             k, j = 0, 1
@@ -259,7 +291,8 @@ class Function:
                         self.problems.append(f"{t}: a place by itself")
                         out.append("c")
                 else:
-                    out.append(got[3] if got[3] else t)
+                    whole = self.whole([f for f in got[2] if f != "before"])
+                    out.append(whole or (got[3] if got[3] else t))
                 i += 1
                 continue
             out.append(t)
@@ -323,11 +356,27 @@ def split_pair(text):
     return (head, parts) if len(parts) > 1 else None
 
 
+def last_term(text):
+    """A term's lets, and what stands behind them."""
+    at = 0
+    depth = 0
+    for m in re.finditer(r"[()\[\]{}]|(?<![\w'-])let(?![\w'-])|(?<![\w'-])in(?![\w'-])", text):
+        w = m.group(0)
+        if w in "([{":
+            depth += 1
+        elif w in ")]}":
+            depth -= 1
+        elif w == "in" and depth == 0:
+            at = m.end()
+    return text[:at] + " ", [text[at:].strip()]
+
+
 def as_record(text, fields):
     got = split_pair(text)
     if not got:
-        return None
-    head, parts = got
+        head, parts = last_term(text)
+    else:
+        head, parts = got
     out = []
     rest = parts
     for k, f in enumerate(fields):
@@ -337,7 +386,11 @@ def as_record(text, fields):
             if len(rest) < 2:
                 inner = split_pair(rest[0])
                 if not inner or inner[0].strip():
-                    return None
+                    whole = rest[0] if re.match(r"[^\s()]+$", rest[0]) else f"({rest[0]})"
+                    left = fields[k:]
+                    for j, g in enumerate(left):
+                        out.append((g, whole + ".1" * j + (".0" if j < len(left) - 1 else "")))
+                    return head + "record { " + "; ".join(f"{f} = {x}" for f, x in out) + " }"
                 rest = inner[1]
             out.append((f, rest[0]))
             rest = rest[1:]
@@ -392,6 +445,23 @@ def turn(names, crate, folder, path):
         if l.startswith("use ") and not re.search(r"\.(Statement|Tie)\b", l):
             uses.append(l.strip())
     comments = [re.sub(r" Assumes nothing\.", "", l) for l in comments]
+    # a name for the place where the function starts
+    starts = {}
+    for p in paras[1:]:
+        m = re.search(r"^(?:abbrev )?(\S+) : tie\.(\S+) → tie\.Start\n(\S+) (\S+) = (\S+)$", p, re.M)
+        if m and m.group(1) == m.group(3) and m.group(5).startswith(m.group(4) + ".before"):
+            starts[m.group(1)] = m.group(5)[len(m.group(4)) :]
+    if starts:
+        new = []
+        for p in paras:
+            if any(re.search(rf"^(?:abbrev )?{re.escape(s)} : tie", p, re.M) for s in starts):
+                continue
+            for s, b in starts.items():
+                e = re.escape(s)
+                p = re.sub(rf"\({e} ([\w'₀-₉.-]+)\)", lambda m: m.group(1) + b, p)
+                p = re.sub(rf"(?<![\w'.-]){e} ([\w'₀-₉.-]+)(?= in\b)", lambda m: m.group(1) + b, p)
+            new.append(p)
+        paras = new
     decls = []
     for p in paras[1:]:
         lines = p.split("\n")
@@ -432,11 +502,11 @@ def turn(names, crate, folder, path):
         name, sig = m.group(1), m.group(2)
         if re.match(r"tie\.(Need|invariant|decreases)", sig) or name == (spec.split()[1] if spec.startswith("pub ") else ""):
             continue
-        t = re.match(r"\(([^\s:]+) : tie\.([^\s)]+)\)", sig)
+        t = re.match(r"\(([^\s:]+) : tie\.([^\s)]+)(?: invariant\S*| decreases\S*)*\)", sig)
         if t:
             sigs[name] = (t.group(1), norm(t.group(2)))
         else:
-            t = re.match(r"tie\.(\S+) →", sig)
+            t = re.match(r"tie\.(\S+)(?: invariant\S*| decreases\S*)* →", sig)
             if t:
                 sigs[name] = (None, norm(t.group(1)))
     invariants, outs, needed = [], [], []
@@ -526,6 +596,7 @@ def turn(names, crate, folder, path):
                 continue
             base = {args[0]: old}
             extra = [a for a in args[1:] if a not in ("κs", "κ")]
+            fn.goal = old
             new_body = fn.term(body, base, new, sigs, alluses)
             if "κs" in new_body:
                 fn.problems.append(f"{name}: κs")
@@ -554,6 +625,7 @@ def turn(names, crate, folder, path):
                     seen.add((h, at))
                     todo = True
                     var, place = sigs[name]
+                    fn.goal = next((o for o, b in fn.asked if b == at), None)
                     m = re.match(r"(abbrev )?([^\s:]+)\s*:\s*(.*?)\n((?:unfolding [^\n]*\n)*)(?=" + re.escape(name) + r"[ \n])(.*)$", code, re.S)
                     if not m:
                         fn.problems.append(f"{name}: helper not read")
@@ -564,7 +636,7 @@ def turn(names, crate, folder, path):
                         tail = fn.term(tail, {var: place}, at, sigs, alluses)
                         nsig = f"(c : goal.{at})" + unused_lets(tail)
                     else:
-                        nsig = re.sub(r"^tie\.\S+", f"goal.{at}", sig)
+                        nsig = re.sub(r"^tie\.\S+(?: invariant\S*| decreases\S*)*", f"goal.{at}", sig)
                     cl = []
                     for q in re.split(r"\n(?=" + re.escape(name) + r" )", clauses):
                         mm = re.match(re.escape(name) + r" (\S+)((?: [^=]*?)?) =\s*(.*)$", q, re.S)

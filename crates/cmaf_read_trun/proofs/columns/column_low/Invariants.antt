@@ -1,0 +1,16 @@
+-- `cmaf_read_trun::columns::column_low` meets its contract, by the row of tests that is left.
+use Prim.Native.Nat.{◌-◌}
+use mathlib.Core.Path.{◌≡◌}
+use mathlib.Core.Bool.{true}
+use Rattle.laws.specs.Tests.{all_le}
+use Rattle.laws.proofs.RowLaws.{Tested}
+use Rattle.cmaf_read_trun.specs.Rows.{has_column, cell, offsets}
+use Rattle.cmaf_read_trun.specs.Samples.{each_from}
+use Rattle.cmaf_read_trun.specs.Columns.{offset_most}
+use Rattle.cmaf_read_trun.proofs.columns.column_low.Given as goal
+
+abbrev pub invariant-loop-i : goal.invariant-loop-i
+invariant-loop-i l = (l.n ≡ l.r.count) × (has_column l.r offsets ≡ true) × Tested (λ k j. all_le offset_most (each_from (cell l.c l.r offsets) k j)) l.n l.ok l.i
+
+abbrev pub decreases-loop-i : goal.decreases-loop-i
+decreases-loop-i l = l.n - l.i

@@ -1,0 +1,7 @@
+-- `locmaf::locmaf_encode` meets its contract: the encoder's equation, with the payload's length.
+use mathlib.Core.Path.{ap}
+use Rattle.locmaf.specs.Told.{tell}
+use Rattle.locmaf.proofs.locmaf_encode.Goals as goal
+
+pub returns : goal.returns
+returns c = ap tell c.encode-payload.ensures

@@ -1,0 +1,11 @@
+-- `receiver::judge::refused` meets its contract: a number, and what `Prft::none` gives.
+use mathlib.Core.Path.{ap}
+use Rattle.prft_value.specs.declared.Prft.{Prft}
+use Rattle.receiver.proofs.judge.refused.Goals as goal
+
+pub returns : goal.returns
+returns c =
+    ap
+    (λ (p : Prft).
+    record { number = c.args.number; prft = p; events = 0; brands = record { at = 0; len = 0 } })
+    c.none.ensures

@@ -1,0 +1,16 @@
+-- `receiver::receive::take_object` meets its contract: the answer handed out, the payload as the part of the object that is lent.
+use Rattle.answers.proofs.AnsweredLaws.{handed_out}
+use borrow.Author.Rules.{rules}
+use Rattle.receiver.proofs.receive.take_object.Goals as goal
+
+pub overflow_add-end : goal.overflow_add-end
+overflow_add-end c = search rules
+
+pub slice_bounds-result-start : goal.slice_bounds-result-start
+slice_bounds-result-start c = search rules
+
+pub slice_bounds-result-end : goal.slice_bounds-result-end
+slice_bounds-result-end c = search rules
+
+pub returns : goal.returns
+returns c = handed_out c.take_share-a.ensures

@@ -1,0 +1,65 @@
+use Prim.Native.Nat.{◌-◌}
+use native.Mathlib.Omega.{arith}
+use mathlib.Core.Path.{◌∙◌, ap}
+use mathlib.Core.Logic.{⊎_elim}
+use mathlib.Core.List.{◌++◌}
+use Rattle.reference.proofs.KeepLaws.{Copyable, begun, start, end, further, copied, unmarked-both, stays}
+use borrow.Author.Rules.{rules}
+use Rattle.reference.proofs.keep.copy_set.Goals as goal
+
+-- the words are like that
+copyable : (c : goal.After-slice_known-2-1) → let a = c.args in Copyable a.x.now a.s.now
+copyable c = let p = c.requires in record { share = p.s_len.0; long = p.s_len.1; old = p.tidy.0; new = p.tidy.1 }
+
+-- the words are like that
+copyable-2 : (c : goal.After-loop-i) → let a = c.args in Copyable a.x.now a.s.now
+copyable-2 c = let p = c.requires in record { share = p.s_len.0; long = p.s_len.1; old = p.tidy.0; new = p.tidy.1 }
+
+pub copy-requires : goal.copy-requires
+copy-requires c = let p = c.requires in (omega (arith, p.s_len.1), omega (arith, p.s_len.0))
+
+pub loop-i-init : goal.loop-i-init
+loop-i-init c = start _ _ (copyable c) _ c.copy.ensures
+
+pub overflow_add-at : goal.overflow_add-at
+overflow_add-at c = search rules
+
+pub bounds-s-at : goal.bounds-s-at
+bounds-s-at c =
+    let h = c.loop-i.invariant.moves in
+    let f = further _ _ _ _ _ h c.loop-i-test.true _ c.place_at-to.ensures in
+    omega (arith, f.0, f.1, h.same, h.before.share)
+
+pub bounds-x-from : goal.bounds-x-from
+bounds-x-from c =
+    let h = c.loop-i.invariant.moves in
+    let f = further _ _ _ _ _ h c.loop-i-test.true _ c.place_at-to.ensures in
+    omega (arith, f.0, f.1, h.before.long)
+
+pub overflow_sub-to : goal.overflow_sub-to
+overflow_sub-to c =
+    let f = further _ _ _ _ _ c.loop-i.invariant.moves c.loop-i-test.true _ c.place_at-to.ensures in
+    omega (arith, f.0)
+
+pub copy-requires-then-s-at : goal.copy-requires-then-s-at
+copy-requires-then-s-at c =
+    let h = c.loop-i.invariant.moves in
+    let f = further _ _ _ _ _ h c.loop-i-test.true _ c.place_at-to.ensures in
+    (omega (arith, f.0, f.1, h.before.long), omega (arith, f.0, f.1, h.same, h.before.share))
+
+pub loop-i-preserved : goal.loop-i-preserved
+loop-i-preserved c =
+    let h = c.loop-i.invariant.moves in
+    let t = c.loop-i-test.true in
+    let m =
+    ⊎_elim
+    (λ w. copied _ _ _ _ _ h t _ c.place_at-to.ensures _ (w.5 ∙ w.2.ensures))
+    (λ w. let z = unmarked-both _ _ w.0.left in stays _ _ _ _ _ h t _ c.place_at-to.ensures _ w.1 z.0 z.1)
+    c.if-s-at.branch in
+    record { base = c.loop-i.invariant.base; front = c.loop-i.invariant.front; moves = m }
+
+pub returns : goal.returns
+returns c =
+    let l = c.loop-i.invariant in
+    let x = c.args.x.now in
+    end _ _ _ _ _ l.moves c.loop-i-test.false ∙ ap (λ z. z ++ x) (l.front ∙ begun _ _ (copyable-2 c) _ c.copy.ensures)

@@ -1,0 +1,56 @@
+use Prim.Native.Nat.{◌+◌, ◌-◌}
+use native.Mathlib.Omega.{arith}
+use mathlib.Core.Path.{refl, ◌∙◌}
+use mathlib.Core.List.{◌∷◌}
+use lib.ListN.{length-set}
+use types.Run.{miss}
+use Rattle.runs.proofs.FillLoop.{long, done, halt, next}
+use Rattle.runs.proofs.fill_rest.Goals as goal
+
+pub loop-k-init : goal.loop-k-init
+loop-k-init c = (refl, λ at before h. h)
+
+pub shape_of-out-in_default : goal.shape_of-out-in_default
+shape_of-out-in_default c = c.loop-k.invariant.0
+
+pub returns-in_default : goal.returns-in_default
+returns-in_default c =
+    λ at before h.
+    rw c.outcome_of.ensures
+    (halt _ _ _ _ _ at _ _ before _ _ _ _ _ (c.loop-k.invariant.1 at before h) c.loop-k-test.true _ c.value_at-g.ensures
+    (λ x q e. miss (1 ∷ 2 ∷ []) 0 tt (rw e at c.in_default.in_default-own.keys2)))
+
+pub overflow_add-out : goal.overflow_add-out
+overflow_add-out c = omega (arith, c.loop-k.invariant.0, c.requires, c.loop-k-test.true)
+
+pub offset_bounds-out-to : goal.offset_bounds-out-to
+offset_bounds-out-to c = omega (arith, c.loop-k.invariant.0, c.requires, c.loop-k-test.true)
+
+pub bounds-out-to : goal.bounds-out-to
+bounds-out-to c = omega (arith, c.loop-k.invariant.0, c.requires, c.loop-k-test.true)
+
+pub overflow_add-k : goal.overflow_add-k
+overflow_add-k c = omega (arith, c.loop-k.invariant.0, c.requires, c.loop-k-test.true)
+
+pub loop-k-smaller : goal.loop-k-smaller
+loop-k-smaller c = omega (arith, c.loop-k-test.true)
+
+pub loop-k-preserved : goal.loop-k-preserved
+loop-k-preserved c =
+    (
+      length-set c.loop-k.out (c.args.to + c.loop-k.k) _ ∙ c.loop-k.invariant.0,
+      λ at before h.
+          next _ _ _ _ _ at _ _ before _ _ _ _ _ (c.loop-k.invariant.1 at before h) c.loop-k-test.true _ _ c.value_at-g.ensures c.in-Value.is,
+    )
+
+pub shape_of-out-then-at-end : goal.shape_of-out-then-at-end
+shape_of-out-then-at-end c = c.loop-k.invariant.0
+
+pub returns-then-at-end : goal.returns-then-at-end
+returns-then-at-end c = λ at before h. long _ _ _ _ _ at _ _ before _ _ _ _ _ (c.loop-k.invariant.1 at before h) c.loop-k-test.false c.if-at-end.true
+
+pub shape_of-out : goal.shape_of-out
+shape_of-out c = c.loop-k.invariant.0
+
+pub returns : goal.returns
+returns c = λ at before h. done _ _ _ _ _ at _ _ before _ _ _ _ _ (c.loop-k.invariant.1 at before h) c.loop-k-test.false c.if-at-end.false

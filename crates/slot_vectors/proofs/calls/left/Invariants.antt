@@ -1,0 +1,10 @@
+-- `slot_vectors::calls::left` is safe and ends: the index stays within the words.
+use Rattle.std.proofs.Common.{◌+◌, ◌-◌, ◌≤◌}
+use Rattle.share_words.specs.Share.{table_len}
+use Rattle.slot_vectors.proofs.calls.left.Given as goal
+
+abbrev pub invariant-loop-i : goal.invariant-loop-i
+invariant-loop-i l = l.i ≤ table_len + 1
+
+abbrev pub decreases-loop-i : goal.decreases-loop-i
+decreases-loop-i l = table_len + 1 - l.i

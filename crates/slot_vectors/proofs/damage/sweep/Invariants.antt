@@ -1,0 +1,10 @@
+-- `slot_vectors::damage::sweep` is safe and ends: the place stays within the table.
+use Rattle.std.proofs.Common.{◌-◌, ◌≤◌}
+use Rattle.share_words.specs.Share.{table_len}
+use Rattle.slot_vectors.proofs.damage.sweep.Given as goal
+
+abbrev pub invariant-loop-at : goal.invariant-loop-at
+invariant-loop-at l = l.at ≤ table_len
+
+abbrev pub decreases-loop-at : goal.decreases-loop-at
+decreases-loop-at l = table_len - l.at

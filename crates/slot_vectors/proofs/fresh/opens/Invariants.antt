@@ -1,0 +1,9 @@
+-- `slot_vectors::fresh::opens` is safe and ends: the index stays within the ten values.
+use Rattle.std.proofs.Common.{◌-◌, ◌≤◌}
+use Rattle.slot_vectors.proofs.fresh.opens.Given as goal
+
+abbrev pub invariant-loop-j : goal.invariant-loop-j
+invariant-loop-j l = l.j ≤ 10
+
+abbrev pub decreases-loop-j : goal.decreases-loop-j
+decreases-loop-j l = 10 - l.j

@@ -1,0 +1,28 @@
+use Prim.Native.Nat.{◌-◌}
+use native.Mathlib.Omega.{arith}
+use mathlib.Core.Path.{◌∙◌}
+use mathlib.Core.Logic.{⊎_elim}
+use Rattle.word_spans.proofs.ScanLaws.{collect-start, collect-run, collect-last, collect-end}
+use borrow.Author.Rules.{rules}
+use Rattle.word_spans.proofs.scan.many.Goals as goal
+
+pub loop-i-init : goal.loop-i-init
+loop-i-init c = collect-start _ _ _ c.requires.0 (omega (arith, c.requires.1))
+
+pub loop-i-preserved : goal.loop-i-preserved
+loop-i-preserved c =
+    let h = c.loop-i.invariant in
+    rw c.joined-all.ensures (collect-run _ _ _ _ _ h _ (omega arith) (search rules) c.sixty_four.ensures)
+
+pub loop-i-2-preserved : goal.loop-i-2-preserved
+loop-i-2-preserved c =
+    let h = c.loop-i-2.invariant in
+    rw c.joined-all-in-loop-i-2.ensures (collect-run _ _ _ _ _ h _ (omega arith) (search rules) c.sixteen.ensures)
+
+pub returns : goal.returns
+returns c =
+    let h = c.loop-i-2.invariant in
+    ⊎_elim
+    (λ w. let k = w.1.ensures in
+    rw w.3 (w.2.ensures ∙ collect-last _ _ _ _ _ h k.0 (omega (arith, c.requires.1, k.1)) k.2 k.3))
+    (λ w. rw w.1 (collect-end _ _ _ _ _ h w.0.left)) c.if-i-to.branch
