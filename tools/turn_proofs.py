@@ -13,7 +13,7 @@ import re
 import sys
 
 TOK = re.compile(r"--[^\n]*|\"(?:[^\"\\]|\\.)*\"|[^\s(){}\[\];,.@λ]+(?:\.[^\s(){}\[\];,.]+)*|.|\n", re.S)
-TRIVIAL = {"search rules", "omega arith", "tt", "refl", "search(rules)"}
+TRIVIAL = {"search rules", "omega arith", "tt", "search(rules)"}
 
 
 def norm(s):
@@ -416,6 +416,8 @@ def uses_of(uses, body):
             if "◌" in it:
                 ops = [x for x in it.split("◌") if x]
                 ok = all(any(o == w or o in w for w in words) for o in ops) if ops else True
+            elif it == "[]":
+                ok = "[]" in plain
             else:
                 ok = it in words
             if ok:
@@ -587,7 +589,7 @@ def turn(names, crate, folder, path):
                 made[k] = "-- TURN: " + code.replace("\n", "\n-- ")
                 continue
             unf, args, body = m.group(1).strip(), m.group(2).split(), m.group(3)
-            if body.strip() in TRIVIAL:
+            if body.strip() in TRIVIAL and not unf:
                 made[k] = ""
                 continue
             if not args:

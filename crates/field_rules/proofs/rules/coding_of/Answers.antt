@@ -1,5 +1,5 @@
 -- `field_rules::rules::coding_of` meets its contract, by cases on what an absent value counts as.
-use mathlib.Core.List.{◌∷◌}
+use mathlib.Core.List.{[], ◌∷◌}
 use types.Run.{miss}
 use Rattle.field_table.specs.declared.lines.Absent.TheVariants.{Middle}
 use Rattle.field_rules.proofs.CodingLaws.{coding-is, coding-same}

@@ -1,5 +1,5 @@
 -- `field_rules::rules::is_ivs` meets its contract, by cases on what the line wants.
-use mathlib.Core.List.{◌∷◌}
+use mathlib.Core.List.{[], ◌∷◌}
 use types.Run.{miss}
 use Rattle.field_table.specs.declared.lines.Want.TheVariants.{Ivs}
 use Rattle.field_rules.proofs.CodingLaws.{ivs-is, ivs-not}

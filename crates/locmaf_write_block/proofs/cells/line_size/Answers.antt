@@ -1,7 +1,7 @@
 -- `locmaf_write_block::cells::line_size` meets its contract.
 use native.Mathlib.Omega.{arith}
 use mathlib.Core.Path.{sym, ◌∙◌}
-use mathlib.Core.List.{◌∷◌}
+use mathlib.Core.List.{[], ◌∷◌}
 use types.Run.{miss}
 use Rattle.wire.specs.Form.{rows}
 use Rattle.locmaf_write_tuples.proofs.ItemLaws.{weighed-nothing, weighed-as}
