@@ -116,6 +116,10 @@ class Function:
             f0 = self.places[q]["old"]
         s = self.places[q]
         rest = fields[1:]
+        if rest and rest[0] == "given" and self.goal:
+            for var, step in self.n["typed"][self.places[self.goal]["i"]]:
+                if norm(step) == f0:
+                    return ".".join(["c.type_inv", var] + rest[1:])
         arm = self.n["arms"][s["i"]] if s["i"] < len(self.n["arms"]) else None
         if arm:
             step, _, mapped = arm
