@@ -59,10 +59,10 @@ counting-5 c =
     }
 
 bytes : (c : goal.After-bmdt_of-bmdt) → Bytes c.args.c.now
-bytes c = are-bytes c.args.c.now (λ i. (c.shared_slice_known-1.given i).fits)
+bytes c = are-bytes c.args.c.now (λ i. (c.type_inv.c i).fits)
 
 bytes-2 : (c : goal.Else-list) → Bytes c.args.c.now
-bytes-2 c = are-bytes c.args.c.now (λ i. (c.shared_slice_known-1.given i).fits)
+bytes-2 c = are-bytes c.args.c.now (λ i. (c.type_inv.c i).fits)
 
 pub counts_ok-requires : goal.counts_ok-requires
 counts_ok-requires c =
