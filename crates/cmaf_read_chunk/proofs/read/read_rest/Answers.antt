@@ -3,7 +3,7 @@
 -- `cmaf_read_chunk::read::read_rest` meets its contract: its tests are the definitions', in their order.
 use Prim.Native.Nat.{ℕ, ◌+◌}
 use native.Mathlib.Omega.{arith}
-use mathlib.Core.Path.{◌≡◌, sym, ◌∙◌, subst}
+use mathlib.Core.Path.{◌≡◌, sym, ◌∙◌, subst, ap}
 use mathlib.Core.List.{List, ◌++◌}
 use lib.ListN.{length, drop}
 use Rattle.wire.specs.Form.{rows}
@@ -14,6 +14,7 @@ use Rattle.cmaf_read_chunk.specs.Chunks.{SettledAs}
 use Rattle.laws.proofs.HalvesLaws.{zeros-long, zeros-rest, front-in, front_long, rest-stays}
 use Rattle.cmaf_read_chunk.proofs.MaximaLaws.{right_is, gatherable}
 use Rattle.cmaf_read_chunk.proofs.RungLaws.{counted-break, counts-kept, events-there, rules-break, rules-keep}
+use mathlib.Core.Bool.{not}
 use Rattle.cmaf_read_chunk.proofs.read.read_rest.Goals as goal
 
 long : (c : goal.After-slice_known-1) → length c.args.words.now ≡ events_len + set_len
@@ -94,7 +95,7 @@ returns-then-not-settle c =
     let b = w.before.before.before.before.before in
     let a = b.args in
     rules-break (rows a.form) a.t a.c.now b.pre.0.1 b.pre.0.2 w.before.count.ensures c.if-counts-ne0.false
-    b.pre.1.0.0 b.pre.1.0.1 (settled c) c.refused-then-not-settle.ensures c.if-not-settle.true
+    b.pre.1.0.0 b.pre.1.0.1 (settled c) c.refused-then-not-settle.ensures (ap not c.if-not-settle.true)
 
 pub taken-requires : goal.taken-requires
 taken-requires c =
@@ -108,4 +109,4 @@ returns c =
     let a = b.args in
     rw (c.settle.ensures.1 ∙ front w)
     (rules-keep (rows a.form) a.t a.c.now b.pre.0.1 b.pre.0.2 w.before.count.ensures c.if-counts-ne0.false
-    b.pre.1.0.0 b.pre.1.0.1 (settled-2 c) c.taken.ensures c.if-not-settle.false)
+    b.pre.1.0.0 b.pre.1.0.1 (settled-2 c) c.taken.ensures (ap not c.if-not-settle.false))

@@ -3,7 +3,6 @@ use mathlib.Core.Path.{refl, sym, ◌∙◌, ap}
 use mathlib.Core.Bool.{true}
 use borrow.Author.Rules.{rules}
 use Rattle.laws.specs.Tests.{all_le}
-use Rattle.laws.proofs.GateLaws.{failed, held}
 use lib.Dec.{leb}
 use Rattle.laws.proofs.RowLaws.{tests-start, tests-next, tests-end}
 use Rattle.cmaf_read_trun.specs.Rows.{is_column, cell, offsets}
@@ -19,10 +18,10 @@ has-requires c = offsets-column
 pub returns-then-not-has : goal.returns-then-not-has
 returns-then-not-has c =
     let a = c.args in
-    bound-none offset_most ∙ ap (all_le offset_most) (sym (column-none a.c.now a.r offsets (failed c.has.ensures c.if-not-has.true)))
+    bound-none offset_most ∙ ap (all_le offset_most) (sym (column-none a.c.now a.r offsets (sym c.has.ensures ∙ c.if-not-has.true)))
 
 pub loop-i-init : goal.loop-i-init
-loop-i-init c = (refl, held c.has.ensures c.if-not-has.false, tests-start (bound-row offset_most _) _)
+loop-i-init c = (refl, sym c.has.ensures ∙ c.if-not-has.false, tests-start (bound-row offset_most _) _)
 
 pub cell-requires : goal.cell-requires
 unfolding is_column

@@ -2,7 +2,6 @@ use Prim.Native.Nat.{ℕ, ◌-◌}
 use mathlib.Core.Path.{refl, sym, ◌∙◌, ap}
 use mathlib.Core.Bool.{true}
 use borrow.Author.Rules.{rules}
-use Rattle.laws.proofs.GateLaws.{failed, held}
 use Rattle.laws.proofs.RowLaws.{tests-start, tests-next, tests-end}
 use Rattle.media.specs.Flags.{only}
 use Rattle.cmaf_read_trun.specs.Rows.{is_column, cell, sample_flags}
@@ -18,10 +17,10 @@ has-requires c = flags-column
 pub returns-then-not-has : goal.returns-then-not-has
 returns-then-not-has c =
     let a = c.args in
-    flags-none ∙ ap all_only (sym (column-none a.c.now a.r sample_flags (failed c.has.ensures c.if-not-has.true)))
+    flags-none ∙ ap all_only (sym (column-none a.c.now a.r sample_flags (sym c.has.ensures ∙ c.if-not-has.true)))
 
 pub loop-i-init : goal.loop-i-init
-loop-i-init c = (refl, held c.has.ensures c.if-not-has.false, tests-start (flags-row _) _)
+loop-i-init c = (refl, sym c.has.ensures ∙ c.if-not-has.false, tests-start (flags-row _) _)
 
 pub cell-requires : goal.cell-requires
 unfolding is_column

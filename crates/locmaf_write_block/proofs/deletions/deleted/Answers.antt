@@ -1,12 +1,13 @@
 use Prim.Native.Nat.{◌-◌}
-use mathlib.Core.Path.{sym, ◌∙◌}
+use mathlib.Core.Path.{sym, ◌∙◌, ap}
 use mathlib.Core.Logic.{⊎_elim}
 use borrow.Author.Tests.{not-true}
 use Rattle.locmaf_write_block.proofs.GoneLaws.{collect-full, collect-start, collect-end, collect-one, collect-none}
+use mathlib.Core.Bool.{not}
 use Rattle.locmaf_write_block.proofs.deletions.deleted.Goals as goal
 
 pub returns-then-not-b : goal.returns-then-not-b
-returns-then-not-b c = collect-full _ _ _ _ (not-true _ c.if-not-b.true) c.args.ids.now c.requires.ids_len
+returns-then-not-b c = collect-full _ _ _ _ (not-true _ (ap not c.if-not-b.true)) c.args.ids.now c.requires.ids_len
 
 pub loop-i-init : goal.loop-i-init
 loop-i-init c = collect-start _ _ _ _ _ c.requires.ids_len
