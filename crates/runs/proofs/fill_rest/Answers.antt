@@ -3,7 +3,6 @@ use native.Mathlib.Omega.{arith}
 use mathlib.Core.Path.{refl, ◌∙◌}
 use mathlib.Core.List.{[], ◌∷◌}
 use lib.ListN.{length-set}
-use types.Run.{miss}
 use Rattle.runs.proofs.FillLoop.{long, done, halt, next}
 use Rattle.runs.proofs.fill_rest.Goals as goal
 
@@ -18,7 +17,7 @@ returns-in_default c =
     λ at before h.
     rw c.outcome_of.ensures
     (halt _ _ _ _ _ at _ _ before _ _ _ _ _ (c.loop-k.invariant.1 at before h) c.loop-k-test.true _ c.value_at-g.ensures
-    (λ x q e. miss (1 ∷ 2 ∷ []) 0 tt (rw e at c.in_default.in_default-own.keys2)))
+    c.in_default.not-Value)
 
 pub overflow_add-out : goal.overflow_add-out
 overflow_add-out c = omega (arith, c.loop-k.invariant.0, c.requires, c.loop-k-test.true)
