@@ -1,4 +1,3 @@
--- TURN: c: a place by itself
 -- `encoder::properties::block_size` meets its contract: its parts weighed together.
 use Prim.Native.Nat.{ℕ, ◌+◌, ◌≤◌}
 use native.Mathlib.Omega.{arith}
@@ -30,7 +29,12 @@ pub expected_of-requires : goal.expected_of-requires
 expected_of-requires c = c.requires.read_of_one.1.on-share.share
 
 pub set_size-fields-requires : goal.set_size-fields-requires
-set_size-fields-requires c = record { based = (basis-own (writable c.requires.read_of_one.1 _ c.requires.held.0) c.basis_of-b.ensures, expected-is c.requires.read_of_one.1 c.expected_of.ensures); kept_len = c.requires.held.2 }
+set_size-fields-requires c =
+    let e = c.requires.read_of_one.1 in
+    record {
+      based = (basis-own (writable e _ c.requires.held.0) c.basis_of-b.ensures, expected-is e c.expected_of.ensures);
+      kept_len = c.requires.held.2;
+    }
 
 pub times_size-times-requires : goal.times_size-times-requires
 times_size-times-requires c = c.requires.read_of_one.1.on-share.share
