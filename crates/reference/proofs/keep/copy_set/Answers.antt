@@ -56,9 +56,9 @@ loop-i-preserved c =
       base = c.loop-i.invariant.base;
       front = c.loop-i.invariant.front;
       moves = elim c.if-s-at.branch [
-          then-s-at w ↦ copied _ _ _ _ _ h t _ at _ (w.s-is ∙ w.copy-then-s-at.ensures)
+        | then-s-at w ↦ copied _ _ _ _ _ h t _ at _ (w.s-is ∙ w.copy-then-s-at.ensures)
         | else-s-at w ↦ let z = unmarked-both _ _ w.if-s-at.false in stays _ _ _ _ _ h t _ at _ w.s-is z.0 z.1
-        ];
+      ];
     }
 
 pub returns : goal.returns

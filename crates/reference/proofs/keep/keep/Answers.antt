@@ -13,14 +13,14 @@ after : (c : goal.After-copy_set-arg-1) → let a = c.args in Kept a.delta a.prf
 after c =
     let prft = ap (λ (r : Replaced). r.prft) c.replaced_by-new.ensures in
     elim c.if-new.branch [
-      then-new w ↦
-        kept_full _ _ _ _ _ c.requires.s_len.0 (sym prft ∙ w.if-new.true) w.if-prft.s
-        (elim w.if-prft.branch [
-          then-prft m ↦ marked c.args.prft _ m.if-prft.true m.s-is
-        | else-prft m ↦ unmarked c.args.prft _ m.if-prft.false m.s-is
-        ])
-        _ w.s-is
-    | else-new w ↦ kept-delta _ _ _ _ _ c.requires.s_len.0 (sym prft ∙ w.if-new.false) _ w.s-is
+      | then-new w ↦
+          kept_full _ _ _ _ _ c.requires.s_len.0 (sym prft ∙ w.if-new.true) w.if-prft.s
+          (elim w.if-prft.branch [
+            | then-prft m ↦ marked c.args.prft _ m.if-prft.true m.s-is
+            | else-prft m ↦ unmarked c.args.prft _ m.if-prft.false m.s-is
+          ])
+          _ w.s-is
+      | else-new w ↦ kept-delta _ _ _ _ _ c.requires.s_len.0 (sym prft ∙ w.if-new.false) _ w.s-is
     ]
 
 -- the share where the two ways of the `prft` meet
@@ -28,14 +28,14 @@ after-2 : (c : goal.After-slice_known-then-new-2-1) → let a = c.args in Kept a
 after-2 c =
     let prft = ap (λ (r : Replaced). r.prft) c.replaced_by-new.ensures in
     elim c.if-new.branch [
-      then-new w ↦
-        kept_full _ _ _ _ _ c.requires.s_len.0 (sym prft ∙ w.if-new.true) w.if-prft.s
-        (elim w.if-prft.branch [
-          then-prft m ↦ marked c.args.prft _ m.if-prft.true m.s-is
-        | else-prft m ↦ unmarked c.args.prft _ m.if-prft.false m.s-is
-        ])
-        _ w.s-is
-    | else-new w ↦ kept-delta _ _ _ _ _ c.requires.s_len.0 (sym prft ∙ w.if-new.false) _ w.s-is
+      | then-new w ↦
+          kept_full _ _ _ _ _ c.requires.s_len.0 (sym prft ∙ w.if-new.true) w.if-prft.s
+          (elim w.if-prft.branch [
+            | then-prft m ↦ marked c.args.prft _ m.if-prft.true m.s-is
+            | else-prft m ↦ unmarked c.args.prft _ m.if-prft.false m.s-is
+          ])
+          _ w.s-is
+      | else-new w ↦ kept-delta _ _ _ _ _ c.requires.s_len.0 (sym prft ∙ w.if-new.false) _ w.s-is
     ]
 
 -- no object leaves the set as it was
