@@ -1,9 +1,8 @@
 -- `field_set::lawful::test_set` meets its contract: each return by the tests that led to it.
-use mathlib.Core.Path.{refl, sym, ◌∙◌, ap}
+use mathlib.Core.Path.{refl, sym, ◌∙◌}
 use Rattle.field_set.proofs.LawfulLaws.{tested-not, many-samples, many-subsamples, lawful-tested}
 use Rattle.field_set.proofs.BareLaws.{no_pairs, no-durations}
 use borrow.Author.Rules.{rules}
-use mathlib.Core.Bool.{not}
 use Rattle.field_set.proofs.lawful.test_set.Goals as goal
 
 pub returns-then-n : goal.returns-then-n
@@ -23,10 +22,10 @@ returns-then-none_stands c =
 pub returns-then-not-c : goal.returns-then-not-c
 returns-then-not-c c =
     tested-not c.unlawful-then-not-c.ensures
-    (many-subsamples c.args.t c.args.w.now c.if-n.false c.requires.iv_size_bound c.tally_of-c.result c.tally_of-c.ensures (ap not c.if-not-c.true))
+    (many-subsamples c.args.t c.args.w.now c.if-n.false c.requires.iv_size_bound c.tally_of-c.result c.tally_of-c.ensures c.if-not-c.true)
 
 pub returns : goal.returns
 returns c =
     let y = c.tally_of-c in
-    lawful-tested c.args.t c.args.w.now c.if-n.false c.requires.iv_size_bound y.result y.ensures (ap not c.if-not-c.false)
+    lawful-tested c.args.t c.args.w.now c.if-n.false c.requires.iv_size_bound y.result y.ensures c.if-not-c.false
     _ _ _ c.regions_ok-r.ensures c.same_iv_size.ensures (rw c.marks_of.ensures at c.rules_ok.ensures)

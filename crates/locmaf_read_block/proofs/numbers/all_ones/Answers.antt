@@ -1,4 +1,3 @@
-use Prim.Native.Nat.{◌-◌}
 use native.Mathlib.Omega.{arith}
 use Rattle.wire.specs.Form.{rows}
 use Rattle.locmaf_read_block.proofs.OnesLaws.{few, asking-start, not-ones, asking-next, asked}

@@ -1,13 +1,12 @@
 -- `slots::lawful::set_ok` meets its contract, by what its tests come to.
-use mathlib.Core.Path.{refl, ap, sym, ◌∙◌}
+use mathlib.Core.Path.{refl, sym, ◌∙◌}
 use borrow.Author.Rules.{rules}
 use borrow.Author.Rules.{part_to_end}
-use Rattle.laws.proofs.GateLaws.{held}
+use Rattle.laws.proofs.GateLaws.{failed, held}
 use Rattle.share_words.specs.Share.{set_at}
 use Rattle.told_sizes.proofs.SumLaws.{lawful-summable}
 use Rattle.effective.proofs.DurationLaws.{lawful-timed}
 use Rattle.slots.proofs.ShareLaws.{lent-long, set-unlawful, last-unlawful, expected-unlawful, set-lawful}
-use mathlib.Core.Bool.{not}
 use Rattle.slots.proofs.lawful.set_ok.Goals as goal
 
 pub test_set-k-requires : goal.test_set-k-requires
@@ -16,12 +15,12 @@ test_set-k-requires c = record { w_len = lent-long c.args.s.now c.requires.0; iv
 pub returns-then-not-k : goal.returns-then-not-k
 returns-then-not-k c =
     let s = c.args.s.now in
-    set-unlawful _ s _ (part_to_end s set_at) (sym c.test_set-k.ensures.right ∙ c.if-not-k.true)
+    set-unlawful _ s _ (part_to_end s set_at) (failed c.test_set-k.ensures.right c.if-not-k.true)
 
 pub last_fits-requires : goal.last_fits-requires
 last_fits-requires c =
     let k = c.test_set-k.ensures in
-    let on = (ap not c.if-not-k.false) in
+    let on = c.if-not-k.false in
     let g = held k.right on in
     record { summable = (lawful-summable _ _ (lent-long c.args.s.now c.requires.0) g, g); pairs_value = k.paired (held refl on) }
 
@@ -33,7 +32,7 @@ returns-then-not-last_fits c =
 pub durations_by-d-requires : goal.durations_by-d-requires
 durations_by-d-requires c =
     let k = c.test_set-k.ensures in
-    let on = (ap not c.if-not-k.false) in
+    let on = c.if-not-k.false in
     (lawful-timed _ _ (lent-long c.args.s.now c.requires.0) (held k.right on), k.summed (held refl on))
 
 pub bounds-w-0 : goal.bounds-w-0
@@ -46,11 +45,11 @@ returns-then-not-is_same c =
     (sym c.is_same.ensures ∙ c.if-not-is_same.true)
 
 pub sizes_agree-requires : goal.sizes_agree-requires
-sizes_agree-requires c = lawful-summable _ _ (lent-long c.args.s.now c.requires.0) (sym c.test_set-k.ensures.right ∙ c.if-not-k.false)
+sizes_agree-requires c = lawful-summable _ _ (lent-long c.args.s.now c.requires.0) (held c.test_set-k.ensures.right c.if-not-k.false)
 
 pub returns : goal.returns
 returns c =
     let s = c.args.s.now in
     set-lawful _ s _ (part_to_end s set_at) _ _ c.expected_of.ensures _ c.durations_by-d.ensures c.expected_by-e.ensures
-    (sym c.test_set-k.ensures.right ∙ c.if-not-k.false) (sym c.last_fits.ensures ∙ c.if-not-last_fits.false)
+    (held c.test_set-k.ensures.right c.if-not-k.false) (sym c.last_fits.ensures ∙ c.if-not-last_fits.false)
     (sym c.is_same.ensures ∙ c.if-not-is_same.false) _ c.sizes_agree.ensures
