@@ -1,7 +1,7 @@
 -- The set of moof fields from its parts: weighed, and written one after another. Assumes nothing.
 use Prim.Native.Nat.{ℕ, ◌+◌, ◌*◌, ◌≤◌}
 use native.Mathlib.Omega.{arith}
-use mathlib.Core.Path.{◌≡◌, sym, ◌∙◌, ap}
+use mathlib.Core.Path.{◌≡◌, refl, sym, ◌∙◌, ap}
 use mathlib.Core.Bool.{Bool, true, ◌&&◌}
 use mathlib.Core.List.{List}
 use lib.ListN.{length, get_or}
@@ -16,7 +16,7 @@ use Rattle.locmaf_write_block.specs.Changes.{chunk_lines, line_most}
 use Rattle.locmaf_write_block.specs.Fields.{before_bmdt, before_count, between, bmdt_items, count_items, field_items, all_at, KeptFields, set_most}
 use Rattle.locmaf_write_tuples.proofs.ItemLaws.{before-some, weighed-both, weighed-as}
 use Rattle.locmaf_write_tuples.proofs.AlikeLaws.{weighed-alike, parts-long, interleaved}
-use Rattle.locmaf_write_tuples.proofs.PutLaws.{Left, left-start, left-next}
+use Rattle.locmaf_write_tuples.proofs.PutLaws.{put-empty, Left, left-start, left-first, left-next}
 use Rattle.locmaf_write_block.proofs.LinesLaws.{three-parts}
 
 -- two weights as one
@@ -66,6 +66,11 @@ module _ (F : List Row) (t : Track) (delta follow : Bool) (r x : List ℕ) where
     pub before-low : Left F (field_items F t delta follow r x) l at (between F t delta follow r x 0 before_bmdt before later) l at
     unfolding field_items
     before-low = left-start F (field_items F t delta follow r x) l at fits room
+
+    -- where the lines have no bytes together, those before BMDT are written at once
+    pub low-written : {kept : List ℕ} → KeptFields F t delta follow r x kept → get_or kept all_at 0 ≡ 0
+        → Wrote l at (bytes_of F (between F t delta follow r x 0 before_bmdt)) l at
+    low-written k z = put-empty _ _ 0 refl (low-none k fits z) (left-first _ _ _ _ _ _ _ _ before-low).1
 
     module _ (m : List ℕ) (p : ℕ) (w : Wrote l at (bytes_of F (between F t delta follow r x 0 before_bmdt)) m p) where
       pub before-bmdt : Left F (field_items F t delta follow r x) l at later m p

@@ -2,47 +2,23 @@
 use native.Mathlib.Omega.{arith}
 use mathlib.Core.Path.{sym, ◌∙◌, ap₂, ap}
 use Rattle.laws.specs.Tests.{same}
-use Rattle.locmaf_write_block.proofs.FieldLaws.{measured-old, Field, chunk-field}
+use Rattle.locmaf_write_block.proofs.FieldLaws.{measured-old, chunk-field}
 use Rattle.locmaf_write_block.proofs.SentLaws.{new-room, news-lent, olds-lent}
 use Rattle.locmaf_write_block.proofs.ChangeLaws.{vanished, never, afresh, ivs-by, compared}
 use mathlib.Core.Bool.{not}
 use Rattle.locmaf_write_block.proofs.cells.change_of.Goals as goal
 
--- the field that the call is about
-the_field : (c : goal.After-shared_slice_known-2-1) → let a = c.args in Field c.requires.based.0 a.b a.r.now a.x.now a.l
-the_field c = let a = c.args in chunk-field c.requires.based.0 a.b a.r.now a.x.now a.l c.requires.based.1 c.requires.chunk_line
-
--- the field that the call is about
-the_field-2 : (c : goal.After-now-1) → let a = c.args in Field c.requires.based.0 a.b a.r.now a.x.now a.l
-the_field-2 c = let a = c.args in chunk-field c.requires.based.0 a.b a.r.now a.x.now a.l c.requires.based.1 c.requires.chunk_line
-
--- the field that the call is about
-the_field-3 : (c : goal.After-has_old-old) → let a = c.args in Field c.requires.based.0 a.b a.r.now a.x.now a.l
-the_field-3 c = let a = c.args in chunk-field c.requires.based.0 a.b a.r.now a.x.now a.l c.requires.based.1 c.requires.chunk_line
-
--- the field that the call is about
-the_field-4 : (c : goal.After-shared_slice_known-3-1-unread) → let a = c.args in Field c.requires.based.0 a.b a.r.now a.x.now a.l
-the_field-4 c = let a = c.args in chunk-field c.requires.based.0 a.b a.r.now a.x.now a.l c.requires.based.1 c.requires.chunk_line
-
--- the field that the call is about
-the_field-5 : (c : goal.After-old_length-u) → let a = c.args in Field c.requires.based.0 a.b a.r.now a.x.now a.l
-the_field-5 c = let a = c.args in chunk-field c.requires.based.0 a.b a.r.now a.x.now a.l c.requires.based.1 c.requires.chunk_line
-
--- the field that the call is about
-the_field-6 : (c : goal.After-same_list-arg-1) → let a = c.args in Field c.requires.based.0 a.b a.r.now a.x.now a.l
-the_field-6 c = let a = c.args in chunk-field c.requires.based.0 a.b a.r.now a.x.now a.l c.requires.based.1 c.requires.chunk_line
-
 pub overflow_add-from : goal.overflow_add-from
-overflow_add-from c = omega (arith, (the_field c).here)
+overflow_add-from c = let f = chunk-field c.requires.based.0 _ _ _ _ c.requires.based.1 c.requires.chunk_line in omega (arith, f.here)
 
 pub has_old-old-requires : goal.has_old-old-requires
-has_old-old-requires c = omega (arith, (the_field-2 c).there)
+has_old-old-requires c = let f = chunk-field c.requires.based.0 _ _ _ _ c.requires.based.1 c.requires.chunk_line in omega (arith, f.there)
 
 pub offset_bounds-x-place : goal.offset_bounds-x-place
-offset_bounds-x-place c = omega (arith, (the_field-3 c).here)
+offset_bounds-x-place c = let f = chunk-field c.requires.based.0 _ _ _ _ c.requires.based.1 c.requires.chunk_line in omega (arith, f.here)
 
 pub bounds-x-place : goal.bounds-x-place
-bounds-x-place c = omega (arith, (the_field-4 c).here)
+bounds-x-place c = let f = chunk-field c.requires.based.0 _ _ _ _ c.requires.based.1 c.requires.chunk_line in omega (arith, f.here)
 
 pub returns-then-old : goal.returns-then-old
 returns-then-old c = let a = c.args in λ t h. vanished t a.b.delta a.b.follow a.r.now a.x.now a.l _ c.has_old-old.ensures c.if-x-place-eq0.true c.if-old.true
@@ -69,13 +45,13 @@ pub old_length-u-requires : goal.old_length-u-requires
 old_length-u-requires c = record { chunk_line = c.requires.chunk_line; measured = measured-old c.requires.based.1 }
 
 pub length_of-k-requires : goal.length_of-k-requires
-length_of-k-requires c = (the_field-5 c).new
+length_of-k-requires c = let f = chunk-field c.requires.based.0 _ _ _ _ c.requires.based.1 c.requires.chunk_line in f.new
 
 pub overflow_add-from-3 : goal.overflow_add-from-3
-overflow_add-from-3 c = omega (arith, new-room (the_field-6 c) _ c.length_of-k.ensures)
+overflow_add-from-3 c = let f = chunk-field c.requires.based.0 _ _ _ _ c.requires.based.1 c.requires.chunk_line in omega (arith, new-room f _ c.length_of-k.ensures)
 
 pub slice_bounds-same_list-end-2 : goal.slice_bounds-same_list-end-2
-slice_bounds-same_list-end-2 c = omega (arith, new-room (the_field-6 c) _ c.length_of-k.ensures)
+slice_bounds-same_list-end-2 c = let f = chunk-field c.requires.based.0 _ _ _ _ c.requires.based.1 c.requires.chunk_line in omega (arith, new-room f _ c.length_of-k.ensures)
 
 pub returns-then-same_list : goal.returns-then-same_list
 returns-then-same_list c =

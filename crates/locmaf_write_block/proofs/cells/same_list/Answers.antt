@@ -1,4 +1,3 @@
-use Prim.Native.Nat.{◌-◌}
 use Rattle.locmaf_write_block.proofs.SameLoop.{differ, compare-start, compare-next, compare-end}
 use Rattle.locmaf_write_block.proofs.cells.same_list.Goals as goal
 

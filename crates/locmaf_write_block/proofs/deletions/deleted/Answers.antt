@@ -1,4 +1,3 @@
-use Prim.Native.Nat.{◌-◌}
 use mathlib.Core.Path.{sym, ◌∙◌}
 use borrow.Author.Tests.{not-true}
 use Rattle.locmaf_write_block.proofs.GoneLaws.{collect-full, collect-start, collect-end, collect-one, collect-none}
@@ -17,7 +16,7 @@ loop-i-preserved c =
     let lt = c.loop-i-test.true in
     let e = c.is_deleted.ensures in
     elim c.if-is_deleted.branch [
-        then-is_deleted w ↦ collect-one _ _ _ _ _ _ _ h lt (λ t. sym w.if-is_deleted.true ∙ e t) _ w.id_at.ensures _ w.ids-is _ w.n-is
+      | then-is_deleted w ↦ collect-one _ _ _ _ _ _ _ h lt (λ t. sym w.if-is_deleted.true ∙ e t) _ w.id_at.ensures _ w.ids-is _ w.n-is
       | else-is_deleted w ↦ collect-none _ _ _ _ _ _ _ h lt (λ t. sym w.if-is_deleted.false ∙ e t) _ w.ids-is _ w.n-is
     ]
 

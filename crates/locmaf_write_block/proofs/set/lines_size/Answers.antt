@@ -1,5 +1,4 @@
 use native.Mathlib.Omega.{arith}
-use Prim.Native.Nat.{◌-◌}
 use Rattle.locmaf_write_block.proofs.LinesLaws.{weigh-start, weigh-end, weigh-room, weigh-next}
 use Rattle.locmaf_write_block.proofs.set.lines_size.Goals as goal
 

@@ -1,5 +1,4 @@
 use native.Mathlib.Omega.{arith}
-use Prim.Native.Nat.{◌-◌}
 use Rattle.locmaf_write_block.proofs.LinesLaws.{put-start, put-end, put_first, put_next}
 use Rattle.locmaf_write_block.proofs.set.put_lines.Goals as goal
 
