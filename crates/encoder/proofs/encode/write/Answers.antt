@@ -31,8 +31,8 @@ renew-requires c =
     let summable = lawful-summable _ _ e.set_long e.lawful-set in
     let track = (opened-facts Encoder _ o.lawful-share o.opened).track in
     let h =
-        renewable c.args.s.now o.share _ _ _ c.args.x.now _ _ c.keep.ensures e.set_long timed summable e.sized
-        track _ o.track-is e.lawful-set in
+    renewable c.args.s.now o.share _ _ _ c.args.x.now _ _ c.keep.ensures e.set_long timed summable e.sized
+    track _ o.track-is e.lawful-set in
     record { s_len = h.0; summable = h.1.0; s_value = h.1.1 }
 
 pub returns : goal.returns

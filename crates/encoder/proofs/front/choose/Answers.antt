@@ -48,10 +48,10 @@ returns c =
     let p = c.block_size-f.ensures in (
       λ o h.
           let none : gives_delta (rows a.form) a.s.now o a.wish ≡ false =
-              elim c.if-may_delta.branch [
-                  then-may_delta+else-d w ↦ gives-not-can _ _ _ _ (w.block_size-d.ensures.0 o h) w.if-d.false
-                | else-may_delta w ↦ gives-not-may _ _ _ _ (may-so _ h c.may_delta.ensures ∙ w.if-may_delta.false)
-              ] in
+          elim c.if-may_delta.branch [
+            | then-may_delta+else-d w ↦ gives-not-can _ _ _ _ (w.block_size-d.ensures.0 o h) w.if-d.false
+            | else-may_delta w ↦ gives-not-may _ _ _ _ (may-so _ h c.may_delta.ensures ∙ w.if-may_delta.false)
+          ] in
           planned-full _ _ _ _ (bmdt-small h) none (p.0 o h),
       λ payload. refl,
       p.1,

@@ -19,8 +19,8 @@ put_set-u-requires c =
     let n = c.requires in
     let b = c.basis_of-b.ensures in
     let h =
-        left-first _ _ _ _ _ _ _ _
-        (before-set n.encodable c.args.delta n.held.1 b c.args.out.now _ (n.delta_value, n.room_for)) in
+    left-first _ _ _ _ _ _ _ _
+    (before-set n.encodable c.args.delta n.held.1 b c.args.out.now _ (n.delta_value, n.room_for)) in
     record {
       based = (basis-own (writable n.encodable _ n.held.0) b, expected-is n.encodable c.expected_of.ensures);
       kept_fields = (kept-lent c.args.s.now b n.kept).fields;
@@ -33,8 +33,8 @@ put_outside-v-requires c =
     let n = c.requires in
     let e = n.encodable in
     let h =
-        left-first _ _ _ _ _ _ _ _
-        (before-outside e c.args.delta n.held.1 c.basis_of-b.ensures c.args.out.now _ (n.delta_value, n.room_for) c.put_set-u.ensures) in
+    left-first _ _ _ _ _ _ _ _
+    (before-outside e c.args.delta n.held.1 c.basis_of-b.ensures c.args.out.now _ (n.delta_value, n.room_for) c.put_set-u.ensures) in
     record {
       s_len = e.on-share.share;
       brand_bytes = (e.brand-bytes, brands-inside e);
