@@ -31,7 +31,7 @@ use Rattle.cmaf_read_chunk.specs.Accepted.{bmdt, prft, brands, boxes, payload, f
 use Rattle.encoder.specs.Encode.{kept, encoding}
 use Rattle.cmaf_read_chunk.proofs.ChunkFacts.{fields-bmdt}
 use Rattle.encoder.proofs.EncodeLaws.{iv-right}
-use Rattle.encoder.proofs.Theorems.{Passed, bmdt-small, set-kept, last_fits, prft-kept}
+use Rattle.encoder.proofs.Theorems.{Passed, bmdt-small, set-kept, last-fits, prft-kept}
 use Rattle.counters.specs.Protected.{last_protected, last_fits}
 use Rattle.receiver.specs.Receive.{held_ok, sequence, chunk, accepted, done}
 use Rattle.meaning.specs.Meaning.{meaning_of, unbranded}
@@ -158,7 +158,7 @@ module _ (p : Send) (s s' room : List ℕ) (pair : Paired s s') (low : all_le 25
       let good : set_ok (track_of s') (fields t c) ≡ true =
       rw (← same-track s s' pair.beside.parameters) (set-kept F p.wish c p.room s pair.beside.encoder-long ok low) in
       let kept : last_fits (track_of s') (fields t c) (last_protected (track_of s') (fields t c) (length (payload c))) ≡ true =
-      rw (← same-track s s' pair.beside.parameters) (last_fits F p.wish c p.room s pair.beside.encoder-long ok low) in
+      rw (← same-track s s' pair.beside.parameters) (last-fits F p.wish c p.room s pair.beside.encoder-long ok low) in
       rw (back.kind, back.time, back.set, back.rest)
       (accepted-lawful s' pair.beside.receiver-long (is_delta p s) n (prft c) (fields t c) (length (payload c)) Receiver (also-open p s s' pair low h) f
       (le-leb n 0xffff_ffff (omega (arith, few))) (λ e. (held-facts (track_of s') s' f.reference (held-too e)).0)

@@ -157,8 +157,8 @@ module _ (F : List Row) (wish : Bool) (c output s : List ℕ) (l : length s ≡ 
       both _ _ (chunk-lawful F (track_of s) c b iv h.accepted small) (chunk-agrees F (track_of s) c b iv h.accepted small)
 
   -- and its last sample's protected bytes can be kept
-  pub last_fits : all_le 255 c ≡ true → last_fits (track_of s) (fields (track_of s) c) (last_protected (track_of s) (fields (track_of s) c) (length (payload c))) ≡ true
-  last_fits b =
+  pub last-fits : all_le 255 c ≡ true → last_fits (track_of s) (fields (track_of s) c) (last_protected (track_of s) (fields (track_of s) c) (length (payload c))) ≡ true
+  last-fits b =
       let iv = iv-right s opened.track in
       let z = chunk-sizes F (track_of s) c b iv h.accepted in
       last-kept (track_of s) (fields (track_of s) c) set_long (chunk-lawful F (track_of s) c b iv h.accepted (bmdt-small F s c wish h.fits)) (length (payload c)) z.1 z.0
@@ -172,7 +172,7 @@ module _ (F : List Row) (wish : Bool) (c output s : List ℕ) (l : length s ≡ 
   unfolding kept
   done-lawful m b =
       accepted-lawful s l (gives_delta F s c wish) (get_or s accepted_at 0) (prft c) (fields (track_of s) c) (length (payload c)) Encoder h.opened opened opened.accepted
-      (λ d. (held-facts (track_of s) s opened.reference (delta-held F s c wish d)).0) (prft-kept m b) (last_fits b) (set-kept b)
+      (λ d. (held-facts (track_of s) s opened.reference (delta-held F s c wish d)).0) (prft-kept m b) (last-fits b) (set-kept b)
 
 -- a share's length stays, whatever the chunk's bytes are
 pub encode-keeps : (F : List Row) (wish : Bool) (c output : List ℕ) → Keeps (encoding F wish c output)

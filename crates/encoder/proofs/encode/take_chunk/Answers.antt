@@ -1,7 +1,7 @@
 -- `encoder::encode::take_chunk` meets its contract: what was read is handed on.
-use Prim.Native.Nat.{ℕ, ◌-◌}
+use Prim.Native.Nat.{ℕ, ◌+◌, ◌-◌}
 use native.Mathlib.Omega.{arith}
-use mathlib.Core.Path.{refl, sym, subst}
+use mathlib.Core.Path.{◌≡◌, refl, sym, subst}
 use mathlib.Core.List.{List}
 use borrow.Author.Rules.{part_to_end}
 use lib.ListN.{length, take, drop, length-take, length-drop}
@@ -13,31 +13,26 @@ use Rattle.laws.proofs.HalvesLaws.{front_long}
 use Rattle.encoder.proofs.EncodeLaws.{iv-small}
 use Rattle.encoder.proofs.encode.take_chunk.Goals as goal
 
-abbrev words : goal.After-take_read-arg-1 → List ℕ
-words c = c.read_chunk-k.last.1.1.1.0
-
-abbrev words-2 : goal.After-take_read-arg-3-1 → List ℕ
-words-2 c = c.read_chunk-k.last.1.1.1.0
-
--- the chunk is read, by the words as `take_read` is lent them
-read : (c : goal.After-take_read-arg-3-1) → let a = c.args in
-    ReadAs (rows a.form) a.t a.c.now c.read_chunk-k.result (take events_len (words-2 c)) (take (length (words-2 c) - events_len) (drop events_len (words-2 c)))
-read c =
-    let a = c.args in
-    subst (λ (x : List ℕ). ReadAs (rows a.form) a.t a.c.now c.read_chunk-k.result (take events_len (words-2 c)) x)
-    (sym (part_to_end (words-2 c) events_len)) c.read_chunk-k.ensures
-
 pub read_chunk-k-requires : goal.read_chunk-k-requires
-read_chunk-k-requires c = record { iv_size_bound = iv-small _ c.args.wish _ c.args.output.now _ _ c.requires; words_value = refl }
+read_chunk-k-requires c =
+    record { iv_size_bound = iv-small _ c.args.wish _ c.args.output.now _ _ c.requires; words_value = refl }
 
 pub slice_bounds-take_read-end : goal.slice_bounds-take_read-end
-slice_bounds-take_read-end c = sym (front_long events_len set_len (words c) c.words-2-1.given)
+slice_bounds-take_read-end c = sym (front_long events_len set_len c.read_chunk-k.new.words c.read_chunk-k.auto.words)
 
+-- the chunk is read, by the words as `take_read` is lent them
 pub take_read-requires : goal.take_read-requires
 take_read-requires c =
-    let w = words-2 c in
-    let l = c.words-2-1.given in
-    record { on_share = c.requires; read_as = read c; x_len = omega (arith, length-take (length w - events_len) (drop events_len w), length-drop events_len w, l) }
+    let a = c.args in
+    let w = c.read_chunk-k.new.words in
+    let l : length w ≡ events_len + set_len = c.read_chunk-k.auto.words in
+    record {
+      on_share = c.requires;
+      read_as =
+          subst (λ (x : List ℕ). ReadAs (rows a.form) a.t a.c.now c.read_chunk-k.result (take events_len w) x)
+          (sym (part_to_end w events_len)) c.read_chunk-k.ensures;
+      x_len = omega (arith, length-take (length w - events_len) (drop events_len w), length-drop events_len w, l);
+    }
 
 pub returns : goal.returns
 returns c = c.take_read.ensures

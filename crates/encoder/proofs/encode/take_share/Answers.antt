@@ -1,4 +1,3 @@
--- TURN: f.take_Chunk.ensures: no step take_Chunk at After_take_chunk
 -- `encoder::encode::take_share` meets its contract, by the laws of `proofs/EncodeLaws.antt`.
 use Rattle.wire.specs.Form.{rows}
 use Rattle.answers.proofs.AnsweredLaws.{refused_as, answered-on}
@@ -35,6 +34,6 @@ take_chunk-requires c =
 pub returns : goal.returns
 returns c =
     let a = c.args in
-    answered-on f.take_Chunk.ensures
+    answered-on c.take_chunk.ensures
     (share-open (rows a.form) a.wish a.c.now a.output.now a.s.now
     (sym c.is_lawful.ensures ∙ c.if-not-is_lawful.false) c.if-s-eq0.false)

@@ -10,7 +10,9 @@ use borrow.Author.Rules.{rules}
 use Rattle.encoder.proofs.encode.write.Goals as goal
 
 pub put_front-n-requires : goal.put_front-n-requires
-put_front-n-requires c = record { encodable = c.requires.encodable; sendable = c.requires.sendable; leaves = c.requires.leaves; kept = c.requires.kept; delta_in_bounds = c.requires.delta_in_bounds }
+put_front-n-requires c =
+    let n = c.requires in
+    record { encodable = n.encodable; sendable = n.sendable; leaves = n.leaves; kept = n.kept; delta_in_bounds = n.delta_in_bounds }
 
 pub bounds-s-8 : goal.bounds-s-8
 bounds-s-8 c = search rules
@@ -24,10 +26,14 @@ keep-requires c =
 pub renew-requires : goal.renew-requires
 renew-requires c =
     let e = c.requires.encodable in
-    let q = c.keep.ensures in record { s_len = (renewable c.args.s.now e.on-share.share _ _ _ c.args.x.now _ _ q e.set_long (lawful-timed _ _ e.set_long e.lawful-set) (lawful-summable _ _ e.set_long e.lawful-set) e.sized
-    (opened-facts Encoder _ e.on-share.lawful-share e.on-share.opened).track _ e.on-share.track-is e.lawful-set).0; summable = (renewable c.args.s.now e.on-share.share _ _ _ c.args.x.now _ _ q e.set_long (lawful-timed _ _ e.set_long e.lawful-set) (lawful-summable _ _ e.set_long e.lawful-set) e.sized
-    (opened-facts Encoder _ e.on-share.lawful-share e.on-share.opened).track _ e.on-share.track-is e.lawful-set).1.0; s_value = (renewable c.args.s.now e.on-share.share _ _ _ c.args.x.now _ _ q e.set_long (lawful-timed _ _ e.set_long e.lawful-set) (lawful-summable _ _ e.set_long e.lawful-set) e.sized
-    (opened-facts Encoder _ e.on-share.lawful-share e.on-share.opened).track _ e.on-share.track-is e.lawful-set).1.1 }
+    let o = e.on-share in
+    let timed = lawful-timed _ _ e.set_long e.lawful-set in
+    let summable = lawful-summable _ _ e.set_long e.lawful-set in
+    let track = (opened-facts Encoder _ o.lawful-share o.opened).track in
+    let h =
+        renewable c.args.s.now o.share _ _ _ c.args.x.now _ _ c.keep.ensures e.set_long timed summable e.sized
+        track _ o.track-is e.lawful-set in
+    record { s_len = h.0; summable = h.1.0; s_value = h.1.1 }
 
 pub returns : goal.returns
 returns c =

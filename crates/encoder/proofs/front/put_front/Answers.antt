@@ -55,7 +55,13 @@ put-p-requires c = parts-room (parts_then (begun-2 c) c.put-h.ensures)
 pub put_block-requires : goal.put_block-requires
 put_block-requires c =
     let p = c.requires.sendable in
-    record { encodable = c.requires.encodable; held = (p.held, c.requires.leaves); kept = c.requires.kept; delta_value = p.all-fit; room_for = parts-room (parts_then (parts_then (begun-3 c) c.put-h.ensures) c.put-p.ensures) }
+    record {
+      encodable = c.requires.encodable;
+      held = (p.held, c.requires.leaves);
+      kept = c.requires.kept;
+      delta_value = p.all-fit;
+      room_for = parts-room (parts_then (parts_then (begun-3 c) c.put-h.ensures) c.put-p.ensures);
+    }
 
 pub returns : goal.returns
 returns c = parts_none (parts_then (parts_then (parts_then (begun-4 c) c.put-h.ensures) c.put-p.ensures) c.put_block.ensures)

@@ -47,7 +47,11 @@ put_head-a-requires c = parts-room (begun c)
 pub put_records-requires : goal.put_records-requires
 put_records-requires c =
     let h = c.requires.recorded in
-    let f = c.args.form in record { all_words = (h.words, h.inside); k_value = times-fit f h c.if-count-eq0.false c.requires.count_value; k_in_bounds = parts-room (parts_then (begun-2 c) c.put_head-a.ensures) }
+    record {
+      all_words = (h.words, h.inside);
+      k_value = times-fit c.args.form h c.if-count-eq0.false c.requires.count_value;
+      k_in_bounds = parts-room (parts_then (begun-2 c) c.put_head-a.ensures);
+    }
 
 pub returns : goal.returns
 returns c = parts_none (parts_then (parts_then (begun-3 c) c.put_head-a.ensures) c.put_records.ensures)

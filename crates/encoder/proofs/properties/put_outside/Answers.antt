@@ -4,12 +4,15 @@ use Rattle.encoder.proofs.BlockLaws.{before-times, before-version, before-brands
 use Rattle.encoder.proofs.properties.put_outside.Goals as goal
 
 pub put_times-u-requires : goal.put_times-u-requires
-put_times-u-requires c = record { s_len = c.requires.s_len; p_value = (left-first _ _ _ _ _ _ _ _ (before-times _ _ _ _ _ c.args.k _ _ c.args.out.now _ (c.requires.ws_value, c.requires.room_for))).0; room_for = (left-first _ _ _ _ _ _ _ _ (before-times _ _ _ _ _ c.args.k _ _ c.args.out.now _ (c.requires.ws_value, c.requires.room_for))).1 }
+put_times-u-requires c =
+    let h = left-first _ _ _ _ _ _ _ _ (before-times _ _ _ _ _ c.args.k _ _ c.args.out.now _ (c.requires.ws_value, c.requires.room_for)) in
+    record { s_len = c.requires.s_len; p_value = h.0; room_for = h.1 }
 
 pub put_version-v-requires : goal.put_version-v-requires
 put_version-v-requires c =
     let h = before-version _ _ _ _ _ c.args.k _ _ c.args.out.now _ (c.requires.ws_value, c.requires.room_for) c.put_times-u.ensures in
-    record { s_len = c.requires.s_len; p_value = (left-first _ _ _ _ _ _ _ _ h).0; room_for = (left-first _ _ _ _ _ _ _ _ h).1 }
+    let k = left-first _ _ _ _ _ _ _ _ h in
+    record { s_len = c.requires.s_len; p_value = k.0; room_for = k.1 }
 
 pub put_brands-w-requires : goal.put_brands-w-requires
 put_brands-w-requires c =
@@ -20,7 +23,8 @@ pub put_flags-y-requires : goal.put_flags-y-requires
 put_flags-y-requires c =
     let h = before-flags _ _ _ _ _ c.args.k _ _ c.args.out.now _ (c.requires.ws_value, c.requires.room_for)
     c.put_times-u.ensures c.put_version-v.ensures c.put_brands-w.ensures in
-    record { s_len = c.requires.s_len; p_value = (left-first _ _ _ _ _ _ _ _ h).0; room_for = (left-first _ _ _ _ _ _ _ _ h).1 }
+    let k = left-first _ _ _ _ _ _ _ _ h in
+    record { s_len = c.requires.s_len; p_value = k.0; room_for = k.1 }
 
 pub put_events-requires : goal.put_events-requires
 put_events-requires c =

@@ -1,4 +1,3 @@
-use Prim.Native.Nat.{◌-◌}
 use Rattle.laws.proofs.LeftLaws.{left-same}
 use mathlib.Core.Path.{ap}
 use borrow.Author.Rules.{rules}

@@ -9,8 +9,7 @@ overflow_add-result c = omega (arith, c.size.ensures, size-eight c.args.form c.a
 
 pub returns : goal.returns
 unfolding text_bytes
-returns c =
-    (
+returns c = (
   omega (arith, c.size.ensures),
   omega (arith, c.size.ensures, size-eight c.args.form c.args.n, c.requires),
 )
