@@ -3,13 +3,16 @@
 // implementation of the rules.
 #![tactic(auto)]
 
+use std::io;
+
 mod results; // results.rt: what a command on a table answers
 mod chunks; // chunks.rt: what an encoder answers to a chunk
+mod input; // input.rt: the program's input
 mod objects; // objects.rt: what a receiver answers to an object
 mod parts; // parts.rt: the parts of the input, and the commands of each
 
-fn main() {
-    let mut input = [0u8; 1048576];
-    let n = io::read_full(libc::STDIN_FILENO, &mut input);
-    parts::run_all(&input[..n]);
+fn main(rt: HostRuntime) -> io::Result<()> {
+    let mut bytes = [0u8; 1048576];
+    let n = input::read_full(&mut rt.stdin(), &mut bytes)?;
+    parts::run_all(&rt, &bytes[..n])
 }

@@ -1,19 +1,20 @@
 // Bytes in hexadecimal.
-// Letters: `s` bytes that are read.
-use libc::STDOUT_FILENO;
+// Letters: `rt` what prints, `s` bytes that are read.
+use std::io;
 
 fn wide(b: u8) -> u64 {
     b as u64
 }
 
 // The bytes from one place to another, two digits each; none where there aren't so many.
-pub fn hex(s: &[u8], from: usize, to: usize) {
+pub fn hex<R: Print>(rt: &R, s: &[u8], from: usize, to: usize) -> io::Result<()> {
     if s.len() < to {
-        return;
+        return Ok(());
     }
     let mut i = from;
     while i < to {
-        io::print_hex(STDOUT_FILENO, wide(s[i]), 2);
+        print!(rt; "{:02x}", wide(s[i]))?;
         i += 1;
     }
+    Ok(())
 }

@@ -1,25 +1,26 @@
 // Letters, words and texts.
-// Letters: `b` a byte, `w` a word.
-use libc::STDOUT_FILENO;
+// Letters: `rt` what prints, `b` a byte, `w` a word.
+use std::io;
 
-pub fn letter(b: u8) {
-    io::write_all(STDOUT_FILENO, &[b]);
+pub fn letter<R: Print>(rt: &R, b: u8) -> io::Result<()> {
+    rt.write_all(&[b])
 }
 
-pub fn say(text: &[u8]) {
-    io::write_all(STDOUT_FILENO, text);
+pub fn say<R: Print>(rt: &R, text: &[u8]) -> io::Result<()> {
+    rt.write_all(text)
 }
 
 // The letters of a word that stands in a number: up to eight, so that the bytes before the first are 0. A number is cheaper to pass on than an array of text.
-pub fn word(w: u64) {
+pub fn word<R: Print>(rt: &R, w: u64) -> io::Result<()> {
     let mut rest = w;
     let mut k: u64 = 0;
     while k < 8 {
         let b = (rest / 0x100_0000_0000_0000 % 256) as u8;
         if b != 0 {
-            letter(b);
+            letter(rt, b)?;
         }
         rest = rest % 0x100_0000_0000_0000 * 0x100;
         k += 1;
     }
+    Ok(())
 }

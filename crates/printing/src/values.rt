@@ -1,52 +1,59 @@
 // Numbers in decimal: alone, behind a letter, a word or a text, and in columns.
-// Letters: `v` a number, `w` a word.
+// Letters: `rt` what prints, `v` a number, `w` a word.
 use crate::letters::{letter, say, word};
-use libc::STDOUT_FILENO;
+use std::io;
 
-pub fn number(v: u64) {
-    io::print_decimal(STDOUT_FILENO, v);
+pub fn number<R: Print>(rt: &R, v: u64) -> io::Result<()> {
+    rt.print(v)
 }
 
 // A number that is all of its line.
-pub fn line(v: u64) {
-    number(v);
-    letter(b'\n')
+pub fn line<R: Print>(rt: &R, v: u64) -> io::Result<()> {
+    number(rt, v)?;
+    letter(rt, b'\n')
 }
 
 // A number that more comes after.
-pub fn item(v: u64) {
-    number(v);
-    letter(b' ')
+pub fn item<R: Print>(rt: &R, v: u64) -> io::Result<()> {
+    number(rt, v)?;
+    letter(rt, b' ')
 }
 
-pub fn marked(mark: u8, v: u64) {
-    letter(mark);
-    number(v)
+pub fn marked<R: Print>(rt: &R, mark: u8, v: u64) -> io::Result<()> {
+    letter(rt, mark)?;
+    number(rt, v)
 }
 
-pub fn worded(w: u64, v: u64) {
-    word(w);
-    number(v)
+pub fn worded<R: Print>(rt: &R, w: u64, v: u64) -> io::Result<()> {
+    word(rt, w)?;
+    number(rt, v)
 }
 
-pub fn named(name: &[u8], v: u64) {
-    say(name);
-    number(v)
+pub fn named<R: Print>(rt: &R, name: &[u8], v: u64) -> io::Result<()> {
+    say(rt, name)?;
+    number(rt, v)
 }
 
 // Blanks from one place to another.
-fn blanks(from: usize, to: usize) {
+fn blanks<R: Print>(rt: &R, from: usize, to: usize) -> io::Result<()> {
     let mut i = from;
     while i < to {
-        letter(b' ');
+        letter(rt, b' ')?;
         i += 1;
+    }
+    Ok(())
+}
+
+// How many digits a number has.
+fn digits(v: u64) -> usize {
+    match v.checked_ilog10() {
+        Some(most) => most as usize + 1,
+        None => 1,
     }
 }
 
 // A number at the right of a column.
-pub fn column(v: u64, width: usize) {
-    let mut text = [0u8; 20];
-    let k = io::decimal(v, &mut text);
-    blanks(k, width);
-    say(&text[..k])
+pub fn column<R: Print>(rt: &R, v: u64, width: usize) -> io::Result<()> {
+    blanks(rt, digits(v), width)?;
+    number(rt, v)
 }

@@ -4,6 +4,7 @@ use crate::text::{item, start};
 use printing::marked;
 use share_words::share::{SHARE, TABLE};
 use slots::lawful::Side;
+use std::io;
 
 // The words that are lent: a table's, and one more.
 pub const WORDS: usize = TABLE + 1;
@@ -48,39 +49,55 @@ pub fn ask(
 }
 
 // The words that are not 0, up to the end of a slot's share.
-fn left(t: &[u64; WORDS], slot: u64) {
+fn left<R: Print>(rt: &R, t: &[u64; WORDS], slot: u64) -> io::Result<()> {
     let mut i = 0;
     while i < WORDS {
         let v = t[i];
         if v != 0 {
             if (i / SHARE) as u64 <= slot {
-                marked(b' ', i as u64);
-                marked(b'=', v);
+                marked(rt, b' ', i as u64)?;
+                marked(rt, b'=', v)?;
             }
         }
         i += 1;
     }
+    Ok(())
 }
 
 // A call, its answer, and what is left where it is done. The letter b opens with flags that no track has: it stores nothing, and its number
 // says what the share is: 18 where it is unlawful, 3 where it is open, 4 where it is closed.
-fn turn(side: Side, t: &mut [u64; WORDS], words: usize, call: u8, slot: u64) {
+fn turn<R: Print>(
+    rt: &R,
+    side: Side,
+    t: &mut [u64; WORDS],
+    words: usize,
+    call: u8,
+    slot: u64,
+) -> io::Result<()> {
     let flags = if call == b'b' { 32 } else { 31 };
     let r = ask(side, t, words, call, slot, 0, 5, flags);
-    item(call, r);
+    item(rt, call, r)?;
     if r == 0 {
-        left(t, slot);
+        left(rt, t, slot)?;
     }
+    Ok(())
 }
 
 // Eight calls on a slot of the first words; then how many words there are, and what is left.
-pub fn turns(side: Side, t: &mut [u64; WORDS], words: usize, calls: &[u8; 8], slot: u64) {
-    start(side, slot);
+pub fn turns<R: Print>(
+    rt: &R,
+    side: Side,
+    t: &mut [u64; WORDS],
+    words: usize,
+    calls: &[u8; 8],
+    slot: u64,
+) -> io::Result<()> {
+    start(rt, side, slot)?;
     let mut i = 0;
     while i < 8 {
-        turn(side, t, words, calls[i], slot);
+        turn(rt, side, t, words, calls[i], slot)?;
         i += 1;
     }
-    item(b'w', words as u64);
-    left(t, slot);
+    item(rt, b'w', words as u64)?;
+    left(rt, t, slot)
 }

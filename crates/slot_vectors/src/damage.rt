@@ -4,6 +4,7 @@ use crate::text::{item, start};
 use printing::marked;
 use share_words::share::{EXPECTED, SHARE, TABLE};
 use slots::lawful::Side;
+use std::io;
 
 // The values that are tried at every word.
 const VALUES: [u64; 23] = [
@@ -60,14 +61,14 @@ fn moved(side: Side, t: &mut [u64; WORDS], at: usize, v: u64) -> u64 {
 
 // The answers where each word in turn is v, a line for each share: 18 at first, and every other number at the word from which on it is given. By the
 // letter m what is expected moves with the word.
-fn sweep(side: Side, t: &mut [u64; WORDS], letter: u8, v: u64) {
+fn sweep<R: Print>(rt: &R, side: Side, t: &mut [u64; WORDS], letter: u8, v: u64) -> io::Result<()> {
     let mut was = 18;
     let mut at = 0;
     while at < TABLE {
         let i = (at % SHARE) as u64;
         if i == 0 {
-            start(side, (at / SHARE) as u64);
-            item(letter, v);
+            start(rt, side, (at / SHARE) as u64)?;
+            item(rt, letter, v)?;
             was = 18;
         }
         let r = if letter == b'm' {
@@ -76,27 +77,29 @@ fn sweep(side: Side, t: &mut [u64; WORDS], letter: u8, v: u64) {
             damaged(side, t, at, v)
         };
         if r != was {
-            marked(b' ', i);
-            marked(b'=', r);
+            marked(rt, b' ', i)?;
+            marked(rt, b'=', r)?;
         }
         was = r;
         at += 1;
     }
+    Ok(())
 }
 
 // Every value at every word, alone and with what is expected; then calls on every slot.
-pub fn print(side: Side) {
+pub fn print<R: Print>(rt: &R, side: Side) -> io::Result<()> {
     let mut t = [0u64; WORDS];
     crate::shares::table(side, &mut t);
     let mut k = 0;
     while k < 23 {
-        sweep(side, &mut t, b'v', VALUES[k]);
-        sweep(side, &mut t, b'm', VALUES[k]);
+        sweep(rt, side, &mut t, b'v', VALUES[k])?;
+        sweep(rt, side, &mut t, b'm', VALUES[k])?;
         k += 1;
     }
     let mut slot: u64 = 0;
     while slot < 8 {
-        turns(side, &mut t, TABLE, b"bggcgobg", slot);
+        turns(rt, side, &mut t, TABLE, b"bggcgobg", slot)?;
         slot += 1;
     }
+    Ok(())
 }

@@ -5,48 +5,50 @@ use crate::text::{item, start};
 use printing::marked;
 use share_words::share::TABLE;
 use slots::lawful::Side;
+use std::io;
 
 const TOP: u64 = 0xffff_ffff_ffff_ffff;
 
 // The slots and those past them, beside an unlawful share; the parameters in turn without protection, and the IV size with the other schemes
 // and with one that is none; then a fresh slot 4, and tables of a wrong length.
-pub fn print(side: Side) {
+pub fn print<R: Print>(rt: &R, side: Side) -> io::Result<()> {
     let mut i: u64 = 0;
     while i < 11 {
-        on_slot(side, TABLE, i, i);
+        on_slot(rt, side, TABLE, i, i)?;
         if i < 8 {
-            opens(side, 0, i);
+            opens(rt, side, 0, i)?;
         } else {
-            opens(side, i - 7, 7);
+            opens(rt, side, i - 7, 7)?;
         }
         i += 1;
     }
-    on_slot(side, TABLE, 4, 0);
-    on_slot(side, TABLE, TOP, 0);
-    on_slot(side, TABLE - 1, 8, 1);
-    on_slot(side, TABLE + 1, 4, 1);
-    on_slot(side, TABLE + 1, TOP, 0);
+    on_slot(rt, side, TABLE, 4, 0)?;
+    on_slot(rt, side, TABLE, TOP, 0)?;
+    on_slot(rt, side, TABLE - 1, 8, 1)?;
+    on_slot(rt, side, TABLE + 1, 4, 1)?;
+    on_slot(rt, side, TABLE + 1, TOP, 0)
 }
 
 // Calls on a slot, where a word in the share of slot 4 is v.
-fn on_slot(side: Side, words: usize, slot: u64, v: u64) {
+fn on_slot<R: Print>(rt: &R, side: Side, words: usize, slot: u64, v: u64) -> io::Result<()> {
     let mut t = [0u64; WORDS];
     t[4000] = v;
-    turns(side, &mut t, words, b"cgbobogc", slot);
+    turns(rt, side, &mut t, words, b"cgbobogc", slot)
 }
 
 // Opens with a scheme of protection, whose parameter k has each of ten values.
-fn opens(side: Side, scheme: u64, k: u64) {
-    start(side, 5);
-    item(b's', scheme);
-    item(b'p', k);
+fn opens<R: Print>(rt: &R, side: Side, scheme: u64, k: u64) -> io::Result<()> {
+    start(rt, side, 5)?;
+    item(rt, b's', scheme)?;
+    item(rt, b'p', k)?;
     let values = [0, 1, 7, 8, 16, 31, 32, 0xffff_ffff, 0x1_0000_0000, TOP];
     let mut j = 0;
     while j < 10 {
         let mut t = [0u64; WORDS];
         let v = values[j];
-        marked(b' ', v);
-        marked(b'=', ask(side, &mut t, TABLE, b'o', 5, scheme, k, v));
+        marked(rt, b' ', v)?;
+        marked(rt, b'=', ask(side, &mut t, TABLE, b'o', 5, scheme, k, v))?;
         j += 1;
     }
+    Ok(())
 }

@@ -3,6 +3,7 @@
 #![tactic(auto)]
 
 use slots::lawful::Side;
+use std::io;
 
 mod calls; // calls.rt: calls on the table, and what is printed of them
 mod damage; // damage.rt: shares of which one word is damaged
@@ -10,10 +11,10 @@ mod fresh; // fresh.rt: calls on a fresh table
 mod shares; // shares.rt: lawful shares, filled by hand
 mod text; // text.rt: how lines begin, and what stands in them
 
-fn main() {
-    fresh::print(Side::Encoder);
-    fresh::print(Side::Receiver);
-    damage::print(Side::Encoder);
-    damage::print(Side::Receiver);
-    printing::letter(b'\n');
+fn main(rt: HostRuntime) -> io::Result<()> {
+    fresh::print(&rt, Side::Encoder)?;
+    fresh::print(&rt, Side::Receiver)?;
+    damage::print(&rt, Side::Encoder)?;
+    damage::print(&rt, Side::Receiver)?;
+    printing::letter(&rt, b'\n')
 }

@@ -3,89 +3,92 @@ use crate::powers::{P30, P62, TOP};
 use crate::text;
 use crate::text::hex;
 use printing::{word, worded};
+use std::io;
 use wire::form::Form;
 use wire::varint::Got;
 
-fn got(g: Got) {
+fn got<R: Print>(rt: &R, g: Got) -> io::Result<()> {
     match g {
         Got::Value(v, next) => {
-            worded(text::READS, v);
-            worded(text::NEXT, next as u64);
+            worded(rt, text::READS, v)?;
+            worded(rt, text::NEXT, next as u64)
         }
-        Got::Cut => word(text::CUT),
+        Got::Cut => word(rt, text::CUT),
     }
 }
 
 // What is read from the place `from` up to the last end, and up to each end before that.
-fn ends(s: &[u8; 16], from: usize, last: usize) {
-    got(wire::varint::read(Form::Rfc9000, s, from, last));
+fn ends<R: Print>(rt: &R, s: &[u8; 16], from: usize, last: usize) -> io::Result<()> {
+    got(rt, wire::varint::read(Form::Rfc9000, s, from, last))?;
     let mut e = from;
     while e < last {
-        worded(text::END, e as u64);
-        got(wire::varint::read(Form::Rfc9000, s, from, e));
+        worded(rt, text::END, e as u64)?;
+        got(rt, wire::varint::read(Form::Rfc9000, s, from, e))?;
         e += 1;
     }
-    word(text::LINE);
+    word(rt, text::LINE)
 }
 
 // The number v written at a place, which counts up to 8, where the longest varint has room; then read back up to where its bytes end, and
 // up to each end before that.
-fn vector(place: usize, v: u64) {
+fn vector<R: Print>(rt: &R, place: usize, v: u64) -> io::Result<()> {
     let at = place % 9;
     let mut s = [0xeeu8; 16];
     let next = wire::varint::put(Form::Rfc9000, &mut s, at, v);
-    worded(text::VARINT, v);
-    worded(text::SIZE, wire::varint::size(Form::Rfc9000, v) as u64);
-    hex(text::BYTES, &s, at, next);
-    ends(&s, at, next);
+    worded(rt, text::VARINT, v)?;
+    worded(rt, text::SIZE, wire::varint::size(Form::Rfc9000, v) as u64)?;
+    hex(rt, text::BYTES, &s, at, next)?;
+    ends(rt, &s, at, next)
 }
 
 // The powers of two, and the numbers beside each.
-pub fn powers() {
+pub fn powers<R: Print>(rt: &R) -> io::Result<()> {
     let mut k: u64 = 0;
     while k < 64 {
         let p = 1u64 << k;
-        vector(3, std::num::wrapping_sub_u64(p, 1));
-        vector(3, p);
-        vector(3, std::num::wrapping_add_u64(p, 1));
+        vector(rt, 3, std::num::wrapping_sub_u64(p, 1))?;
+        vector(rt, 3, p)?;
+        vector(rt, 3, std::num::wrapping_add_u64(p, 1))?;
         k += 1;
     }
+    Ok(())
 }
 
 // The last number of each length and the first of the next, where the longest ends with the array.
-pub fn edges() {
-    vector(8, 63);
-    vector(8, 64);
-    vector(8, 16383);
-    vector(8, 16384);
-    vector(8, P30 - 1);
-    vector(8, P30);
-    vector(8, P62 - 1);
-    vector(8, P62);
-    vector(8, TOP);
+pub fn edges<R: Print>(rt: &R) -> io::Result<()> {
+    vector(rt, 8, 63)?;
+    vector(rt, 8, 64)?;
+    vector(rt, 8, 16383)?;
+    vector(rt, 8, 16384)?;
+    vector(rt, 8, P30 - 1)?;
+    vector(rt, 8, P30)?;
+    vector(rt, 8, P62 - 1)?;
+    vector(rt, 8, P62)?;
+    vector(rt, 8, TOP)
 }
 
 // One varint of some bytes, and the place after it, which is their end where it is cut.
-fn one(s: &[u8], at: usize) -> usize {
+fn one<R: Print>(rt: &R, s: &[u8], at: usize) -> io::Result<usize> {
     let g = wire::varint::read(Form::Rfc9000, s, at, s.len());
     let next = match g {
         Got::Value(_, n) => n,
         Got::Cut => s.len(),
     };
-    hex(text::LONE_BYTES, s, at, next);
-    got(g);
-    word(text::LINE);
-    next
+    hex(rt, text::LONE_BYTES, s, at, next)?;
+    got(rt, g)?;
+    word(rt, text::LINE)?;
+    Ok(next)
 }
 
 // n varints, each where the one before it ends.
-fn chain(s: &[u8], n: usize) {
+fn chain<R: Print>(rt: &R, s: &[u8], n: usize) -> io::Result<()> {
     let mut at = 0;
     let mut i = 0;
     while i < n {
-        at = one(s, at);
+        at = one(rt, s, at)?;
         i += 1;
     }
+    Ok(())
 }
 
 // Varints one after another, 17 bytes for each row of them. First the examples of RFC 9000, A.1, of which the last is 37 in two bytes. Then,
@@ -107,38 +110,39 @@ const PADDED: [u8; 187] = *b"\
 // How many varints each row has, and in the last two digits how many bytes they take.
 const ROWS: [usize; 11] = [517, 314, 314, 314, 314, 212, 212, 212, 108, 108, 108];
 
-pub fn padded() {
+pub fn padded<R: Print>(rt: &R) -> io::Result<()> {
     let bytes = PADDED;
     let mut i = 0;
     while i < 11 {
         let row = ROWS[i];
         let from = 17 * i;
         let last = from + row % 100 % 18;
-        chain(&bytes[from..last], row / 100);
+        chain(rt, &bytes[from..last], row / 100)?;
         i += 1;
     }
+    Ok(())
 }
 
 // The last place that a number can name.
 const FARTHEST: usize = 0xffff_ffff_ffff_ffff;
 
 // A read of the bytes 40 25 3f at a place, up to an end.
-fn place(at: usize, last: usize) {
-    worded(text::PLACE, at as u64);
-    worded(text::END, last as u64);
+fn place<R: Print>(rt: &R, at: usize, last: usize) -> io::Result<()> {
+    worded(rt, text::PLACE, at as u64)?;
+    worded(rt, text::END, last as u64)?;
     let g = wire::varint::read(Form::Rfc9000, b"\x40\x25\x3f", at, last);
-    got(g);
-    word(text::LINE);
+    got(rt, g)?;
+    word(rt, text::LINE)
 }
 
 // Every place up to two past the three bytes with every such end, and the farthest.
-pub fn places() {
+pub fn places<R: Print>(rt: &R) -> io::Result<()> {
     let mut k = 0;
     while k < 36 {
-        place(k / 6, k % 6);
+        place(rt, k / 6, k % 6)?;
         k += 1;
     }
-    place(0, FARTHEST);
-    place(FARTHEST, 3);
-    place(FARTHEST, FARTHEST);
+    place(rt, 0, FARTHEST)?;
+    place(rt, FARTHEST, 3)?;
+    place(rt, FARTHEST, FARTHEST)
 }

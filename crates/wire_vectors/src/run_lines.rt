@@ -4,6 +4,7 @@ use crate::text;
 use crate::text::hex;
 use printing::{word, worded};
 use runs::{Measured, Outcome};
+use std::io;
 use wire::form::Form;
 use wire::zigzag::Coding;
 
@@ -17,24 +18,26 @@ const TO: usize = 2;
 const UNREAD: u64 = 0xeeee_eeee_eeee_eeee;
 
 // The words from one place to another, with `_` for one that nothing was read into.
-pub fn words(list: &[u64], from: usize, to: usize) {
+pub fn words<R: Print>(rt: &R, list: &[u64], from: usize, to: usize) -> io::Result<()> {
     let mut i = from;
     while i < to {
         if i < list.len() {
             let v = list[i];
             if v == UNREAD {
-                word(text::BLANK);
+                word(rt, text::BLANK)?;
             } else {
-                worded(text::SPACE, v);
+                worded(rt, text::SPACE, v)?;
             }
         }
         i += 1;
     }
+    Ok(())
 }
 
 // What n values, none above the bound, are read as from the bytes from one place to another. Where the words have no room nothing is printed,
 // which the stored output shows.
-pub fn read_back(
+pub fn read_back<R: Print>(
+    rt: &R,
     coding: Coding,
     s: &[u8],
     at: usize,
@@ -43,14 +46,14 @@ pub fn read_back(
     base: u64,
     bound: u64,
     n: usize,
-) {
+) -> io::Result<()> {
     if 66 < n {
-        return;
+        return Ok(());
     }
-    word(text::FILL);
-    worded(text::END, last as u64);
-    worded(text::BOUND, bound);
-    worded(text::WANTED, n as u64);
+    word(rt, text::FILL)?;
+    worded(rt, text::END, last as u64)?;
+    worded(rt, text::BOUND, bound)?;
+    worded(rt, text::WANTED, n as u64)?;
     let mut out = [UNREAD; 70];
     let r = runs::fill(
         Form::Rfc9000,
@@ -65,28 +68,38 @@ pub fn read_back(
         TO,
         n,
     );
-    answer(r);
-    words(&out, TO, TO + n);
-    word(text::LINE);
+    answer(rt, r)?;
+    words(rt, &out, TO, TO + n)?;
+    word(rt, text::LINE)
 }
 
-fn answer(r: Outcome) {
+fn answer<R: Print>(rt: &R, r: Outcome) -> io::Result<()> {
     let w = match r {
         Outcome::Done => text::DONE,
         Outcome::Misfit => text::MISFIT,
         Outcome::Outside => text::OUTSIDE,
     };
-    word(w);
+    word(rt, w)
 }
 
 // Reads n values back: as they were written, with a bound one too small, with one more and one fewer wanted, and with the last byte cut. One
 // fewer than none is more than there is room for, so that nothing is printed.
-fn fills(coding: Coding, s: &[u8], last: usize, old: &[u64], base: u64, most: u64, n: usize) {
-    read_back(coding, s, AT, last, old, base, most, n);
+fn fills<R: Print>(
+    rt: &R,
+    coding: Coding,
+    s: &[u8],
+    last: usize,
+    old: &[u64],
+    base: u64,
+    most: u64,
+    n: usize,
+) -> io::Result<()> {
+    read_back(rt, coding, s, AT, last, old, base, most, n)?;
     if 0 < most {
-        read_back(coding, s, AT, last, old, base, most - 1, n);
+        read_back(rt, coding, s, AT, last, old, base, most - 1, n)?;
     }
     read_back(
+        rt,
         coding,
         s,
         AT,
@@ -95,8 +108,9 @@ fn fills(coding: Coding, s: &[u8], last: usize, old: &[u64], base: u64, most: u6
         base,
         most,
         std::num::wrapping_add_usize(n, 1),
-    );
+    )?;
     read_back(
+        rt,
         coding,
         s,
         AT,
@@ -105,43 +119,51 @@ fn fills(coding: Coding, s: &[u8], last: usize, old: &[u64], base: u64, most: u6
         base,
         most,
         std::num::wrapping_sub_usize(n, 1),
-    );
+    )?;
     if AT < last {
-        read_back(coding, s, AT, last - 1, old, base, most, n);
+        read_back(rt, coding, s, AT, last - 1, old, base, most, n)?;
     }
+    Ok(())
 }
 
 // How the values stand on the wire, and what an absent old one counts as.
-pub fn kind(coding: Coding, base: u64) {
+pub fn kind<R: Print>(rt: &R, coding: Coding, base: u64) -> io::Result<()> {
     let w = match coding {
         Coding::Plain => text::PLAIN,
         Coding::Delta => text::DELTA,
     };
-    word(w);
-    worded(text::BASE, base);
+    word(rt, w)?;
+    worded(rt, text::BASE, base)
 }
 
-fn measured(m: Measured) {
-    word(text::MEASURE);
+fn measured<R: Print>(rt: &R, m: Measured) -> io::Result<()> {
+    word(rt, text::MEASURE)?;
     match m {
-        Measured::Bytes(k) => worded(text::SPACE, k as u64),
+        Measured::Bytes(k) => worded(rt, text::SPACE, k as u64),
         Measured::TooWide => {
-            word(text::TOO);
-            word(text::WIDE);
+            word(rt, text::TOO)?;
+            word(rt, text::WIDE)
         }
     }
 }
 
 // The run of a list of at most 64 values, none above the most, each of at most 8 bytes: its bytes have room for no more.
-pub fn run(coding: Coding, base: u64, new: &[u64], old: &[u64], most: u64) {
+pub fn run<R: Print>(
+    rt: &R,
+    coding: Coding,
+    base: u64,
+    new: &[u64],
+    old: &[u64],
+    most: u64,
+) -> io::Result<()> {
     if 64 < new.len() {
-        return;
+        return Ok(());
     }
-    kind(coding, base);
-    measured(runs::measure(Form::Rfc9000, coding, new, old, base));
+    kind(rt, coding, base)?;
+    measured(rt, runs::measure(Form::Rfc9000, coding, new, old, base))?;
     let mut s = [0xeeu8; 520];
     let last = runs::put(Form::Rfc9000, coding, new, old, base, &mut s, AT);
-    hex(text::BYTES, &s, AT, last);
-    word(text::LINE);
-    fills(coding, &s, last, old, base, most, new.len());
+    hex(rt, text::BYTES, &s, AT, last)?;
+    word(rt, text::LINE)?;
+    fills(rt, coding, &s, last, old, base, most, new.len())
 }

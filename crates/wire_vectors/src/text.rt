@@ -1,6 +1,8 @@
 // The words that are printed: each is a number whose bytes are its letters, since an array of text that a function lends would make its check longer.
-// "varint "
 // Letters: `w` a word, `s` bytes that are read.
+use std::io;
+
+// "varint "
 pub const VARINT: u64 = 0x76_6172_696e_7420;
 
 // " size "
@@ -88,10 +90,10 @@ pub const DASH: u64 = 0x2d;
 pub const LINE: u64 = 0x0a;
 
 // A word, and after it the bytes from one place to another in hexadecimal, or a dash where there are none.
-pub fn hex(w: u64, s: &[u8], from: usize, to: usize) {
-    printing::word(w);
+pub fn hex<R: Print>(rt: &R, w: u64, s: &[u8], from: usize, to: usize) -> io::Result<()> {
+    printing::word(rt, w)?;
     if to <= from {
-        printing::word(DASH);
+        printing::word(rt, DASH)?;
     }
-    printing::hex(s, from, to)
+    printing::hex(rt, s, from, to)
 }

@@ -15,7 +15,7 @@ returns-then-not-has c =
     column-none a.c.now a.r a.column a.way a.x.now a.place c.has.ensures (ap not c.if-not-has.true)
 
 pub loop-i-init : goal.loop-i-init
-loop-i-init c = store-start _ _ _ _ (simp length-set (omega (arith, (c.requires.few_rows, (c.requires.column_value, c.requires.samples_most_in_bounds)))))
+loop-i-init c = store-start _ _ _ _ (simp length-set (omega (arith, c.requires.few_rows, c.requires.samples_most_in_bounds)))
 
 pub cell-requires : goal.cell-requires
 cell-requires c = record { rows_in = c.requires.few_rows.0; column_value = c.requires.column_value; column_value_2 = sym c.has.ensures ∙ c.if-not-has.false; i_lt_count = c.loop-i-test.true }

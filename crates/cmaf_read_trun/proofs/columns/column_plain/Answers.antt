@@ -1,10 +1,9 @@
 use Prim.Native.Nat.{ℕ, ◌-◌}
 use mathlib.Core.Path.{refl, sym, ◌∙◌, ap}
 use mathlib.Core.Bool.{true}
-use borrow.Author.Rules.{rules}
 use Rattle.laws.proofs.RowLaws.{tests-start, tests-next, tests-end}
 use Rattle.media.specs.Flags.{only}
-use Rattle.cmaf_read_trun.specs.Rows.{is_column, cell, sample_flags}
+use Rattle.cmaf_read_trun.specs.Rows.{cell, sample_flags}
 use Rattle.cmaf_read_trun.specs.Samples.{each_from}
 use Rattle.cmaf_read_trun.proofs.RowLaws.{flags-column}
 use Rattle.cmaf_read_trun.specs.Columns.{all_only}
@@ -22,9 +21,8 @@ returns-then-not-has c =
 pub loop-i-init : goal.loop-i-init
 loop-i-init c = (refl, sym c.has.ensures ∙ c.if-not-has.false, tests-start (flags-row _) _)
 
-pub cell-requires : goal.cell-requires
-unfolding is_column
-cell-requires c = record { rows_in = (search rules).0; column_value = (search rules).1.0; column_value_2 = (search rules).1.1.0; i_lt_count = (search rules).1.1.1 }
+pub cell-requires-clause-column_value : goal.cell-requires-clause-column_value
+cell-requires-clause-column_value c = flags-column
 
 pub loop-i-preserved : goal.loop-i-preserved
 loop-i-preserved c =

@@ -5,7 +5,7 @@ use lib.ListN.{length}
 use Rattle.codec_vectors.proofs.parts.run_on.Given as goal
 
 abbrev pub invariant-loop-p : goal.invariant-loop-p
-invariant-loop-p l = (l.p ≤ length l.input) × (length l.table ≡ length l.initial.table)
+invariant-loop-p g l = (l.p ≤ length l.input) × (length l.table ≡ length l.initial.table)
 
 abbrev pub decreases-loop-p : goal.decreases-loop-p
-decreases-loop-p l = length l.input - l.p
+decreases-loop-p g l = length l.input - l.p

@@ -1,4 +1,3 @@
-use Prim.Native.Nat.{◌-◌}
 use native.Mathlib.Omega.{arith}
 use Rattle.commands.proofs.ChecksumLaws.{sum-few, sum-start, sum_more, sum-end}
 use Rattle.commands.proofs.checksum.checksum.Goals as goal
@@ -8,12 +7,6 @@ returns-then-s-n c = sum-few _ _ (omega arith)
 
 pub loop-i-init : goal.loop-i-init
 loop-i-init c = sum-start _ _ (omega arith)
-
-pub overflow_cast-h : goal.overflow_cast-h
-overflow_cast-h c = omega (arith, c.type_inv.s c.loop-i.i)
-
-pub overflow_add-h : goal.overflow_add-h
-overflow_add-h c = omega (arith, c.type_inv.s c.loop-i.i)
 
 pub loop-i-preserved : goal.loop-i-preserved
 loop-i-preserved c = sum_more _ _ _ _ c.loop-i.invariant c.loop-i-test.true

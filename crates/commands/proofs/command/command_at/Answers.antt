@@ -1,5 +1,4 @@
 -- `commands::command::command_at` meets its contract: the two tests are the definition's one, and what was read is what the list spells.
---
 use native.Mathlib.Omega.{arith}
 use borrow.Author.Rules.{rules}
 use Rattle.commands.proofs.CommandLaws.{cut-is, whole_is}

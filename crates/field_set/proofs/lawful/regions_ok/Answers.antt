@@ -41,11 +41,11 @@ loop-i-preserved c =
     let lt = c.loop-i-test.true in
     let at = c.place_at.ensures in
     elim c.if-mark-ne0.branch [
-      then-mark-ne0+else-l-used w ↦
-        rw (w.ok-is, w.rest-is, w.free-is)
-        (scan-stands _ _ _ _ _ _ l.invariant lt _ at _ w.line_at-l.ensures w.if-mark-ne0.true _ w.length_of-used.ensures _ w.within.ensures
-        w.if-l-used.false _ w.bits-rest.ensures)
-    | else-mark-ne0 w ↦ rw (w.ok-is, w.rest-is, w.free-is) (scan-free _ _ _ _ _ _ l.invariant lt _ at _ refl w.if-mark-ne0.false)
+      | then-mark-ne0+else-l-used w ↦
+          rw (w.ok-is, w.rest-is, w.free-is)
+          (scan-stands _ _ _ _ _ _ l.invariant lt _ at _ w.line_at-l.ensures w.if-mark-ne0.true _ w.length_of-used.ensures _ w.within.ensures
+          w.if-l-used.false _ w.bits-rest.ensures)
+      | else-mark-ne0 w ↦ rw (w.ok-is, w.rest-is, w.free-is) (scan-free _ _ _ _ _ _ l.invariant lt _ at _ refl w.if-mark-ne0.false)
     ]
 
 pub returns : goal.returns

@@ -1,9 +1,8 @@
 -- `field_set::lawful::test_set` meets its contract: each return by the tests that led to it.
-use mathlib.Core.Path.{refl, sym, ◌∙◌, ap}
+use mathlib.Core.Path.{refl, sym, ◌∙◌}
 use Rattle.field_set.proofs.LawfulLaws.{tested-not, many-samples, many-subsamples, lawful-tested}
 use Rattle.field_set.proofs.BareLaws.{no_pairs, no-durations}
 use borrow.Author.Rules.{rules}
-use mathlib.Core.Bool.{not}
 use Rattle.field_set.proofs.lawful.test_set.Goals as goal
 
 pub returns-then-n : goal.returns-then-n

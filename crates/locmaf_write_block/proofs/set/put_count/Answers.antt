@@ -10,9 +10,9 @@ returns-then-not-count_stands c = put-none _ _ _ (no-count _ _ _ _ c.count_stand
 
 pub put_number-requires : goal.put_number-requires
 put_number-requires c =
-    let n = (c.requires.x_value, c.requires.room_for) in record { c_value = (put-needs _ (count-is _ _ _ _ c.count_stands.ensures (ap not c.if-not-count_stands.false) c.coding_for.ensures c.code-c.ensures)
-    _ _ c.requires.x_value c.requires.room_for).0; room_for = (put-needs _ (count-is _ _ _ _ c.count_stands.ensures (ap not c.if-not-count_stands.false) c.coding_for.ensures c.code-c.ensures)
-    _ _ c.requires.x_value c.requires.room_for).1 }
+    let k = count-is _ _ _ _ c.count_stands.ensures (ap not c.if-not-count_stands.false) c.coding_for.ensures c.code-c.ensures in
+    let h = put-needs _ k _ _ c.requires.x_value c.requires.room_for in
+    record { c_value = h.0; room_for = h.1 }
 
 pub returns : goal.returns
 returns c =

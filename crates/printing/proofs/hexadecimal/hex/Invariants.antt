@@ -1,9 +1,9 @@
 -- `printing::hexadecimal::hex` is safe and ends: the index stays below the last place, and comes nearer to it with each turn.
-use Prim.Native.Nat.{◌-◌}
+use Rattle.std.proofs.Common.{◌-◌}
 use Rattle.printing.proofs.hexadecimal.hex.Given as goal
 
 abbrev pub invariant-loop-i : goal.invariant-loop-i
-invariant-loop-i l = Unit {0}
+invariant-loop-i g l = Unit {0}
 
 abbrev pub decreases-loop-i : goal.decreases-loop-i
-decreases-loop-i l = l.to - l.i
+decreases-loop-i g l = l.to - l.i

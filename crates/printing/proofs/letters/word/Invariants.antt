@@ -1,9 +1,9 @@
 -- `printing::letters::word` is safe and ends: each of eight bytes is passed once.
-use Prim.Native.Nat.{◌≤◌, ◌-◌}
+use Rattle.std.proofs.Common.{◌≤◌, ◌-◌}
 use Rattle.printing.proofs.letters.word.Given as goal
 
 abbrev pub invariant-loop-k : goal.invariant-loop-k
-invariant-loop-k l = l.k ≤ 8
+invariant-loop-k g l = l.k ≤ 8
 
 abbrev pub decreases-loop-k : goal.decreases-loop-k
-decreases-loop-k l = 8 - l.k
+decreases-loop-k g l = 8 - l.k

@@ -4,7 +4,7 @@ use Rattle.share_words.specs.Share.{table_len}
 use Rattle.slot_vectors.proofs.calls.left.Given as goal
 
 abbrev pub invariant-loop-i : goal.invariant-loop-i
-invariant-loop-i l = l.i ≤ table_len + 1
+invariant-loop-i g l = l.i ≤ table_len + 1
 
 abbrev pub decreases-loop-i : goal.decreases-loop-i
-decreases-loop-i l = table_len + 1 - l.i
+decreases-loop-i g l = table_len + 1 - l.i

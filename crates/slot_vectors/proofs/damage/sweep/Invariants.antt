@@ -4,7 +4,7 @@ use Rattle.share_words.specs.Share.{table_len}
 use Rattle.slot_vectors.proofs.damage.sweep.Given as goal
 
 abbrev pub invariant-loop-at : goal.invariant-loop-at
-invariant-loop-at l = l.at ≤ table_len
+invariant-loop-at g l = l.at ≤ table_len
 
 abbrev pub decreases-loop-at : goal.decreases-loop-at
-decreases-loop-at l = table_len - l.at
+decreases-loop-at g l = table_len - l.at

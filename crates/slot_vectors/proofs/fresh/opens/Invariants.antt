@@ -3,7 +3,7 @@ use Rattle.std.proofs.Common.{◌-◌, ◌≤◌}
 use Rattle.slot_vectors.proofs.fresh.opens.Given as goal
 
 abbrev pub invariant-loop-j : goal.invariant-loop-j
-invariant-loop-j l = l.j ≤ 10
+invariant-loop-j g l = l.j ≤ 10
 
 abbrev pub decreases-loop-j : goal.decreases-loop-j
-decreases-loop-j l = 10 - l.j
+decreases-loop-j g l = 10 - l.j

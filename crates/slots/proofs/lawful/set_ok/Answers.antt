@@ -1,5 +1,5 @@
 -- `slots::lawful::set_ok` meets its contract, by what its tests come to.
-use mathlib.Core.Path.{refl, ap, sym, ◌∙◌}
+use mathlib.Core.Path.{refl, sym, ◌∙◌}
 use borrow.Author.Rules.{rules}
 use borrow.Author.Rules.{part_to_end}
 use Rattle.laws.proofs.GateLaws.{failed, held}
@@ -7,7 +7,6 @@ use Rattle.share_words.specs.Share.{set_at}
 use Rattle.told_sizes.proofs.SumLaws.{lawful-summable}
 use Rattle.effective.proofs.DurationLaws.{lawful-timed}
 use Rattle.slots.proofs.ShareLaws.{lent-long, set-unlawful, last-unlawful, expected-unlawful, set-lawful}
-use mathlib.Core.Bool.{not}
 use Rattle.slots.proofs.lawful.set_ok.Goals as goal
 
 pub test_set-k-requires : goal.test_set-k-requires

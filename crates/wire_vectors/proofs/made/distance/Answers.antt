@@ -4,7 +4,7 @@ use Rattle.wire_vectors.proofs.RoomLaws.{varint-room}
 use Rattle.wire_vectors.proofs.made.distance.Goals as goal
 
 pub put-last-requires : goal.put-last-requires
-put-last-requires c = omega (arith, varint-room c.args.z)
+put-last-requires g c = omega (arith, varint-room c.args.z)
 
 pub slice_bounds-made-end-2 : goal.slice_bounds-made-end-2
-slice_bounds-made-end-2 c = sym (length-take-le _ _ (omega arith))
+slice_bounds-made-end-2 g c = sym (length-take-le _ _ (omega arith))

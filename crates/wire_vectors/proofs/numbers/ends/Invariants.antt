@@ -3,7 +3,7 @@ use Rattle.std.proofs.Common.{◌-◌}
 use Rattle.wire_vectors.proofs.numbers.ends.Given as goal
 
 abbrev pub invariant-loop-e : goal.invariant-loop-e
-invariant-loop-e l = Unit {0}
+invariant-loop-e g l = Unit {0}
 
 abbrev pub decreases-loop-e : goal.decreases-loop-e
-decreases-loop-e l = l.last - l.e
+decreases-loop-e g l = l.last - l.e

@@ -4,4 +4,4 @@ use Rattle.wire_vectors.proofs.RoomLaws.{varint-room}
 use Rattle.wire_vectors.proofs.numbers.vector.Goals as goal
 
 pub put-next-requires : goal.put-next-requires
-put-next-requires c = omega (arith, varint-room c.args.v)
+put-next-requires g c = omega (arith, varint-room c.args.v)

@@ -4,6 +4,6 @@ use Rattle.wire_vectors.proofs.RoomLaws.{run_room}
 use Rattle.wire_vectors.proofs.run_lines.run.Goals as goal
 
 pub put-last-requires : goal.put-last-requires
-put-last-requires c =
+put-last-requires g c =
     let a = c.args in
     omega (arith, run_room a.coding a.base a.old.now a.new.now)

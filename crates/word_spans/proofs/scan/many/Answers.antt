@@ -1,4 +1,3 @@
-use Prim.Native.Nat.{◌-◌}
 use native.Mathlib.Omega.{arith}
 use mathlib.Core.Path.{◌∙◌}
 use Rattle.word_spans.proofs.ScanLaws.{collect-start, collect-run, collect-last, collect-end}
@@ -23,9 +22,9 @@ pub returns : goal.returns
 returns c =
     let h = c.loop-i-2.invariant in
     elim c.if-i-to.branch [
-      then-i-to w ↦
-        let k = w.last_step.ensures in
-        rw w.all-is
-        (w.joined-all-then-i-to.ensures ∙ collect-last _ _ _ _ _ h k.0 (omega (arith, c.requires.1, k.1)) k.2 k.3)
-    | else-i-to w ↦ rw w.all-is (collect-end _ _ _ _ _ h w.if-i-to.false)
+      | then-i-to w ↦
+          let k = w.last_step.ensures in
+          rw w.all-is
+          (w.joined-all-then-i-to.ensures ∙ collect-last _ _ _ _ _ h k.0 (omega (arith, c.requires.1, k.1)) k.2 k.3)
+      | else-i-to w ↦ rw w.all-is (collect-end _ _ _ _ _ h w.if-i-to.false)
     ]
