@@ -13,7 +13,7 @@ import re
 import sys
 
 TOK = re.compile(r"--[^\n]*|\"(?:[^\"\\]|\\.)*\"|[^\s(){}\[\];,.@λ]+(?:\.[^\s(){}\[\];,.]+)*|.|\n", re.S)
-TRIVIAL = {"search rules", "omega arith", "tt", "refl", "search(rules)"}
+TRIVIAL = {"search rules", "omega arith", "tt", "search(rules)"}
 
 
 def norm(s):
@@ -116,6 +116,10 @@ class Function:
             f0 = self.places[q]["old"]
         s = self.places[q]
         rest = fields[1:]
+        if rest and rest[0] == "given" and self.goal:
+            for var, step in self.n["typed"][self.places[self.goal]["i"]]:
+                if norm(step) == f0:
+                    return ".".join(["c.type_inv", var] + rest[1:])
         arm = self.n["arms"][s["i"]] if s["i"] < len(self.n["arms"]) else None
         if arm:
             step, _, mapped = arm
@@ -397,6 +401,63 @@ def as_record(text, fields):
     return head + "record { " + "; ".join(f"{f} = {x}" for f, x in out) + " }"
 
 
+def atom_before(text, at):
+    """Where the term begins that ends before a place: a name, or what is in parentheses."""
+    e = at
+    while e > 0 and text[e - 1].isspace():
+        e -= 1
+    if e > 0 and text[e - 1] in ")]}":
+        depth, i = 0, e - 1
+        while i >= 0:
+            if text[i] in ")]}":
+                depth += 1
+            elif text[i] in "([{":
+                depth -= 1
+                if depth == 0:
+                    return i, e
+            i -= 1
+        return None
+    i = e
+    while i > 0 and not text[i - 1].isspace() and text[i - 1] not in "()[]{},;":
+        i -= 1
+    return (i, e) if i < e else None
+
+
+def merged(uses, module, names):
+    """The use lines, with these names of a module too."""
+    out, done = [], False
+    for line in uses:
+        m = re.match(rf"use {re.escape(module)}\.\{{(.*)\}}$", line)
+        if m:
+            has = [x.strip() for x in m.group(1).split(",")]
+            line = f"use {module}.{{{', '.join(has + [n for n in names if n not in has])}}}"
+            done = True
+        out.append(line)
+    return out if done else [*out, f"use {module}.{{{', '.join(names)}}}"]
+
+
+def straight(text):
+    """A test `!x` says of x what it came to, where an older Rattle said it of `not x`."""
+    path = re.compile(r"(?<![\w.'-])(?:c|w)(?:\.[\w'-]+)*\.(?:if|loop)-not-[\w'-]+\.(?:true|false)(?![\w'.-])")
+    at = 0
+    while True:
+        m = path.search(text, at)
+        if not m:
+            return text
+        arg = atom_before(text, m.start())
+        if arg:
+            i, e = arg
+            head = re.search(r"(?<![\w.'-])(failed|held)\s+$", text[:i])
+            if head:
+                new = f"sym {text[i:e]} ∙ {m.group(0)}"
+                text = text[: head.start()] + new + text[m.end() :]
+                at = head.start() + len(new)
+                continue
+        new = f"(ap not {m.group(0)})"
+        text = text[: m.start()] + new + text[m.end() :]
+        at = m.start() + len(new)
+
+
 def uses_of(uses, body):
     """The use lines that a text needs."""
     keep = []
@@ -416,6 +477,8 @@ def uses_of(uses, body):
             if "◌" in it:
                 ops = [x for x in it.split("◌") if x]
                 ok = all(any(o == w or o in w for w in words) for o in ops) if ops else True
+            elif it == "[]":
+                ok = "[]" in plain
             else:
                 ok = it in words
             if ok:
@@ -547,17 +610,20 @@ def turn(names, crate, folder, path):
             want = [f"initial.{v}" if c else v for v, c in zip(vars_, changed)] + [v for v, c in zip(vars_, changed) if c]
             if len(args) != len(want):
                 fn.problems.append(f"{name}: {len(args)} arguments for {len(want)}: {vars_} {changed}")
+            live = next(x for x in ("l", "live", "at-hand") if not re.search(rf"(?<![\w.'-]){x}(?![\w'-])", body) or x in args)
+            if re.search(r"λ[^.]*(?<![\w'-])l(?![\w'-])", body):
+                live = "live"
             mp = dict(zip(args, want))
             toks = TOK.findall(body)
             new = []
             for tk in toks:
                 root = tk.split(".")[0]
                 if root in mp and not tk.startswith("."):
-                    new.append("l." + mp[root] + tk[len(root) :])
+                    new.append(live + "." + mp[root] + tk[len(root) :])
                 else:
                     new.append(tk)
             nn = f"{kind}-{ln[1]}"
-            invariants.append((note, f"abbrev pub {nn} : goal.{nn}\n{nn} l = {''.join(new).strip()}" if "\n" not in "".join(new).strip() else f"abbrev pub {nn} : goal.{nn}\n{nn} l =\n    {''.join(new).strip()}"))
+            invariants.append((note, f"abbrev pub {nn} : goal.{nn}\n{nn} {live} = {''.join(new).strip()}" if "\n" not in "".join(new).strip() else f"abbrev pub {nn} : goal.{nn}\n{nn} {live} =\n    {''.join(new).strip()}"))
             continue
         t = re.match(r"tie\.Need[-·](\S+)", sig)
         if t:
@@ -587,7 +653,7 @@ def turn(names, crate, folder, path):
                 made[k] = "-- TURN: " + code.replace("\n", "\n-- ")
                 continue
             unf, args, body = m.group(1).strip(), m.group(2).split(), m.group(3)
-            if body.strip() in TRIVIAL:
+            if body.strip() in TRIVIAL and not unf:
                 made[k] = ""
                 continue
             if not args:
@@ -673,6 +739,12 @@ def turn(names, crate, folder, path):
     inv = ans = None
     if invariants:
         inv = "\n".join(comments + uses_of(uses, inv_body) + [f"use {full}.Given as goal"]) + "\n\n" + inv_body + "\n"
+    body = straight(body)
+    if re.search(r"\bap not\b", body):
+        uses = merged(uses, "mathlib.Core.Path", ["ap"])
+        uses = merged(uses, "mathlib.Core.Bool", ["not"])
+    if re.search(r"sym \S.* ∙ c\.", body, re.S):
+        uses = merged(uses, "mathlib.Core.Path", ["sym", "◌∙◌"])
     if body.strip():
         ans = "\n".join((comments if not invariants else []) + uses_of(uses, body) + [f"use {full}.Goals as goal"]) + "\n\n" + body + "\n"
     if fn.problems and (ans or inv):

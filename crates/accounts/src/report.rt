@@ -1,182 +1,198 @@
 // The lines that people read.
-// Letters: `i` which one, counted from 0, `p` how a chunk passed, `t` what was counted, `j` what was counted of a second receiver.
+// Letters: `rt` what prints, `i` which one, counted from 0, `p` how a chunk passed, `t` what was counted, `j` what was counted of a second receiver.
 use crate::counts::more;
 use crate::joins::Join;
 use crate::tally::{Passed, Tally};
 use crate::{counts, words};
-use libc::STDOUT_FILENO;
 use printing::{column, named, number, say};
+use std::io;
 
-fn protection(protection: u64, iv_size: u64) {
+fn protection<R: Print>(rt: &R, protection: u64, iv_size: u64) -> io::Result<()> {
     match protection {
-        0 => say(b", not protected\n"),
+        0 => say(rt, b", not protected\n"),
         1 => {
-            named(b", cenc with IVs of ", iv_size);
-            say(b" bytes\n");
+            named(rt, b", cenc with IVs of ", iv_size)?;
+            say(rt, b" bytes\n")
         }
-        _ => say(b", cbcs\n"),
+        _ => say(rt, b", cbcs\n"),
     }
 }
 
-fn defaults(description: u64, duration: u64, size: u64, flags: u64) {
-    named(b", defaults: description ", description);
-    named(b", duration ", duration);
-    named(b", size ", size);
-    named(b", flags ", flags)
+fn defaults<R: Print>(
+    rt: &R,
+    description: u64,
+    duration: u64,
+    size: u64,
+    flags: u64,
+) -> io::Result<()> {
+    named(rt, b", defaults: description ", description)?;
+    named(rt, b", duration ", duration)?;
+    named(rt, b", size ", size)?;
+    named(rt, b", flags ", flags)
 }
 
 // A track's name and parameters, and the heads of the columns.
-pub fn head(folder: &[u8], params: &[u64; 8]) {
-    say(b"track ");
-    say(folder);
-    named(b": track_ID ", params[0]);
-    named(b", timescale ", params[1]);
-    defaults(params[2], params[3], params[4], params[5]);
-    protection(params[6], params[7]);
-    say(b"   chunk  kind     CMAF head  LOCMAF head   payload  number\n");
+pub fn head<R: Print>(rt: &R, folder: &[u8], params: &[u64; 8]) -> io::Result<()> {
+    say(rt, b"track ")?;
+    say(rt, folder)?;
+    named(rt, b": track_ID ", params[0])?;
+    named(rt, b", timescale ", params[1])?;
+    defaults(rt, params[2], params[3], params[4], params[5])?;
+    protection(rt, params[6], params[7])?;
+    say(
+        rt,
+        b"   chunk  kind     CMAF head  LOCMAF head   payload  number\n",
+    )
 }
 
 // A chunk's line.
-pub fn chunk(i: u64, p: Passed) {
-    column(i, 8);
+pub fn chunk<R: Print>(rt: &R, i: u64, p: Passed) -> io::Result<()> {
+    column(rt, i, 8)?;
     if p.number != 0 {
-        say(b"  refused          -            -         -");
-        column(p.number, 8);
-        say(b"  ");
-        words::meaning(STDOUT_FILENO, p.number);
-        return say(b"\n");
+        say(rt, b"  refused          -            -         -")?;
+        column(rt, p.number, 8)?;
+        say(rt, b"  ")?;
+        words::meaning(rt, p.number)?;
+        return say(rt, b"\n");
     }
     if p.delta {
-        say(b"  delta  ");
+        say(rt, b"  delta  ")?;
     } else {
-        say(b"  full   ");
+        say(rt, b"  full   ")?;
     }
-    column(p.cmaf, 11);
-    column(p.locmaf, 13);
-    column(p.payload, 10);
-    column(p.number, 8);
+    column(rt, p.cmaf, 11)?;
+    column(rt, p.locmaf, 13)?;
+    column(rt, p.payload, 10)?;
+    column(rt, p.number, 8)?;
     if !p.same {
-        say(b"  the rebuilt chunk gave another object");
+        say(rt, b"  the rebuilt chunk gave another object")?;
     }
-    say(b"\n")
+    say(rt, b"\n")
 }
 
 // What is saved of so many bytes where so many are left, in percent with one decimal.
-fn saved(before: u64, after: u64) {
-    say(b", saved ");
+fn saved<R: Print>(rt: &R, before: u64, after: u64) -> io::Result<()> {
+    say(rt, b", saved ")?;
     let mut gone = 0;
     if before < after {
-        say(b"-");
+        say(rt, b"-")?;
         gone = after - before;
     } else {
         gone = before - after;
     }
     let t = counts::tenths(gone, before);
-    number(t / 10);
-    named(b".", t % 10);
-    say(b" %\n");
+    number(rt, t / 10)?;
+    named(rt, b".", t % 10)?;
+    say(rt, b" %\n")
 }
 
-fn heads(t: Tally) {
-    named(b"  heads: CMAF ", t.cmaf);
-    named(b" bytes, LOCMAF ", t.locmaf);
-    say(b" bytes");
-    saved(t.cmaf, t.locmaf);
-    named(b"  payload: ", t.payload);
-    say(b" bytes; of all bytes");
-    saved(more(t.cmaf, t.payload), more(t.locmaf, t.payload));
+fn heads<R: Print>(rt: &R, t: Tally) -> io::Result<()> {
+    named(rt, b"  heads: CMAF ", t.cmaf)?;
+    named(rt, b" bytes, LOCMAF ", t.locmaf)?;
+    say(rt, b" bytes")?;
+    saved(rt, t.cmaf, t.locmaf)?;
+    named(rt, b"  payload: ", t.payload)?;
+    say(rt, b" bytes; of all bytes")?;
+    saved(rt, more(t.cmaf, t.payload), more(t.locmaf, t.payload))
 }
 
 // Of a protected track with IVs: how many chunks left their counters at home, and what that saved.
-fn counters(t: Tally) {
+fn counters<R: Print>(rt: &R, t: Tally) -> io::Result<()> {
     if t.ivs == 0 {
-        return;
+        return Ok(());
     }
-    named(b"  counters: chunks with IVs ", t.ivs);
-    named(b", left at home by ", t.home);
-    named(b", saved ", t.spared);
-    say(b" bytes\n")
+    named(rt, b"  counters: chunks with IVs ", t.ivs)?;
+    named(rt, b", left at home by ", t.home)?;
+    named(rt, b", saved ", t.spared)?;
+    say(rt, b" bytes\n")
 }
 
 // The totals of a track, or of all.
-pub fn totals(t: Tally) {
-    named(b"  chunks ", t.chunks);
-    named(b": full ", t.full);
-    named(b", delta ", t.delta);
-    named(b", refused ", t.refused);
-    say(b"\n");
+pub fn totals<R: Print>(rt: &R, t: Tally) -> io::Result<()> {
+    named(rt, b"  chunks ", t.chunks)?;
+    named(rt, b": full ", t.full)?;
+    named(rt, b", delta ", t.delta)?;
+    named(rt, b", refused ", t.refused)?;
+    say(rt, b"\n")?;
     if t.chunks == t.refused {
-        return say(b"  no chunk was accepted, so nothing is compared\n");
+        return say(rt, b"  no chunk was accepted, so nothing is compared\n");
     }
-    heads(t);
-    counters(t);
-    say(b"  each rebuilt chunk gave the same object again: ");
+    heads(rt, t)?;
+    counters(rt, t)?;
+    say(rt, b"  each rebuilt chunk gave the same object again: ")?;
     if t.differs == 0 {
-        return say(b"yes\n");
+        return say(rt, b"yes\n");
     }
-    named(b"no, first not chunk ", t.differs);
-    say(b"\n")
+    named(rt, b"no, first not chunk ", t.differs)?;
+    say(rt, b"\n")
 }
 
-fn apart(j: Join) {
-    named(b", another chunk or reference first at chunk ", j.differs);
-    say(b"\n")
+fn apart<R: Print>(rt: &R, j: Join) -> io::Result<()> {
+    named(
+        rt,
+        b", another chunk or reference first at chunk ",
+        j.differs,
+    )?;
+    say(rt, b"\n")
 }
 
 // What came of a second receiver that starts at a track's full object `at`.
-pub fn joined(at: u64, j: Join) {
+pub fn joined<R: Print>(rt: &R, at: u64, j: Join) -> io::Result<()> {
     if j.chunk == 0 {
-        named(b"  not joined: the track has fewer than ", at);
-        return say(b" full objects\n");
+        named(rt, b"  not joined: the track has fewer than ", at)?;
+        return say(rt, b" full objects\n");
     }
-    named(b"  joined at full object ", at);
-    named(b", chunk ", j.chunk);
-    named(b": objects ", j.objects);
+    named(rt, b"  joined at full object ", at)?;
+    named(rt, b", chunk ", j.chunk)?;
+    named(rt, b": objects ", j.objects)?;
     if j.differs != 0 {
-        return apart(j);
+        return apart(rt, j);
     }
-    named(b", each chunk the same but for an mfhd number ", j.less);
-    say(b" less, each reference the same\n")
+    named(rt, b", each chunk the same but for an mfhd number ", j.less)?;
+    say(rt, b" less, each reference the same\n")
 }
 
 // What came of them on all tracks.
-fn all_joined(at: u64, j: Join) {
+fn all_joined<R: Print>(rt: &R, at: u64, j: Join) -> io::Result<()> {
     if j.tracks == 0 {
-        named(b"  not joined: each track has fewer than ", at);
-        return say(b" full objects\n");
+        named(rt, b"  not joined: each track has fewer than ", at)?;
+        return say(rt, b" full objects\n");
     }
-    named(b"  joined at full object ", at);
-    named(b": tracks ", j.tracks);
-    named(b", objects ", j.objects);
+    named(rt, b"  joined at full object ", at)?;
+    named(rt, b": tracks ", j.tracks)?;
+    named(rt, b", objects ", j.objects)?;
     if j.differs != 0 {
-        return apart(j);
+        return apart(rt, j);
     }
-    say(b", each chunk the same but for its mfhd number, each reference the same\n")
+    say(
+        rt,
+        b", each chunk the same but for its mfhd number, each reference the same\n",
+    )
 }
 
 // Whether all is well, in words that the script `relay` looks for.
-fn verdict(t: Tally) {
+fn verdict<R: Print>(rt: &R, t: Tally) -> io::Result<()> {
     let j = t.join;
     if (t.bad == 0) & (t.differs == 0) & (j.differs == 0) {
-        return say(b"all is well\n");
+        return say(rt, b"all is well\n");
     }
-    say(b"not all is well\n")
+    say(rt, b"not all is well\n")
 }
 
 // After the last track: the totals of all where there are several, and the verdict. With `at` other than 0 a second receiver started at that full object.
-pub fn all(at: u64, t: Tally) {
+pub fn all<R: Print>(rt: &R, at: u64, t: Tally) -> io::Result<()> {
     if 1 < t.tracks {
-        named(b"all ", t.tracks);
-        say(b" tracks\n");
-        totals(t);
+        named(rt, b"all ", t.tracks)?;
+        say(rt, b" tracks\n")?;
+        totals(rt, t)?;
         if at != 0 {
             let j = t.join;
-            all_joined(at, j);
+            all_joined(rt, at, j)?;
         }
     }
     if t.bad != 0 {
-        named(b"tracks left out for a bad file: ", t.bad);
-        say(b"\n");
+        named(rt, b"tracks left out for a bad file: ", t.bad)?;
+        say(rt, b"\n")?;
     }
-    verdict(t)
+    verdict(rt, t)
 }

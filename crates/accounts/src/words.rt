@@ -1,70 +1,73 @@
 // The words of each number, as include/locmaf.h has them.
-// Letters: `n` how many.
-use libc::STDERR_FILENO;
+// Letters: `out` what prints, `err` standard error, `n` the number.
+use printing::{named, say};
+use std::io;
 
-fn of_object(fd: i32, n: u64) {
+fn of_object<P: Print>(out: &P, n: u64) -> io::Result<()> {
     match n {
-        10 => io::write_all(fd, b"header id neither 23 nor 25: skipped"),
-        11 => io::write_all(fd, b"delta, and no reference held"),
-        12 => io::write_all(fd, b"object unreadable"),
-        13 => io::write_all(
-            fd,
+        10 => say(out, b"header id neither 23 nor 25: skipped"),
+        11 => say(out, b"delta, and no reference held"),
+        12 => say(out, b"object unreadable"),
+        13 => say(
+            out,
             b"id unknown, twice or forbidden here; a full without 10 or 14; only one of 18 and 20; 22 or 24 without them; a delta with `prft` ids where the current full has none",
         ),
-        14 => io::write_all(
-            fd,
+        14 => say(
+            out,
             b"deletion, list length (ids 9 and 23 too) or resulting set unlawful, any other absence included",
         ),
-        15 => io::write_all(fd, b"value outside its range or maximum"),
-        16 => io::write_all(fd, b"sizes or protected sums disagree"),
-        17 => io::write_all(fd, b"output shorter than the front"),
-        21 => io::write_all(fd, b"derived IV past its size"),
-        _ => io::write_all(
-            fd,
+        15 => say(out, b"value outside its range or maximum"),
+        16 => say(out, b"sizes or protected sums disagree"),
+        17 => say(out, b"output shorter than the front"),
+        21 => say(out, b"derived IV past its size"),
+        _ => say(
+            out,
             b"table of the wrong length, or the named share unlawful",
         ),
-    };
+    }
 }
 
-fn of_chunk(fd: i32, n: u64) {
+fn of_chunk<P: Print>(out: &P, n: u64) -> io::Result<()> {
     match n {
-        5 => io::write_all(fd, b"chunk: the tree of boxes is broken"),
-        6 => io::write_all(fd, b"chunk: wrong box, order, version, flags or box length"),
-        7 => io::write_all(fd, b"chunk: any other rule of the chunk accepted broken"),
-        8 => io::write_all(fd, b"chunk: a count or length past its maximum"),
-        _ => io::write_all(
-            fd,
+        5 => say(out, b"chunk: the tree of boxes is broken"),
+        6 => say(
+            out,
+            b"chunk: wrong box, order, version, flags or box length",
+        ),
+        7 => say(out, b"chunk: any other rule of the chunk accepted broken"),
+        8 => say(out, b"chunk: a count or length past its maximum"),
+        _ => say(
+            out,
             b"chunk: BMDT past its maximum, whatever the wish; or, where no delta is given, a number too wide in the full object",
         ),
-    };
+    }
 }
 
-fn of_slot(fd: i32, n: u64) {
+fn of_slot<P: Print>(out: &P, n: u64) -> io::Result<()> {
     match n {
-        0 => io::write_all(fd, b"done"),
-        1 => io::write_all(fd, b"slot number above 7"),
-        2 => io::write_all(fd, b"slot not open"),
-        3 => io::write_all(fd, b"opening an open slot"),
-        _ => io::write_all(fd, b"bad parameters"),
-    };
+        0 => say(out, b"done"),
+        1 => say(out, b"slot number above 7"),
+        2 => say(out, b"slot not open"),
+        3 => say(out, b"opening an open slot"),
+        _ => say(out, b"bad parameters"),
+    }
 }
 
 // What a number says.
-pub fn meaning(fd: i32, n: u64) {
+pub fn meaning<P: Print>(out: &P, n: u64) -> io::Result<()> {
     match n {
-        0..=4 => of_slot(fd, n),
-        5..=9 => of_chunk(fd, n),
-        _ => of_object(fd, n),
+        0..=4 => of_slot(out, n),
+        5..=9 => of_chunk(out, n),
+        _ => of_object(out, n),
     }
 }
 
 // On standard error: parameters that no slot is opened with, the number, and what it says.
-pub fn not_opened(folder: &[u8], n: u64) {
-    io::write_all(STDERR_FILENO, b"relay: ");
-    io::write_all(STDERR_FILENO, folder);
-    io::write_all(STDERR_FILENO, b"/params.txt: number ");
-    io::print_decimal(STDERR_FILENO, n);
-    io::write_all(STDERR_FILENO, b", ");
-    meaning(STDERR_FILENO, n);
-    io::write_all(STDERR_FILENO, b"\n");
+pub fn not_opened<E: Print>(err: &E, folder: &[u8], n: u64) -> io::Result<()> {
+    say(err, b"relay: ")?;
+    say(err, folder)?;
+    named(err, b"/params.txt: number ", n)?;
+    say(err, b", ")?;
+    meaning(err, n)?;
+    say(err, b"\n")
 }

@@ -39,6 +39,10 @@ each_at P [] h i lt = absurd (not-suc-le-zero lt)
 each_at P (l ∷ ls) h zero lt = h.0
 each_at P (l ∷ ls) h (suc i) lt = each_at P ls h.1 i (le_of_suc-le-suc lt)
 
+-- the line with the number i
+abbrev line : ℕ → Line
+line i = get_or lines i spare
+
 -- a field fits if its values do where it stands; one value always does
 held_fits : (l : Line) (b : Bool) (vs : List ℕ) → (b ≡ true → length vs ≤ l.room) → Fits l (held_if b vs)
 unfolding held_if
@@ -101,31 +105,31 @@ module _ (t : Track) (c : List ℕ) (f : Inner) (g : Gatherable t c f) where
   table_fits : Each (λ l. Fits l (field_of t c f l)) lines
   unfolding lines held_for
   table_fits = (
-    held_fits _ _ _ (λ _. sizes-length c (run t c f) _ g.samples),
+    held_fits (line 0) _ _ (λ _. sizes-length c (run t c f) _ g.samples),
     (
-      one-fits _ _ _ (omega arith),
+      one-fits (line 1) _ _ (omega arith),
       (
-        held_fits _ _ _ (λ h. column_fits durations h),
+        held_fits (line 2) _ _ (λ h. column_fits durations h),
         (
-          one-fits _ _ _ (omega arith),
+          one-fits (line 3) _ _ (omega arith),
           (
-            held_fits _ _ _ (λ h. mapped-fits _ offsets h),
+            held_fits (line 4) _ _ (λ h. mapped-fits _ offsets h),
             (
-              one-fits _ _ _ (omega arith),
+              one-fits (line 5) _ _ (omega arith),
               (
-                held_fits _ _ _ (λ h. mapped-fits _ sample_flags h),
+                held_fits (line 6) _ _ (λ h. mapped-fits _ sample_flags h),
                 (
-                  one-fits _ _ _ (omega arith),
+                  one-fits (line 7) _ _ (omega arith),
                   (
-                    held_fits _ _ _ (λ h. ivs-fit (some_bytes _ _ h)),
+                    held_fits (line 8) _ _ (λ h. ivs-fit (some_bytes _ _ h)),
                     (
-                      held_fits _ _ _ (λ h. counts-fit (some_bytes _ _ h)),
+                      held_fits (line 9) _ _ (λ h. counts-fit (some_bytes _ _ h)),
                       (
-                        one-fits _ _ _ (omega arith),
+                        one-fits (line 10) _ _ (omega arith),
                         (
-                          held_fits _ _ _ (λ h. clear-fit (some_bytes _ _ h)),
+                          held_fits (line 11) _ _ (λ h. clear-fit (some_bytes _ _ h)),
                           (
-                            held_fits _ _ _ (λ h. protected-fit (some_bytes _ _ h)),
+                            held_fits (line 12) _ _ (λ h. protected-fit (some_bytes _ _ h)),
                             (
                               tt,
                               tt,

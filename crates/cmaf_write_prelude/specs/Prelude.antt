@@ -1,5 +1,5 @@
 -- The `styp` and the `prft`, written.
-use Rattle.std.specs.Prelude.{ℕ, ◌+◌, cond, List, [], ◌∷◌, ◌++◌, eqb, take, drop}
+use Rattle.std.specs.Prelude.{ℕ, cond, List, [], ◌∷◌, ◌++◌, eqb, take, drop}
 use Rattle.laws.specs.Bytes.{be}
 use Rattle.track.specs.declared.Track.{Track}
 use Rattle.boxes.specs.Box.{box, full_box, when}

@@ -21,7 +21,7 @@ use Rattle.field_table.specs.Lines.{set_len, ivs_at, u64}
 use Rattle.field_set.specs.Lawful.{has, count_in, lawful}
 use Rattle.field_set.proofs.LawfulLaws.{lawful-facts}
 use Rattle.field_set.proofs.RuleLaws.{ruled}
-use Rattle.iv_counter.specs.Counter.{following, counters, counter_of, counter_words, counters_of, all_words}
+use Rattle.iv_counter.specs.Counter.{blocks, following, counters, counter_of, counter_words, counters_of, all_words}
 use Rattle.counters.specs.Protected.{protected_from}
 use Rattle.counters.specs.Follow.{iv_words, derived, ivs_follow, derived_fit, with_derived}
 use Rattle.counters.proofs.OutsideLaws.{sets-back}
@@ -133,7 +133,7 @@ module _ (k : ℕ) (few : (k ≡ 1) ⊎ (k ≡ 2)) where
 following-length : (c bytes : ℕ) (own : List ℕ) → length (following c bytes own) ≡ length own
 unfolding following
 following-length c bytes [] = refl
-following-length c bytes (b ∷ own) = ap suc (following-length _ b own)
+following-length c bytes (b ∷ own) = ap suc (following-length (c + blocks bytes) b own)
 
 -- of which there are k
 from-length : (t : Track) (w : List ℕ) (payload k i j : ℕ) → length (protected_from t w payload k i j) ≡ k

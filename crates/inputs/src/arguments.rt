@@ -1,6 +1,11 @@
 // The words that the program is started with. They are read twice: first all options, and then one folder after another.
+// Letters: `rt` the runtime, `err` standard error, `o` the options, `i` which word, counted from 0.
+ghost use Rattle.inputs.specs.Counts.{IsPrefixLen};
+
+use crate::complaints::tell;
 use crate::numbers;
-use libc::STDERR_FILENO;
+use std::env::FillError;
+use std::rt::Env;
 
 // What is asked for, where `join` is 0 without `--join`, and whether folders are named; and while the words are read, whether a number comes next, and whether that of `--join`.
 #[derive(Clone, Copy)]
@@ -29,20 +34,17 @@ pub enum Word {
 
 const EVERY: u64 = 8;
 
+// The bytes that a word may have, and a path.
+pub const WORD: usize = 4096;
+
 fn option(word: &[u8]) -> Word {
-    if check::same(word, b"--every") {
-        return Word::Every;
+    match word {
+        b"--every" => Word::Every,
+        b"--join" => Word::Join,
+        b"--sync" => Word::Sync,
+        b"--help" => Word::Help,
+        _ => Word::Unknown,
     }
-    if check::same(word, b"--join") {
-        return Word::Join;
-    }
-    if check::same(word, b"--sync") {
-        return Word::Sync;
-    }
-    if check::same(word, b"--help") {
-        return Word::Help;
-    }
-    Word::Unknown
 }
 
 // What a word is, where a number is waited for or not.
@@ -59,11 +61,11 @@ pub fn kind(waits: bool, word: &[u8]) -> Word {
     Word::Folder
 }
 
-fn complain(text: &[u8], word: &[u8]) {
-    io::write_all(STDERR_FILENO, b"relay: ");
-    io::write_all(STDERR_FILENO, text);
-    io::write_all(STDERR_FILENO, word);
-    io::write_all(STDERR_FILENO, b"\n");
+fn complain<E: Print>(err: &E, text: &[u8], word: &[u8]) {
+    tell(err, b"relay: ");
+    tell(err, text);
+    tell(err, word);
+    tell(err, b"\n");
 }
 
 fn bad(o: Options) -> Options {
@@ -74,22 +76,22 @@ fn bad(o: Options) -> Options {
 }
 
 // The number of an option is no number, or is missing.
-fn no_count(joins: bool, text: &[u8], word: &[u8]) {
+fn no_count<E: Print>(err: &E, joins: bool, text: &[u8], word: &[u8]) {
     if joins {
-        io::write_all(STDERR_FILENO, b"relay: --join");
+        tell(err, b"relay: --join");
     } else {
-        io::write_all(STDERR_FILENO, b"relay: --every");
+        tell(err, b"relay: --every");
     }
-    io::write_all(STDERR_FILENO, b" takes a number from 1 on");
-    io::write_all(STDERR_FILENO, text);
-    io::write_all(STDERR_FILENO, word);
-    io::write_all(STDERR_FILENO, b"\n");
+    tell(err, b" takes a number from 1 on");
+    tell(err, text);
+    tell(err, word);
+    tell(err, b"\n");
 }
 
-fn count(o: Options, word: &[u8]) -> Options {
+fn count<E: Print>(err: &E, o: Options, word: &[u8]) -> Options {
     let n = numbers::number_at(word, 0);
     if !n.stands | (n.next != word.len()) | (n.value == 0) {
-        no_count(o.joins, b", and this is none: ", word);
+        no_count(err, o.joins, b", and this is none: ", word);
         return bad(o);
     }
     let mut r = o;
@@ -116,7 +118,7 @@ fn waiting(o: Options, joins: bool) -> Options {
 }
 
 // The options after a further word.
-fn take(o: Options, word: &[u8]) -> Options {
+fn take<E: Print>(err: &E, o: Options, word: &[u8]) -> Options {
     let mut r = o;
     let k = kind(o.waits, word);
     match k {
@@ -124,41 +126,63 @@ fn take(o: Options, word: &[u8]) -> Options {
         Word::Join => return waiting(o, true),
         Word::Sync => r.sync = true,
         Word::Help => r.help = true,
-        Word::Count => return count(o, word),
+        Word::Count => return count(err, o, word),
         Word::Folder => return folder(o),
         Word::Unknown => {
-            complain(b"no option and no folder: ", word);
+            complain(err, b"no option and no folder: ", word);
             return bad(o);
         }
     }
     r
 }
 
-fn take_at(o: Options, i: usize) -> Options {
-    let mut word = io::buffer();
-    let n = os::arg(i, &mut word);
-    if os::errno() != 0 {
-        complain(b"an argument is too long", b"");
-        return bad(o);
+fn take_at<R: Env, E: Print>(rt: &R, err: &E, o: Options, i: usize) -> Options {
+    let mut word = [0u8; WORD];
+    match rt.arg(i, &mut word) {
+        Ok(n) => take(err, o, &word[..n]),
+        Err(_) => {
+            complain(err, b"an argument is too long", b"");
+            bad(o)
+        }
     }
-    take(o, &word[..n])
+}
+
+// How many words the program was started with, its own name among them.
+pub fn how_many<R: Env>(rt: &R) -> usize {
+    let mut first = [0u8; 1];
+    for i in 0..usize::MAX {
+        if let Err(FillError::NotPresent) = rt.arg(i, &mut first) {
+            return i;
+        }
+    }
+    usize::MAX
+}
+
+// A word at the front of a buffer: its length, or 0 where it is missing or too long.
+pub fn word_at<R: Env>(rt: &R, i: usize, word: &mut [u8]) -> usize
+    ensures { IsPrefixLen result word.new }
+{
+    match rt.arg(i, word) {
+        Ok(n) => n,
+        Err(_) => 0,
+    }
 }
 
 // The options after all words of the program, its own name left out.
-fn take_all(before: Options) -> Options {
+fn take_all<R: Env, E: Print>(rt: &R, err: &E, before: Options) -> Options {
     let mut o = before;
-    let n = os::arg_count();
+    let n = how_many(rt);
     let mut i = 1;
     while i < n {
-        o = take_at(o, i);
+        o = take_at(rt, err, o, i);
         i += 1;
     }
     o
 }
 
 // What the program was started with.
-pub fn read_all() -> Options {
-    let o = take_all(Options {
+pub fn read_all<R: Env, E: Print>(rt: &R, err: &E) -> Options {
+    let none = Options {
         every: EVERY,
         join: 0,
         sync: false,
@@ -167,9 +191,10 @@ pub fn read_all() -> Options {
         bad: false,
         waits: false,
         joins: false,
-    });
+    };
+    let o = take_all(rt, err, none);
     if o.waits {
-        no_count(o.joins, b"", b"");
+        no_count(err, o.joins, b"", b"");
         return bad(o);
     }
     o

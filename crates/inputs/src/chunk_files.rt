@@ -1,10 +1,11 @@
 // The chunks in a track's files: chunks.txt has a line for each, which begins with its length, and chunks.bin their bytes.
-// Letters: `n` a number that was read.
+// Letters: `err` standard error, `n` a number that was read.
 ghost use Rattle.std.specs.Prelude.{◌≡◌, length};
-ghost use Rattle.io.specs.Counts.{IsPrefixLen};
+ghost use Rattle.inputs.specs.Counts.{IsPrefixLen};
 
 use crate::files;
 use crate::numbers::Number;
+use std::io::Read;
 
 // The bytes that a chunk may have.
 const CHUNK: u64 = 262144;
@@ -17,27 +18,39 @@ pub fn room() -> [u8; 278528]
 }
 
 // Whether the length of a chunk is one; what is wrong has been explained.
-fn length_ok(folder: &[u8], line: u64, n: Number) -> bool {
+fn length_ok<E: Print>(err: &E, folder: &[u8], line: u64, n: Number) -> bool {
     if !n.stands {
-        files::wrong_line(folder, line, b"it doesn't begin with a length in bytes");
+        files::wrong_line(
+            err,
+            folder,
+            line,
+            b"it doesn't begin with a length in bytes",
+        );
         return false;
     }
     if n.value == 0 {
-        files::wrong_line(folder, line, b"a chunk can't have 0 bytes");
+        files::wrong_line(err, folder, line, b"a chunk can't have 0 bytes");
         return false;
     }
     if CHUNK < n.value {
-        files::wrong_line(folder, line, b"the chunk has more than 262,144 bytes");
+        files::wrong_line(err, folder, line, b"the chunk has more than 262,144 bytes");
         return false;
     }
     true
 }
 
 // The chunk of a line of chunks.txt at the front of a buffer: its length, or 0 where the line is bad or the file ends too early, which has been explained.
-pub fn read_chunk(folder: &[u8], line: u64, n: Number, fd: i32, chunk: &mut [u8]) -> usize
+pub fn read_chunk<F: Read, E: Print>(
+    err: &E,
+    folder: &[u8],
+    line: u64,
+    n: Number,
+    file: &mut F,
+    chunk: &mut [u8],
+) -> usize
     ensures { IsPrefixLen result chunk.new }
 {
-    if !length_ok(folder, line, n) {
+    if !length_ok(err, folder, line, n) {
         return 0;
     }
     let length = n.value;
@@ -45,8 +58,8 @@ pub fn read_chunk(folder: &[u8], line: u64, n: Number, fd: i32, chunk: &mut [u8]
         return 0;
     }
     let k = length as usize;
-    if io::read_full(fd, &mut chunk[..k]) != k {
-        files::wrong_line(folder, line, b"chunks.bin ends before this chunk does");
+    if files::read_full(file, &mut chunk[..k]) != k {
+        files::wrong_line(err, folder, line, b"chunks.bin ends before this chunk does");
         return 0;
     }
     k

@@ -1,10 +1,11 @@
 // The folders of the tracks: those that the program was started with, or the bundled ones.
-// Letters: `i` which one, counted from 0, `p` a place.
+// Letters: `rt` the runtime, `i` which one, counted from 0, `p` a place.
 ghost use Rattle.std.specs.Prelude.{◌≤◌, length};
-ghost use Rattle.io.specs.Counts.{IsPrefixLen};
+ghost use Rattle.inputs.specs.Counts.{IsPrefixLen};
 
-use crate::arguments::Word;
+use crate::arguments::{WORD, Word};
 use crate::{arguments, files, numbers};
+use std::rt::Env;
 
 // Whether a folder is named, and how many bytes at the front of a buffer are its path.
 #[derive(Clone, Copy)]
@@ -14,21 +15,24 @@ pub struct Named {
 }
 
 // Whether a word of the program is the number of `--every` or `--join`.
-fn is_count(i: usize) -> bool {
+fn is_count<R: Env>(rt: &R, i: usize) -> bool {
     if i < 2 {
         return false;
     }
-    let mut word = io::buffer();
-    let n = os::arg(i - 1, &mut word);
-    check::same(&word[..n], b"--every") | check::same(&word[..n], b"--join")
+    let mut word = [0u8; WORD];
+    let n = arguments::word_at(rt, i - 1, &mut word);
+    match arguments::kind(false, &word[..n]) {
+        Word::Every | Word::Join => true,
+        _ => false,
+    }
 }
 
 // What a word of the program names; its bytes go into the buffer.
-pub fn given(i: usize, path: &mut [u8]) -> Named
+pub fn given<R: Env>(rt: &R, i: usize, path: &mut [u8]) -> Named
     ensures { IsPrefixLen result.length path.new }
 {
-    let length = os::arg(i, &mut *path);
-    let k = arguments::kind(is_count(i), &path[..length]);
+    let length = arguments::word_at(rt, i, &mut *path);
+    let k = arguments::kind(is_count(rt, i), &path[..length]);
     let folder = match k {
         Word::Folder => true,
         _ => false,

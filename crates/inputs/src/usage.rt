@@ -1,7 +1,9 @@
 // What the program can be started with, in words. `--unproved` never comes to it: the script `relay` takes that word out, and prints this text as it stands here.
-pub fn usage(fd: i32) {
-    io::write_all(
-        fd,
+use std::io;
+
+pub fn usage<P: Print>(out: &P) -> io::Result<()> {
+    printing::say(
+        out,
         b"usage: relay [--unproved] [--every N | --sync] [--join N] [FOLDER ..]
 
 Encodes the chunks of each track, receives the objects, and encodes the rebuilt chunks again.
@@ -19,5 +21,5 @@ Encodes the chunks of each track, receives the objects, and encodes the rebuilt 
 A chunk has up to 262,144 bytes, and chunks.txt up to 65,536.
 Exit status: 0 all is well (a refused chunk is), 1 a file is bad, or an object or a second receiver differed, 2 bad arguments.
 ",
-    );
+    )
 }

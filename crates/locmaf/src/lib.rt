@@ -1,5 +1,5 @@
-// The codec for programs in C: each call with its name in include/locmaf.h. A part of the lent bytes can't be handed over, so its length is: the
-// payload is the tail of the object or the chunk, and none on a refusal.
+// The codec as programs in C call it, which `locmaf_c` exports: each call with its name in include/locmaf.h. A part of the lent bytes can't be handed
+// over, so its length is: the payload is the tail of the object or the chunk, and none on a refusal.
 #![tactic(auto)]
 
 ghost use Rattle.std.specs.Prelude.{◌≡◌};
@@ -20,16 +20,14 @@ use slots::lawful::Side;
 // ---- the encoder
 
 // The words of a whole table.
-#[unsafe(no_mangle)]
-pub extern "C" fn locmaf_encoder_words() -> u64
+pub fn locmaf_encoder_words() -> u64
     ensures { result ≡ table_len }
 {
     share_words::share::TABLE as u64
 }
 
 // Opens a slot on a track. The number is 0, or why nothing was changed.
-#[unsafe(no_mangle)]
-pub extern "C" fn locmaf_encoder_open(
+pub fn locmaf_encoder_open(
     table: &mut [u64],
     slot: u64,
     track: u64,
@@ -61,24 +59,21 @@ pub extern "C" fn locmaf_encoder_open(
 }
 
 // Closes a slot: its share becomes 0.
-#[unsafe(no_mangle)]
-pub extern "C" fn locmaf_encoder_close(table: &mut [u64], slot: u64) -> u64
+pub fn locmaf_encoder_close(table: &mut [u64], slot: u64) -> u64
     ensures { out result table.new ≡ on_table itself (closing Encoder) table.old slot }
 {
     slots::calls::close(Side::Encoder, table, slot)
 }
 
 // Starts a group in a slot: the reference is dropped.
-#[unsafe(no_mangle)]
-pub extern "C" fn locmaf_encoder_start_group(table: &mut [u64], slot: u64) -> u64
+pub fn locmaf_encoder_start_group(table: &mut [u64], slot: u64) -> u64
     ensures { out result table.new ≡ on_table itself (grouping Encoder) table.old slot }
 {
     slots::calls::start_group(Side::Encoder, table, slot)
 }
 
 // One chunk into the front of an object: the length of its payload. The wish 0 is for a full object, any other for a delta.
-#[unsafe(no_mangle)]
-pub extern "C" fn locmaf_encode(
+pub fn locmaf_encode(
     table: &mut [u64],
     slot: u64,
     wish: u64,
@@ -99,16 +94,14 @@ pub extern "C" fn locmaf_encode(
 // ---- the receiver
 
 // The words of a whole table.
-#[unsafe(no_mangle)]
-pub extern "C" fn locmaf_receiver_words() -> u64
+pub fn locmaf_receiver_words() -> u64
     ensures { result ≡ table_len }
 {
     share_words::share::TABLE as u64
 }
 
 // Opens a slot on a track. The number is 0, or why nothing was changed.
-#[unsafe(no_mangle)]
-pub extern "C" fn locmaf_receiver_open(
+pub fn locmaf_receiver_open(
     table: &mut [u64],
     slot: u64,
     track: u64,
@@ -140,24 +133,21 @@ pub extern "C" fn locmaf_receiver_open(
 }
 
 // Closes a slot: its share becomes 0.
-#[unsafe(no_mangle)]
-pub extern "C" fn locmaf_receiver_close(table: &mut [u64], slot: u64) -> u64
+pub fn locmaf_receiver_close(table: &mut [u64], slot: u64) -> u64
     ensures { out result table.new ≡ on_table itself (closing Receiver) table.old slot }
 {
     slots::calls::close(Side::Receiver, table, slot)
 }
 
 // Starts a group in a slot: the reference is dropped.
-#[unsafe(no_mangle)]
-pub extern "C" fn locmaf_receiver_start_group(table: &mut [u64], slot: u64) -> u64
+pub fn locmaf_receiver_start_group(table: &mut [u64], slot: u64) -> u64
     ensures { out result table.new ≡ on_table itself (grouping Receiver) table.old slot }
 {
     slots::calls::start_group(Side::Receiver, table, slot)
 }
 
 // One object into the front of a chunk: the length of its payload.
-#[unsafe(no_mangle)]
-pub extern "C" fn locmaf_receive(
+pub fn locmaf_receive(
     table: &mut [u64],
     slot: u64,
     object: &[u8],

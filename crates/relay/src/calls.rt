@@ -1,5 +1,5 @@
 // The two calls on a slot of a table, with the payload put behind the front that is written.
-ghost use Rattle.io.specs.Counts.{IsPrefixLen};
+ghost use Rattle.inputs.specs.Counts.{IsPrefixLen};
 
 use inputs::files;
 

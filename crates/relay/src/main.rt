@@ -1,7 +1,8 @@
 // Sends captured tracks from an encoder to a receiver and says what that saves. Each chunk becomes an object, the object a chunk again, and that chunk
 // once more an object, by an encoder that has seen only rebuilt chunks: the two objects have to be the same, byte for byte.
 //
-// A proved program can't hand back an exit status, so its last line on standard output is its verdict, and the script `relay` makes the status of it.
+// Its last line on standard output is its verdict, and the script `relay` makes the exit status of it.
+// Letters: `rt` the runtime, `err` standard error, `o` the options.
 #![tactic(auto)]
 
 mod calls; // calls.rt: the two calls, with front and payload put together
@@ -17,25 +18,27 @@ use accounts::report;
 use accounts::tally::Tally;
 use inputs::arguments::Options;
 use inputs::{arguments, usage};
-use libc::{STDERR_FILENO, STDOUT_FILENO};
+use std::io;
+use std::rt::{Env, Files};
 
-fn all_tracks(o: Options) -> Tally {
+fn all_tracks<R: Env + Files + Print, E: Print>(rt: &R, err: &E, o: Options) -> io::Result<Tally> {
     if o.folders {
-        return tracks::given(o);
+        return tracks::given(rt, err, o);
     }
-    tracks::bundled(o)
+    tracks::bundled(rt, err, o)
 }
 
-fn main() {
-    let o = arguments::read_all();
+fn main(rt: HostRuntime) -> io::Result<()> {
+    let err = rt.stderr();
+    let o = arguments::read_all(&rt, &err);
     if o.bad {
-        usage::usage(STDERR_FILENO);
-        io::write_all(STDOUT_FILENO, b"bad arguments\n");
-        return;
+        // What can't be said on standard error is left out, as in `inputs`.
+        let _ = usage::usage(&err);
+        return printing::say(&rt, b"bad arguments\n");
     }
     if o.help {
-        usage::usage(STDOUT_FILENO);
-        return;
+        return usage::usage(&rt);
     }
-    report::all(o.join, all_tracks(o));
+    let t = all_tracks(&rt, &err, o)?;
+    report::all(&rt, o.join, t)
 }

@@ -1,6 +1,6 @@
 // One chunk from end to end: as an object, as a chunk again, and once more as an object.
 ghost use Rattle.std.specs.Prelude.{◌≡◌};
-ghost use Rattle.io.specs.Counts.{IsPrefixLen};
+ghost use Rattle.inputs.specs.Counts.{IsPrefixLen};
 
 use crate::calls::Whole;
 use crate::home::Home;
@@ -30,7 +30,7 @@ fn comes_back(encoder: &mut [u64], wish: u64, object: &[u8], number: u64, chunk:
         return false;
     }
     let m = e.end;
-    check::same(object, &second[..m])
+    object == &second[..m]
 }
 
 // A chunk that became no object.

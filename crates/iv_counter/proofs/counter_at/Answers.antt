@@ -28,7 +28,7 @@ pub returns-then-k-eq2 : goal.returns-then-k-eq2
 returns-then-k-eq2 c =
     let a = c.args in
     let room = iv-place a.k a.i c.requires.1 c.requires.2 in
-    read-two a.k a.i a.w.now (omega (arith, room)) (λ j. omega (arith, c.shared_slice_known-then-k-eq2-1.given j)) c.if-k-eq2.true
+    read-two a.k a.i a.w.now (omega (arith, room)) (λ j. omega (arith, c.type_inv.w j)) c.if-k-eq2.true
 
 pub offset_bounds-w-at-2 : goal.offset_bounds-w-at-2
 offset_bounds-w-at-2 c = omega (arith, iv-place c.args.k c.args.i c.requires.1 c.requires.2)
@@ -40,4 +40,4 @@ pub returns : goal.returns
 returns c =
     let a = c.args in
     let room = iv-place a.k a.i c.requires.1 c.requires.2 in
-    read_one a.k a.i a.w.now (omega (arith, room)) (λ j. omega (arith, c.shared_slice_known-2-1.given j)) (one_word a.k c.requires.1 c.if-k-eq2.false)
+    read_one a.k a.i a.w.now (omega (arith, room)) (λ j. omega (arith, c.type_inv.w j)) (one_word a.k c.requires.1 c.if-k-eq2.false)

@@ -4,7 +4,7 @@ use Prim.Native.Nat.{ℕ, ◌+◌, ◌*◌}
 use native.Mathlib.Numerals.{add-one}
 use native.Mathlib.Omega.{arith}
 use mathlib.Core.Path.{refl, sym, ap}
-use mathlib.Core.List.{◌∷◌}
+use mathlib.Core.List.{[], ◌∷◌}
 use lib.ListN.{set, length-set}
 use Rattle.field_table.specs.Lines.{ivs_at}
 use Rattle.iv_counter.proofs.CounterLaws.{iv-place, one_word, words-one, words-two}

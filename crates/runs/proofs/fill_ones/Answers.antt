@@ -1,4 +1,4 @@
-use Prim.Native.Nat.{◌+◌, ◌-◌, ◌<◌}
+use Prim.Native.Nat.{◌+◌, ◌<◌}
 use native.Mathlib.Nat.{add-zero}
 use native.Mathlib.Omega.{arith}
 use mathlib.Core.Path.{◌≡◌, refl}
@@ -22,11 +22,10 @@ pub overflow_add-at : goal.overflow_add-at
 overflow_add-at c = omega (arith, c.if-end-at-2.false, c.if-end-at.false, c.requires.0, c.loop-i-test.true)
 
 pub one_at-g-requires : goal.one_at-g-requires
-one_at-g-requires c =
-    (
-      omega (arith, c.if-end-at-2.false, c.if-end-at.false, c.requires.0, c.loop-i-test.true),
-      omega (arith, c.if-old-n.false, c.loop-i-test.true),
-    )
+one_at-g-requires c = (
+  omega (arith, c.if-end-at-2.false, c.if-end-at.false, c.requires.0, c.loop-i-test.true),
+  omega (arith, c.if-old-n.false, c.loop-i-test.true),
+)
 
 pub shape_of-out-in_default : goal.shape_of-out-in_default
 shape_of-out-in_default c = (c.loop-i.invariant 0).same

@@ -1,9 +1,7 @@
-use Prim.Native.Nat.{◌+◌, ◌-◌}
+use Prim.Native.Nat.{◌+◌}
 use native.Mathlib.Omega.{arith}
 use mathlib.Core.Path.{refl, ◌∙◌}
-use mathlib.Core.List.{◌∷◌}
 use lib.ListN.{length-set}
-use types.Run.{miss}
 use Rattle.runs.proofs.FillLoop.{long, done, halt, next}
 use Rattle.runs.proofs.fill_rest.Goals as goal
 
@@ -18,7 +16,7 @@ returns-in_default c =
     λ at before h.
     rw c.outcome_of.ensures
     (halt _ _ _ _ _ at _ _ before _ _ _ _ _ (c.loop-k.invariant.1 at before h) c.loop-k-test.true _ c.value_at-g.ensures
-    (λ x q e. miss (1 ∷ 2 ∷ []) 0 tt (rw e at c.in_default.in_default-own.keys2)))
+    c.in_default.not-Value)
 
 pub overflow_add-out : goal.overflow_add-out
 overflow_add-out c = omega (arith, c.loop-k.invariant.0, c.requires, c.loop-k-test.true)
@@ -36,12 +34,11 @@ pub loop-k-smaller : goal.loop-k-smaller
 loop-k-smaller c = omega (arith, c.loop-k-test.true)
 
 pub loop-k-preserved : goal.loop-k-preserved
-loop-k-preserved c =
-    (
-      length-set c.loop-k.out (c.args.to + c.loop-k.k) _ ∙ c.loop-k.invariant.0,
-      λ at before h.
-          next _ _ _ _ _ at _ _ before _ _ _ _ _ (c.loop-k.invariant.1 at before h) c.loop-k-test.true _ _ c.value_at-g.ensures c.in-Value.is,
-    )
+loop-k-preserved c = (
+  length-set c.loop-k.out (c.args.to + c.loop-k.k) _ ∙ c.loop-k.invariant.0,
+  λ at before h.
+      next _ _ _ _ _ at _ _ before _ _ _ _ _ (c.loop-k.invariant.1 at before h) c.loop-k-test.true _ _ c.value_at-g.ensures c.in-Value.is,
+)
 
 pub shape_of-out-then-at-end : goal.shape_of-out-then-at-end
 shape_of-out-then-at-end c = c.loop-k.invariant.0

@@ -1,7 +1,6 @@
 use borrow.Author.Rules.{rules}
 use native.Mathlib.Omega.{arith}
 use mathlib.Core.Path.{◌≡◌}
-use Prim.Native.Nat.{◌-◌}
 use lib.ListN.{take, length-set}
 use lib.Seq.{take_all}
 use Rattle.laws.proofs.WriteLaws.{wrote_none, then_one}

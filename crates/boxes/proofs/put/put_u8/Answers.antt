@@ -2,7 +2,7 @@
 use Prim.Native.Nat.{◌%◌}
 use native.Mathlib.Nat.{div-one}
 use native.Mathlib.Omega.{arith}
-use mathlib.Core.List.{◌∷◌}
+use mathlib.Core.List.{[], ◌∷◌}
 use Rattle.laws.specs.Bytes.{be}
 use Rattle.laws.proofs.WriteLaws.{wrote-sets}
 use Rattle.boxes.proofs.put.put_u8.Goals as goal

@@ -1,6 +1,7 @@
 -- `cmaf_read_boxes::right::pairs_in` meets its contract: the boxes lie in the chunk, and its tests are the definition's.
-use mathlib.Core.Bool.{◌&&◌}
+use mathlib.Core.Bool.{◌&&◌, not}
 use Rattle.cmaf_read_boxes.proofs.BoxLaws.{BoxesIn, found_in, pairs-wrong, pairs-read}
+use mathlib.Core.Path.{ap}
 use Rattle.cmaf_read_boxes.proofs.right.pairs_in.Goals as goal
 
 lie : (c : goal.After-senc-1) → BoxesIn c.args.c.now c.args.top c.args.f
@@ -27,7 +28,7 @@ sizes_ok-requires c = let i = lie-3 c in (i.saiz-in, i.saio-in)
 pub returns-then-not-outer_ok-samples_ok : goal.returns-then-not-outer_ok-samples_ok
 returns-then-not-outer_ok-samples_ok c =
     pairs-wrong c.args.t c.args.c.now c.requires.top_value.0 c.requires.top_value.1
-    (λ j. c.outer_ok.ensures j && (c.samples_ok.ensures j && c.sizes_ok.ensures j)) c.if-not-outer_ok-samples_ok.true
+    (λ j. c.outer_ok.ensures j && (c.samples_ok.ensures j && c.sizes_ok.ensures j)) (ap not c.if-not-outer_ok-samples_ok.true)
 
 pub senc_read-requires : goal.senc_read-requires
 senc_read-requires c = (lie-4 c).senc-in
@@ -35,5 +36,5 @@ senc_read-requires c = (lie-4 c).senc-in
 pub returns : goal.returns
 returns c =
     pairs-read c.args.t c.args.c.now c.requires.top_value.0 c.requires.top_value.1 c.requires.f_value
-    (λ j. c.outer_ok.ensures j && (c.samples_ok.ensures j && c.sizes_ok.ensures j)) c.if-not-outer_ok-samples_ok.false
+    (λ j. c.outer_ok.ensures j && (c.samples_ok.ensures j && c.sizes_ok.ensures j)) (ap not c.if-not-outer_ok-samples_ok.false)
     c.senc_read.ensures

@@ -1,11 +1,11 @@
 -- `cmaf_read_chunk::read::count` meets its contract: its tests are the definitions', in their order, and the words it keeps are the events.
 use Rattle.laws.specs.Bytes.{Bytes}
 use Rattle.laws.proofs.BytesLaws.{are-bytes}
-use Rattle.laws.proofs.GateLaws.{failed, held}
 use Rattle.wire.specs.Form.{rows}
 use Rattle.cmaf_read_boxes.proofs.BoxLaws.{found-hold}
 use Rattle.cmaf_read_chunk.proofs.KeptLaws.{Counting, events-lent, tfdt-lent, kept-words, list_counted, listed}
 use Rattle.cmaf_read_chunk.proofs.RungLaws.{counts-break, list-breaks, maxima-keep}
+use mathlib.Core.Path.{sym, ◌∙◌}
 use Rattle.cmaf_read_chunk.proofs.read.count.Goals as goal
 
 counting : (c : goal.After-keep_events-arg-1) → let a = c.args in Counting a.t a.c.now a.top a.f a.events.now
@@ -14,7 +14,7 @@ counting c =
       top-is = c.requires.top_value.0;
       inner-is = c.requires.top_value.1;
       boxes-right = c.requires.c_value.0;
-      counts-right = held (c.counts_ok.ensures c.args.t c.requires.pairs_value) c.if-not-counts_ok.false;
+      counts-right = sym (c.counts_ok.ensures c.args.t c.requires.pairs_value) ∙ c.if-not-counts_ok.false;
       lent = c.requires.c_value.1;
     }
 
@@ -24,7 +24,7 @@ counting-2 c =
       top-is = c.requires.top_value.0;
       inner-is = c.requires.top_value.1;
       boxes-right = c.requires.c_value.0;
-      counts-right = held (c.counts_ok.ensures c.args.t c.requires.pairs_value) c.if-not-counts_ok.false;
+      counts-right = sym (c.counts_ok.ensures c.args.t c.requires.pairs_value) ∙ c.if-not-counts_ok.false;
       lent = c.requires.c_value.1;
     }
 
@@ -34,7 +34,7 @@ counting-3 c =
       top-is = c.requires.top_value.0;
       inner-is = c.requires.top_value.1;
       boxes-right = c.requires.c_value.0;
-      counts-right = held (c.counts_ok.ensures c.args.t c.requires.pairs_value) c.if-not-counts_ok.false;
+      counts-right = sym (c.counts_ok.ensures c.args.t c.requires.pairs_value) ∙ c.if-not-counts_ok.false;
       lent = c.requires.c_value.1;
     }
 
@@ -44,7 +44,7 @@ counting-4 c =
       top-is = c.requires.top_value.0;
       inner-is = c.requires.top_value.1;
       boxes-right = c.requires.c_value.0;
-      counts-right = held (c.counts_ok.ensures c.args.t c.requires.pairs_value) c.if-not-counts_ok.false;
+      counts-right = sym (c.counts_ok.ensures c.args.t c.requires.pairs_value) ∙ c.if-not-counts_ok.false;
       lent = c.requires.c_value.1;
     }
 
@@ -54,15 +54,15 @@ counting-5 c =
       top-is = c.requires.top_value.0;
       inner-is = c.requires.top_value.1;
       boxes-right = c.requires.c_value.0;
-      counts-right = held (c.counts_ok.ensures c.args.t c.requires.pairs_value) c.if-not-counts_ok.false;
+      counts-right = sym (c.counts_ok.ensures c.args.t c.requires.pairs_value) ∙ c.if-not-counts_ok.false;
       lent = c.requires.c_value.1;
     }
 
 bytes : (c : goal.After-bmdt_of-bmdt) → Bytes c.args.c.now
-bytes c = are-bytes c.args.c.now (λ i. (c.shared_slice_known-1.given i).fits)
+bytes c = are-bytes c.args.c.now (λ i. (c.type_inv.c i).fits)
 
 bytes-2 : (c : goal.Else-list) → Bytes c.args.c.now
-bytes-2 c = are-bytes c.args.c.now (λ i. (c.shared_slice_known-1.given i).fits)
+bytes-2 c = are-bytes c.args.c.now (λ i. (c.type_inv.c i).fits)
 
 pub counts_ok-requires : goal.counts_ok-requires
 counts_ok-requires c =
@@ -72,7 +72,7 @@ counts_ok-requires c =
 pub returns-then-not-counts_ok : goal.returns-then-not-counts_ok
 returns-then-not-counts_ok c =
     let a = c.args in
-    counts-break (rows a.form) a.t a.c.now (failed (c.counts_ok.ensures a.t c.requires.pairs_value) c.if-not-counts_ok.true)
+    counts-break (rows a.form) a.t a.c.now (sym (c.counts_ok.ensures a.t c.requires.pairs_value) ∙ c.if-not-counts_ok.true)
 
 pub keep_events-requires : goal.keep_events-requires
 keep_events-requires c = record { at_in_bounds = (events-lent (counting c)).0; k_in_bounds = (events-lent (counting c)).1 }

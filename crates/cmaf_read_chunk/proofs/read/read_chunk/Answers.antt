@@ -1,7 +1,7 @@
 -- `cmaf_read_chunk::read::read_chunk` meets its contract: its tests are the definitions', and boxes that stand where they must make a whole tree.
-use mathlib.Core.Path.{◌≡◌, refl}
-use mathlib.Core.Bool.{true}
-use Rattle.laws.proofs.GateLaws.{pass, held}
+use mathlib.Core.Path.{◌≡◌, refl, ap, sym, ◌∙◌}
+use mathlib.Core.Bool.{true, not}
+use Rattle.laws.proofs.GateLaws.{pass}
 use Rattle.wire.specs.Form.{rows}
 use Rattle.cmaf_read_tree.specs.Whole.{whole}
 use Rattle.cmaf_read_boxes.proofs.BoxLaws.{moof-found, order-breaks, order-whole, wrong-breaks, with-right}
@@ -11,12 +11,12 @@ use Rattle.cmaf_read_chunk.proofs.read.read_chunk.Goals as goal
 is_whole : (c : goal.After-refused-in_default) → whole c.args.c.now ≡ true
 is_whole c =
     let a = c.args in
-    order-whole a.t a.c.now c.top_of-top.ensures c.inner_of-f.ensures c.order_ok.ensures c.if-not-order_ok.false
+    order-whole a.t a.c.now c.top_of-top.ensures c.inner_of-f.ensures c.order_ok.ensures (ap not c.if-not-order_ok.false)
 
 is_whole-2 : (c : goal.After-read_rest-arg-1) → whole c.args.c.now ≡ true
 is_whole-2 c =
     let a = c.args in
-    order-whole a.t a.c.now c.top_of-top.ensures c.inner_of-f.ensures c.order_ok.ensures c.if-not-order_ok.false
+    order-whole a.t a.c.now c.top_of-top.ensures c.inner_of-f.ensures c.order_ok.ensures (ap not c.if-not-order_ok.false)
 
 pub inner_of-f-requires : goal.inner_of-f-requires
 inner_of-f-requires c = moof-found c.args.c.now _ c.top_of-top.ensures
@@ -26,11 +26,11 @@ returns-then-not-order_ok c =
     let a = c.args in
     boxes-break (rows a.form) a.t a.c.now
     (order-breaks a.t a.c.now c.top_of-top.ensures c.inner_of-f.ensures c.order_ok.ensures
-    c.if-not-order_ok.true)
+    (ap not c.if-not-order_ok.true))
     c.unordered.ensures c.refused.ensures
 
 pub pairs_in-read-requires : goal.pairs_in-read-requires
-pairs_in-read-requires c = record { top_value = (c.top_of-top.ensures, c.inner_of-f.ensures); f_value = held c.order_ok.ensures c.if-not-order_ok.false }
+pairs_in-read-requires c = record { top_value = (c.top_of-top.ensures, c.inner_of-f.ensures); f_value = sym c.order_ok.ensures ∙ c.if-not-order_ok.false }
 
 pub returns-in_default : goal.returns-in_default
 returns-in_default c =

@@ -3,7 +3,6 @@ use native.Mathlib.Omega.{arith}
 use mathlib.Core.Path.{refl, sym, ◌∙◌}
 use mathlib.Core.Bool.{false≢true}
 use borrow.Author.Rules.{part_to_end}
-use Rattle.laws.proofs.GateLaws.{failed, held}
 use Rattle.field_table.specs.Lines.{set_len}
 use Rattle.event_value.specs.Events.{events_len}
 use Rattle.laws.proofs.HalvesLaws.{front_long, front-stays, rest-new}
@@ -21,7 +20,7 @@ rules_ok-requires c =
     record { right = p.right.0; events_in_bounds = omega (arith, p.events_bound.0, front_long events_len set_len c.args.words.now p.events_bound.1); d_value = c.defaults_of-d.ensures }
 
 pub returns-then-not-rules_ok : goal.returns-then-not-rules_ok
-returns-then-not-rules_ok c = (record { asked = sym (failed c.rules_ok.ensures c.if-not-rules_ok.true); filled = λ z. absurd (false≢true z) }, refl)
+returns-then-not-rules_ok c = (record { asked = sym (sym c.rules_ok.ensures ∙ c.if-not-rules_ok.true); filled = λ z. absurd (false≢true z) }, refl)
 
 pub put_set-requires : goal.put_set-requires
 put_set-requires c = record { gatherable = c.requires.right.1; x_value = part_to_end c.args.words.now events_len ∙ c.requires.events_bound.2; d_value = c.defaults_of-d.ensures }
@@ -31,7 +30,7 @@ returns c =
     let w = c.args.words.now in
     let x = c.put_set.new.x in (
       record {
-        asked = sym (held c.rules_ok.ensures c.if-not-rules_ok.false);
+        asked = sym (sym c.rules_ok.ensures ∙ c.if-not-rules_ok.false);
         filled = λ z. rest-new events_len set_len w c.requires.events_bound.1 x ∙ c.put_set.ensures;
       },
       front-stays events_len set_len w c.requires.events_bound.1 x,

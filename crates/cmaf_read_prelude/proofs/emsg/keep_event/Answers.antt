@@ -65,7 +65,7 @@ overflow_sub-words-3 c =
     search rules
 
 pub shape_of-events : goal.shape_of-events
-shape_of-events c = c.store.ensures.1
+shape_of-events c = c.store.ensures.out_len_unchanged
 
 pub returns : goal.returns
 returns c =
@@ -73,4 +73,4 @@ returns c =
     let w =
     words_are _ _ c.requires.b_value.0 _ _ c.end_of-end.ensures c.zero_from-scheme.ensures _ c.zero_from-value.ensures
     _ _ _ _ c.u32_at.ensures.0 c.u64_at.ensures c.u32_at-2.ensures.0 c.u32_at-3.ensures.0 in
-    c.store.ensures.0 ∙ ap (sets a.events.now a.at) w
+    c.store.ensures.out_after ∙ ap (sets a.events.now a.at) w

@@ -1,5 +1,6 @@
 -- `cmaf_read_rules::all::clocks_ok` meets its contract, by the row of tests that is left.
 use Prim.Native.Nat.{◌-◌}
+use mathlib.Core.List.{[]}
 use Rattle.laws.proofs.RowLaws.{Tested}
 use Rattle.event_value.specs.Events.{events_from}
 use Rattle.cmaf_read_rules.specs.Rules.{clocks_ok}

@@ -1,6 +1,7 @@
 -- `cmaf_read_rules::all::rules_ok` meets its contract, by what each test ensures.
 use native.Mathlib.Omega.{arith}
 use mathlib.Core.Path.{◌∙◌, ap}
+use mathlib.Core.List.{[]}
 use Rattle.event_value.specs.Events.{events_of}
 use Rattle.cmaf_read_moof.specs.declared.defaults.Defaults.{Defaults}
 use Rattle.cmaf_read_trun.specs.Columns.{FewRows}

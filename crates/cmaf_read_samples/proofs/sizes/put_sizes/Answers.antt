@@ -17,7 +17,7 @@ overflow_sub-n c =
     omega (arith, several a.r.count a.equal c.if-r-equal.false)
 
 pub loop-i-init : goal.loop-i-init
-loop-i-init c = store-start _ _ _ _ (simp length-set (omega (arith, (c.requires.sized, c.requires.x_len), several c.args.r.count c.args.equal c.if-r-equal.false)))
+loop-i-init c = store-start _ _ _ _ (simp length-set (omega (arith, c.requires.sized, c.requires.x_len, several c.args.r.count c.args.equal c.if-r-equal.false)))
 
 pub size_at-requires : goal.size_at-requires
 size_at-requires c = record { rows_in = c.requires.sized.0; default_bound = c.requires.sized.2; i_lt_count = omega (arith, c.loop-i-test.true) }

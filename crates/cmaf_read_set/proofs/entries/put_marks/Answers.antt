@@ -1,18 +1,18 @@
 -- `cmaf_read_set::entries::put_marks` meets its contract, by the laws of `proofs/MarkLaws.antt`.
 use native.Mathlib.Omega.{arith}
 use mathlib.Core.Path.{◌≡◌, ◌∙◌, ap}
-use mathlib.Core.Logic.{⊎_elim}
 use lib.ListN.{length, length-set}
 use Rattle.cmaf_read_set.proofs.MarkLaws.{iv_mark, mark-yes, mark-no, mark-length, marks-map, marks-plain, marks-length}
 use Rattle.cmaf_read_set.proofs.entries.put_marks.Goals as goal
+use Rattle.cmaf_read_set.proofs.entries.put_marks.Goals.{then-e-ne0, else-e-ne0}
 
 -- the mark of the IVs is made, where there are any
 marked : (c : goal.Then-e) → c.if-e-ne0.x ≡ iv_mark c.args.e c.args.x.now
-marked c = ⊎_elim (λ w. mark-yes _ _ w.0.taken w.1) (λ w. mark-no _ _ w.0.left w.1) c.if-e-ne0.branch
+marked c = elim c.if-e-ne0.branch [ then-e-ne0 w ↦ mark-yes _ _ w.if-e-ne0.true w.x-is | else-e-ne0 w ↦ mark-no _ _ w.if-e-ne0.false w.x-is ]
 
 -- the mark of the IVs is made, where there are any
 marked-2 : (c : goal.Else-e) → c.if-e-ne0.x ≡ iv_mark c.args.e c.args.x.now
-marked-2 c = ⊎_elim (λ w. mark-yes _ _ w.0.taken w.1) (λ w. mark-no _ _ w.0.left w.1) c.if-e-ne0.branch
+marked-2 c = elim c.if-e-ne0.branch [ then-e-ne0 w ↦ mark-yes _ _ w.if-e-ne0.true w.x-is | else-e-ne0 w ↦ mark-no _ _ w.if-e-ne0.false w.x-is ]
 
 kept : (c : goal.Then-e) → length c.if-e-ne0.x ≡ length c.args.x.now
 kept c = ap length (marked c) ∙ mark-length c.args.e c.args.x.now

@@ -2,7 +2,6 @@ use Prim.Native.Nat.{◌-◌}
 use native.Mathlib.Omega.{arith}
 use mathlib.Core.Path.{sym, ◌∙◌}
 use borrow.Author.Rules.{rules}
-use Rattle.laws.proofs.GateLaws.{failed, held}
 use Rattle.cmaf_read_tree.proofs.HeadLaws.{HeadAt, head_at}
 use Rattle.cmaf_read_tree.proofs.PlaceLaws.{passed_none, passed-all, passed-broken, whole-boxwise, leaf-on, into-off, into-on}
 use Rattle.cmaf_read_tree.proofs.walk.walk_whole.Goals as goal
@@ -45,7 +44,7 @@ pub loop-at-smaller-then-not-is_container : goal.loop-at-smaller-then-not-is_con
 loop-at-smaller-then-not-is_container c = let h = here-2 c in omega arith
 
 pub loop-at-preserved-then-not-is_container : goal.loop-at-preserved-then-not-is_container
-loop-at-preserved-then-not-is_container c = leaf-on (here-2 c) c.loop-at.invariant (failed c.is_container.ensures c.if-not-is_container.true)
+loop-at-preserved-then-not-is_container c = leaf-on (here-2 c) c.loop-at.invariant (sym c.is_container.ensures ∙ c.if-not-is_container.true)
 
 pub overflow_add-inside : goal.overflow_add-inside
 overflow_add-inside c = let h = here-3 c in search rules
@@ -61,16 +60,16 @@ slice_bounds-boxes_fill-end c = let h = here-3 c in omega arith
 
 pub returns-then-not-boxes_fill : goal.returns-then-not-boxes_fill
 returns-then-not-boxes_fill c =
-    into-off (here-4 c) c.loop-at.invariant (held c.is_container.ensures c.if-not-is_container.false)
-    (failed c.boxes_fill.ensures c.if-not-boxes_fill.true)
+    into-off (here-4 c) c.loop-at.invariant (sym c.is_container.ensures ∙ c.if-not-is_container.false)
+    (sym c.boxes_fill.ensures ∙ c.if-not-boxes_fill.true)
 
 pub loop-at-smaller : goal.loop-at-smaller
 loop-at-smaller c = let h = here-5 c in omega arith
 
 pub loop-at-preserved : goal.loop-at-preserved
 loop-at-preserved c =
-    into-on (here-5 c) c.loop-at.invariant (held c.is_container.ensures c.if-not-is_container.false)
-    (held c.boxes_fill.ensures c.if-not-boxes_fill.false)
+    into-on (here-5 c) c.loop-at.invariant (sym c.is_container.ensures ∙ c.if-not-is_container.false)
+    (sym c.boxes_fill.ensures ∙ c.if-not-boxes_fill.false)
 
 pub returns : goal.returns
 returns c = passed-all whole-boxwise c.loop-at.invariant c.loop-at-test.false

@@ -2,7 +2,6 @@ use Prim.Native.Nat.{ℕ, ◌-◌}
 use mathlib.Core.Path.{refl, sym, ◌∙◌, ap}
 use mathlib.Core.Bool.{true}
 use Rattle.laws.specs.Tests.{all_le}
-use Rattle.laws.proofs.GateLaws.{failed, held}
 use lib.Dec.{leb}
 use Rattle.laws.proofs.RowLaws.{tests-start, tests-next, tests-end}
 use Rattle.cmaf_read_trun.specs.Rows.{cell, offsets}
@@ -18,10 +17,13 @@ has-requires c = offsets-column
 pub returns-then-not-has : goal.returns-then-not-has
 returns-then-not-has c =
     let a = c.args in
-    bound-none offset_most ∙ ap (all_le offset_most) (sym (column-none a.c.now a.r offsets (failed c.has.ensures c.if-not-has.true)))
+    bound-none offset_most ∙ ap (all_le offset_most) (sym (column-none a.c.now a.r offsets (sym c.has.ensures ∙ c.if-not-has.true)))
 
 pub loop-i-init : goal.loop-i-init
-loop-i-init c = (refl, held c.has.ensures c.if-not-has.false, tests-start (bound-row offset_most _) _)
+loop-i-init c = (refl, sym c.has.ensures ∙ c.if-not-has.false, tests-start (bound-row offset_most _) _)
+
+pub cell-requires-clause-column_value : goal.cell-requires-clause-column_value
+cell-requires-clause-column_value c = offsets-column
 
 pub loop-i-preserved : goal.loop-i-preserved
 loop-i-preserved c =

@@ -1,7 +1,6 @@
 use Prim.Native.Nat.{ℕ, ◌-◌}
 use mathlib.Core.Path.{refl, sym, ◌∙◌, ap}
 use mathlib.Core.Bool.{true}
-use Rattle.laws.proofs.GateLaws.{failed, held}
 use Rattle.laws.proofs.RowLaws.{tests-start, tests-next, tests-end}
 use Rattle.media.specs.Flags.{only}
 use Rattle.cmaf_read_trun.specs.Rows.{cell, sample_flags}
@@ -17,10 +16,13 @@ has-requires c = flags-column
 pub returns-then-not-has : goal.returns-then-not-has
 returns-then-not-has c =
     let a = c.args in
-    flags-none ∙ ap all_only (sym (column-none a.c.now a.r sample_flags (failed c.has.ensures c.if-not-has.true)))
+    flags-none ∙ ap all_only (sym (column-none a.c.now a.r sample_flags (sym c.has.ensures ∙ c.if-not-has.true)))
 
 pub loop-i-init : goal.loop-i-init
-loop-i-init c = (refl, held c.has.ensures c.if-not-has.false, tests-start (flags-row _) _)
+loop-i-init c = (refl, sym c.has.ensures ∙ c.if-not-has.false, tests-start (flags-row _) _)
+
+pub cell-requires-clause-column_value : goal.cell-requires-clause-column_value
+cell-requires-clause-column_value c = flags-column
 
 pub loop-i-preserved : goal.loop-i-preserved
 loop-i-preserved c =

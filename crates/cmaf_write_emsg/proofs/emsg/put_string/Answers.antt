@@ -1,6 +1,6 @@
 -- `cmaf_write_emsg::emsg::put_string` meets its contract: the part, and then the zero.
 use mathlib.Core.Path.{refl}
-use mathlib.Core.List.{◌∷◌}
+use mathlib.Core.List.{[], ◌∷◌}
 use Rattle.laws.specs.Bytes.{be}
 use Rattle.laws.proofs.PartLaws.{parts_all, parts-room, parts_then, parts_none}
 use Rattle.event_value.specs.Events.{part}

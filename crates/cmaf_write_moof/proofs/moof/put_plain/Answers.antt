@@ -1,5 +1,5 @@
 -- `cmaf_write_moof::moof::put_plain` meets its contract: the three boxes one after another.
-use mathlib.Core.List.{◌∷◌}
+use mathlib.Core.List.{[], ◌∷◌}
 use Rattle.laws.proofs.PartLaws.{parts_all, parts-room, parts_then, parts_none}
 use Rattle.cmaf_write_moof.specs.Moof.{tfhd_box, tfdt_box, trun_box}
 use Rattle.cmaf_write_moof.proofs.MoofLaws.{plain-parts}

@@ -1,9 +1,10 @@
 use Prim.Native.Nat.{◌-◌}
 use native.Mathlib.Omega.{arith}
-use mathlib.Core.Path.{◌∙◌}
+use mathlib.Core.Path.{◌∙◌, ap}
 use borrow.Author.Tests.{not-true, not-false}
 use Rattle.counters.proofs.WalkLaws.{walked, stands-fit, place-start, place-fits, place-next}
 use Rattle.counters.proofs.FollowLaws.{follow-start, follow-other, follow-more, follow-end-is}
+use mathlib.Core.Bool.{not}
 use Rattle.counters.proofs.follow.all_follow.Goals as goal
 
 pub loop-i-init : goal.loop-i-init
@@ -34,7 +35,7 @@ returns-then-not-comes c =
     let f = l.invariant.2 m h in
     follow-other a.t s m a.last l.v l.i f lt _
     (c.comes.ensures a.k f.number _ s.words c.top_of-top.ensures f.counts e.ensures (e.ensures.fits ∙ fit))
-    (not-true _ c.if-not-comes.true) payload
+    (not-true _ (ap not c.if-not-comes.true)) payload
 
 pub past-v-requires : goal.past-v-requires
 past-v-requires c =
@@ -57,7 +58,7 @@ loop-i-preserved c =
           let f = l.invariant.2 m h in
           follow-more a.t s m a.last l.v l.i f lt _
           (c.comes.ensures a.k f.number _ s.words c.top_of-top.ensures f.counts e.ensures (e.ensures.fits ∙ fit))
-          (not-false _ c.if-not-comes.false) _ e.ensures _ c.past-v.ensures,
+          (not-false _ (ap not c.if-not-comes.false)) _ e.ensures _ c.past-v.ensures,
     )
 
 -- none is left

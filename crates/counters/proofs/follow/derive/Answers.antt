@@ -26,7 +26,7 @@ returns c =
     let a = c.args in
     let g = begun a.t a.last a.r.now a.x.now c.requires.behind c.requires.r_value.0 in
     let fit = stands-fit (iv_words a.t) (count_in a.r.now - 1) a.r.now g.words (omega (arith, g.some, g.few)) g.long
-    (λ p. (c.shared_slice_known-2-1.given p).fits) in
+    (λ p. (c.type_inv.r p).fits) in
     λ payload.
     derived-all a.t a.last a.r.now a.x.now _ payload _
     (c.put_all.ensures _ payload c.counter_at.ensures (c.counter_at.ensures.fits ∙ fit))

@@ -20,7 +20,7 @@ pub accept-requires : goal.accept-requires
 accept-requires c =
     let a = c.args in
     encodable _ a.wish _ a.output.now _ _ c.requires.on_share _ _ _ c.requires.read_as c.if-k-ne0.false
-    (all-bytes a.c.now (λ n. (c.shared_slice_known-1.given n).fits)) c.if-x-gt-NUMBER.false
+    (all-bytes a.c.now (λ n. (c.type_inv.c n).fits)) c.if-x-gt-NUMBER.false
 
 pub returns : goal.returns
 returns c =

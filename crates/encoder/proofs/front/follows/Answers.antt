@@ -1,6 +1,6 @@
 -- `encoder::front::follows` meets its contract: it is asked where a delta is wished for.
 use mathlib.Core.Path.{sym, ◌∙◌, ap}
-use mathlib.Core.Bool.{false≢true}
+use mathlib.Core.Bool.{false≢true, not}
 use borrow.Author.Tests.{not-true}
 use borrow.Author.Rules.{part_to_end}
 use lib.ListN.{get_or}
@@ -10,7 +10,7 @@ use Rattle.counters.proofs.FollowLaws.{follow-absent}
 use Rattle.encoder.proofs.front.follows.Goals as goal
 
 pub returns-then-not-wish : goal.returns-then-not-wish
-returns-then-not-wish c = λ w. absurd (false≢true (sym (not-true _ c.if-not-wish.true) ∙ w))
+returns-then-not-wish c = λ w. absurd (false≢true (sym (not-true _ (ap not c.if-not-wish.true)) ∙ w))
 
 pub returns-then-x-eq0 : goal.returns-then-x-eq0
 returns-then-x-eq0 c = λ w payload. follow-absent _ _ _ _ payload c.if-x-eq0.true

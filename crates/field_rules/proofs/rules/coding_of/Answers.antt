@@ -1,6 +1,5 @@
 -- `field_rules::rules::coding_of` meets its contract, by cases on what an absent value counts as.
-use mathlib.Core.List.{◌∷◌}
-use types.Run.{miss}
+use native.Mathlib.Omega.{arith}
 use Rattle.field_table.specs.declared.lines.Absent.TheVariants.{Middle}
 use Rattle.field_rules.proofs.CodingLaws.{coding-is, coding-same}
 use Rattle.field_rules.proofs.rules.coding_of.Goals as goal
@@ -9,4 +8,4 @@ pub returns-in-Middle : goal.returns-in-Middle
 returns-in-Middle c = coding-is c.args.coding Middle c.in-Middle.is
 
 pub returns-in-Zero : goal.returns-in-Zero
-returns-in-Zero c = coding-same c.args.coding c.args.absent (λ e. miss (0 ∷ 2 ∷ 3 ∷ 4 ∷ 5 ∷ 6 ∷ []) 1 tt (rw e at c.in-Zero.in-Zero-own.keys2))
+returns-in-Zero c = coding-same c.args.coding c.args.absent (λ e. let f = c.in-Zero.is in grind arith)

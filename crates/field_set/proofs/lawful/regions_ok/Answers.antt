@@ -1,10 +1,10 @@
 use Prim.Native.Nat.{◌-◌}
 use mathlib.Core.Path.{refl}
-use mathlib.Core.Logic.{⊎_elim}
 use Rattle.field_set.proofs.LawfulLaws.{tested-not}
 use Rattle.field_set.proofs.RegionLaws.{scan-start, scan-tested, scan-inside, scan-shape, scan-free, scan-full, scan-stands}
 use borrow.Author.Rules.{rules}
 use Rattle.field_set.proofs.lawful.regions_ok.Goals as goal
+use Rattle.field_set.proofs.lawful.regions_ok.Goals.{then-mark-ne0+else-l-used, else-mark-ne0}
 
 pub loop-i-init : goal.loop-i-init
 loop-i-init c = let p = c.requires in scan-start _ _ p.w_len p.small _ c.listed-d.ensures
@@ -40,10 +40,13 @@ loop-i-preserved c =
     let l = c.loop-i in
     let lt = c.loop-i-test.true in
     let at = c.place_at.ensures in
-    ⊎_elim
-    (λ e. rw (e.7, e.8, e.9) (scan-stands _ _ _ _ _ _ l.invariant lt _ at _ e.1.ensures e.0.taken _ e.2.ensures _ e.6.ensures e.4.left _ e.5.ensures))
-    (λ e. rw (e.1, e.2, e.3) (scan-free _ _ _ _ _ _ l.invariant lt _ at _ refl e.0.left))
-    c.if-mark-ne0.branch
+    elim c.if-mark-ne0.branch [
+      | then-mark-ne0+else-l-used w ↦
+          rw (w.ok-is, w.rest-is, w.free-is)
+          (scan-stands _ _ _ _ _ _ l.invariant lt _ at _ w.line_at-l.ensures w.if-mark-ne0.true _ w.length_of-used.ensures _ w.within.ensures
+          w.if-l-used.false _ w.bits-rest.ensures)
+      | else-mark-ne0 w ↦ rw (w.ok-is, w.rest-is, w.free-is) (scan-free _ _ _ _ _ _ l.invariant lt _ at _ refl w.if-mark-ne0.false)
+    ]
 
 pub returns : goal.returns
 returns c = scan-tested _ _ _ _ _ _ c.loop-i.invariant c.loop-i-test.false _ c.bits.ensures _ c.listed-d.ensures

@@ -7,7 +7,7 @@ use Rattle.field_table.proofs.NoneLaws.{Gathering}
 use Rattle.field_table.proofs.marks.none_stands.Given as goal
 
 abbrev pub invariant-loop-i : goal.invariant-loop-i
-invariant-loop-i l = Gathering (λ (l : Line). get_or l.w l.place 0) l.all l.i
+invariant-loop-i live = Gathering (λ (l : Line). get_or live.w l.place 0) live.all live.i
 
 abbrev pub decreases-loop-i : goal.decreases-loop-i
 decreases-loop-i l = line_count - l.i

@@ -6,7 +6,7 @@ pub returns : goal.returns
 returns c =
     record {
       answered =
-          event-is _ _ c.args.event.now _ _ _ c.rebuild.ensures.0 c.no_zero.ensures c.no_zero-2.ensures
+          event-is _ _ c.args.event.now _ _ _ c.rebuild.ensures.value c.no_zero.ensures c.no_zero-2.ensures
           c.requires.inside c.requires.inside_2;
-      stored = c.rebuild.ensures.1;
+      stored = c.rebuild.ensures.event_after;
     }

@@ -1,5 +1,4 @@
 use borrow.Author.Rules.{rules}
-use Prim.Native.Nat.{◌-◌}
 use native.Mathlib.Omega.{arith}
 use Rattle.event_value.specs.Events.{EventFits}
 use Rattle.locmaf_read_events.proofs.EventLaws.{read-start, read_next, read-end, lent-long, lent-scheme, lent-value}

@@ -1,4 +1,3 @@
-use Prim.Native.Nat.{◌-◌}
 use Rattle.locmaf_read_events.proofs.EventLaws.{look-start, look-more, look-end}
 use Rattle.locmaf_read_events.proofs.events.no_zero.Goals as goal
 

@@ -2,7 +2,6 @@
 use mathlib.Core.Path.{sym, ◌∙◌, ap}
 use lib.ListN.{length, length-set}
 use lib.Seq.{length-sets}
-use Rattle.laws.proofs.GateLaws.{failed, held}
 use Rattle.locmaf_read_field.proofs.CellLaws.{taken-always, carry-ivs, carry-long, carry_same}
 use Rattle.locmaf_read_field.proofs.cells.carry.Goals as goal
 
@@ -12,10 +11,10 @@ returns-then-is_ivs c =
     carry-ivs _ _ _ _ c.args.r.now _ ivs c.well.ensures _ (λ clear. clear ivs)
 
 pub returns-then-not-carries : goal.returns-then-not-carries
-returns-then-not-carries c = taken-always (carry-long _ _ _ _ c.args.r.now _ (sym c.is_ivs.ensures ∙ c.if-is_ivs.false) (failed c.carries.ensures c.if-not-carries.true) c.misfit.ensures _)
+returns-then-not-carries c = taken-always (carry-long _ _ _ _ c.args.r.now _ (sym c.is_ivs.ensures ∙ c.if-is_ivs.false) (sym c.carries.ensures ∙ c.if-not-carries.true) c.misfit.ensures _)
 
 pub shape_of-x : goal.shape_of-x
 shape_of-x c = ap length c.copy.ensures ∙ simp (length-sets, length-set)
 
 pub returns : goal.returns
-returns c = taken-always (carry_same _ _ _ _ _ _ (sym c.is_ivs.ensures ∙ c.if-is_ivs.false) (held c.carries.ensures c.if-not-carries.false) c.well-2.ensures _ c.copy.ensures)
+returns c = taken-always (carry_same _ _ _ _ _ _ (sym c.is_ivs.ensures ∙ c.if-is_ivs.false) (sym c.carries.ensures ∙ c.if-not-carries.false) c.well-2.ensures _ c.copy.ensures)

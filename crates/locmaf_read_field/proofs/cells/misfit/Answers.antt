@@ -1,5 +1,5 @@
 -- `locmaf_read_field::cells::misfit` meets its contract, by cases on what the line wants.
-use mathlib.Core.List.{◌∷◌}
+use mathlib.Core.List.{[], ◌∷◌}
 use types.Run.{miss}
 use Rattle.locmaf_read_field.proofs.CellLaws.{misfit-is, misfit-early}
 use Rattle.field_table.specs.declared.lines.Want.TheVariants.{Sum}

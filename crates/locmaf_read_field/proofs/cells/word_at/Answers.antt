@@ -14,14 +14,14 @@ overflow_add-v c =
     omega (
       arith,
       read-room _ _ _ _ c.loop-i.invariant c.loop-i-test.true,
-      c.shared_slice_known-in-loop-i-1.given (c.args.at + c.loop-i.i),
+      c.type_inv.o (c.args.at + c.loop-i.i),
     )
 
 pub loop-i-preserved : goal.loop-i-preserved
 loop-i-preserved c =
     rw c.wide.ensures
     (read_more _ _ _ _ c.loop-i.invariant c.loop-i-test.true
-    (c.shared_slice_known-in-loop-i-1.given (c.args.at + c.loop-i.i)).fits)
+    (c.type_inv.o (c.args.at + c.loop-i.i)).fits)
 
 pub returns : goal.returns
 returns c = read_all _ _ _ _ c.loop-i.invariant c.loop-i-test.false

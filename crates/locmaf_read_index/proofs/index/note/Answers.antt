@@ -1,11 +1,10 @@
 -- `locmaf_read_index::index::note` meets its contract, by the laws of `proofs/NoteLaws.antt`.
 use Prim.Native.Nat.{◌<◌}
 use native.Mathlib.Omega.{arith}
-use mathlib.Core.Path.{◌≡◌, ap}
+use mathlib.Core.Path.{◌≡◌, ap, sym, ◌∙◌}
 use mathlib.Core.Bool.{true}
 use lib.ListN.{length-set}
 use Rattle.constants.specs.Ids.{id_count}
-use Rattle.laws.proofs.GateLaws.{failed, held}
 use Rattle.byte_parts.specs.declared.Part.{Part}
 use Rattle.locmaf_read_block.specs.Entries.{known}
 use Rattle.locmaf_read_index.proofs.NoteLaws.{known_small, fresh-unknown, fresh-twice, fresh-is, noted-not, noted-is}
@@ -14,20 +13,20 @@ use Rattle.locmaf_read_index.proofs.index.note.Goals as goal
 pub returns-then-not-known_id : goal.returns-then-not-known_id
 returns-then-not-known_id c =
     let a = c.args in
-    let f = fresh-unknown a.out.now a.t.id (failed c.known_id.ensures c.if-not-known_id.true) in
+    let f = fresh-unknown a.out.now a.t.id (sym c.known_id.ensures ∙ c.if-not-known_id.true) in
     (f, noted-not a.out.now a.t a.count f)
 
 -- the id is known, and so it is small
 known_of : (c : goal.After-part_of-p) → known c.args.t.id ≡ true
-known_of c = held c.known_id.ensures c.if-not-known_id.false
+known_of c = sym c.known_id.ensures ∙ c.if-not-known_id.false
 
 -- the id is known, and so it is small
 known_of-2 : (c : goal.Else-not-known_id) → known c.args.t.id ≡ true
-known_of-2 c = held c.known_id.ensures c.if-not-known_id.false
+known_of-2 c = sym c.known_id.ensures ∙ c.if-not-known_id.false
 
 -- the id is known, and so it is small
 known_of-3 : (c : goal.After-slice_known-2-1-unread) → known c.args.t.id ≡ true
-known_of-3 c = held c.known_id.ensures c.if-not-known_id.false
+known_of-3 c = sym c.known_id.ensures ∙ c.if-not-known_id.false
 
 small_of : (c : goal.Else-not-known_id) → c.args.t.id < id_count
 small_of c = known_small _ (known_of-2 c)

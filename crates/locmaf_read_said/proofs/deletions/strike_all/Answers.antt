@@ -1,10 +1,11 @@
 use Prim.Native.Nat.{◌-◌}
 use native.Mathlib.Omega.{arith}
-use mathlib.Core.Path.{sym, ◌∙◌}
+use mathlib.Core.Path.{sym, ◌∙◌, ap}
 use borrow.Author.Tests.{not-true, not-false}
 use Rattle.wire.specs.Form.{rows}
 use Rattle.locmaf_read_block.proofs.ReadLaws.{Found, found}
 use Rattle.locmaf_read_said.proofs.DeletionLaws.{start, done, cut-never, refused, next}
+use mathlib.Core.Bool.{not}
 use Rattle.locmaf_read_said.proofs.deletions.strike_all.Goals as goal
 
 pub loop-p-init : goal.loop-p-init
@@ -30,7 +31,7 @@ one_of-2 c = found _ _ _ _ _ _ (sym c.in-Value.is ∙ c.read-g.ensures)
 pub returns-then-not-strike : goal.returns-then-not-strike
 returns-then-not-strike c =
     let l = c.loop-p in
-    refused _ _ _ _ _ _ _ _ l.invariant _ _ (one_of c) _ _ c.strike.ensures (not-true _ c.if-not-strike.true)
+    refused _ _ _ _ _ _ _ _ l.invariant _ _ (one_of c) _ _ c.strike.ensures c.if-not-strike.true
 
 pub loop-p-smaller : goal.loop-p-smaller
 loop-p-smaller c = omega (arith, (one_of-2 c).some, (one_of-2 c).within)
@@ -38,7 +39,7 @@ loop-p-smaller c = omega (arith, (one_of-2 c).some, (one_of-2 c).within)
 pub loop-p-preserved : goal.loop-p-preserved
 loop-p-preserved c =
     let l = c.loop-p in
-    next _ _ _ _ _ _ _ _ l.invariant _ _ (one_of-2 c) _ _ c.strike.ensures (not-false _ c.if-not-strike.false)
+    next _ _ _ _ _ _ _ _ l.invariant _ _ (one_of-2 c) _ _ c.strike.ensures c.if-not-strike.false
 
 pub returns : goal.returns
 returns c = done _ _ _ _ _ _ _ _ c.loop-p.invariant c.loop-p-test.false

@@ -1,10 +1,11 @@
 -- `locmaf_read_set::read::finish_set` meets its contract: each return by its law of `proofs/LastLaws.antt`.
 use native.Mathlib.Omega.{arith}
-use mathlib.Core.Path.{◌∙◌}
+use mathlib.Core.Path.{◌∙◌, ap}
 use Rattle.wire.specs.Form.{rows}
 use Rattle.locmaf_read_said.specs.Said.{says_in}
 use Rattle.locmaf_read_set.proofs.LastLaws.{rules-said, rules-broken, values-broken, last-read}
 use Rattle.locmaf_read_set.proofs.StandingLaws.{marks-count}
+use mathlib.Core.Bool.{not}
 use Rattle.locmaf_read_set.proofs.read.finish_set.Goals as goal
 
 pub take_lines-d-requires : goal.take_lines-d-requires
@@ -23,7 +24,7 @@ returns-then-not-second-d c =
     let p = c.requires in
     let a = c.args in
     rules-broken a.t a.a.held a.r.now (says_in (rows a.form) a.o.now a.index.now) a.m a.second a.within _ p.measured.1 _ _
-    c.take_lines-d.ensures _ (rules-said _ _ _ _ _ _ _ p.readable _ _ p.marks_value _ c.rules_ok-rules.ensures) c.if-not-second-d.true
+    c.take_lines-d.ensures _ (rules-said _ _ _ _ _ _ _ p.readable _ _ p.marks_value _ c.rules_ok-rules.ensures) (ap not c.if-not-second-d.true)
 
 pub same_iv_size-requires : goal.same_iv_size-requires
 same_iv_size-requires c = c.take_lines-d.ensures.long ∙ c.requires.measured.1
@@ -36,7 +37,7 @@ returns-then-not-within-d c =
     let p = c.requires in
     let a = c.args in
     values-broken a.t a.a.held a.r.now (says_in (rows a.form) a.o.now a.index.now) a.m a.second a.within _ p.measured.1 _ _
-    c.take_lines-d.ensures _ (rules-said _ _ _ _ _ _ _ p.readable _ _ p.marks_value _ c.rules_ok-rules.ensures) c.if-not-second-d.false _ c.same_iv_size.ensures c.if-not-within-d.true
+    c.take_lines-d.ensures _ (rules-said _ _ _ _ _ _ _ p.readable _ _ p.marks_value _ c.rules_ok-rules.ensures) (ap not c.if-not-second-d.false) _ c.same_iv_size.ensures (ap not c.if-not-within-d.true)
 
 pub shape_of-x : goal.shape_of-x
 shape_of-x c = c.take_lines-d.ensures.long
@@ -46,4 +47,4 @@ returns c =
     let p = c.requires in
     let a = c.args in
     last-read a.t a.a.held a.r.now (says_in (rows a.form) a.o.now a.index.now) a.m a.second a.within _ p.measured.1 _ _
-    c.take_lines-d.ensures _ (rules-said _ _ _ _ _ _ _ p.readable _ _ p.marks_value _ c.rules_ok-rules.ensures) c.if-not-second-d.false _ c.same_iv_size.ensures c.if-not-within-d.false
+    c.take_lines-d.ensures _ (rules-said _ _ _ _ _ _ _ p.readable _ _ p.marks_value _ c.rules_ok-rules.ensures) (ap not c.if-not-second-d.false) _ c.same_iv_size.ensures (ap not c.if-not-within-d.false)

@@ -8,7 +8,7 @@ use Rattle.locmaf_read_index.specs.Places.{stands_at}
 use Rattle.locmaf_read_set.proofs.read.none_sent.Given as goal
 
 abbrev pub invariant-loop-i : goal.invariant-loop-i
-invariant-loop-i l = Gathering (λ (l : Line). get_or l.index (stands_at l.id) 0) l.all l.i
+invariant-loop-i live = Gathering (λ (l : Line). get_or live.index (stands_at l.id) 0) live.all live.i
 
 abbrev pub decreases-loop-i : goal.decreases-loop-i
 decreases-loop-i l = line_count - l.i

@@ -1,10 +1,11 @@
 -- `locmaf_write_block::cells::change_of` meets its contract.
 use native.Mathlib.Omega.{arith}
-use mathlib.Core.Path.{sym, ◌∙◌, ap₂}
+use mathlib.Core.Path.{sym, ◌∙◌, ap₂, ap}
 use Rattle.laws.specs.Tests.{same}
 use Rattle.locmaf_write_block.proofs.FieldLaws.{measured-old, Field, chunk-field}
 use Rattle.locmaf_write_block.proofs.SentLaws.{new-room, news-lent, olds-lent}
 use Rattle.locmaf_write_block.proofs.ChangeLaws.{vanished, never, afresh, ivs-by, compared}
+use mathlib.Core.Bool.{not}
 use Rattle.locmaf_write_block.proofs.cells.change_of.Goals as goal
 
 -- the field that the call is about
@@ -50,19 +51,19 @@ pub returns-then-x-place-eq0 : goal.returns-then-x-place-eq0
 returns-then-x-place-eq0 c = let a = c.args in λ t h. never t a.b.delta a.b.follow a.r.now a.x.now a.l _ c.has_old-old.ensures c.if-x-place-eq0.true c.if-old.false
 
 pub returns-then-not-old : goal.returns-then-not-old
-returns-then-not-old c = let a = c.args in λ t h. afresh t a.b.delta a.b.follow a.r.now a.x.now a.l _ c.has_old-old.ensures c.if-x-place-eq0.false c.if-not-old.true
+returns-then-not-old c = let a = c.args in λ t h. afresh t a.b.delta a.b.follow a.r.now a.x.now a.l _ c.has_old-old.ensures c.if-x-place-eq0.false (ap not c.if-not-old.true)
 
 pub returns-then-b : goal.returns-then-b
 returns-then-b c =
     let a = c.args in
     λ t h.
-    ivs-by t a.b.delta a.b.follow a.r.now a.x.now a.l _ c.has_old-old.ensures c.if-x-place-eq0.false c.if-not-old.false _ c.is_ivs.ensures c.if-is_ivs.true _ (sym c.if-b.true)
+    ivs-by t a.b.delta a.b.follow a.r.now a.x.now a.l _ c.has_old-old.ensures c.if-x-place-eq0.false (ap not c.if-not-old.false) _ c.is_ivs.ensures c.if-is_ivs.true _ (sym c.if-b.true)
 
 pub returns-then-is_ivs : goal.returns-then-is_ivs
 returns-then-is_ivs c =
     let a = c.args in
     λ t h.
-    ivs-by t a.b.delta a.b.follow a.r.now a.x.now a.l _ c.has_old-old.ensures c.if-x-place-eq0.false c.if-not-old.false _ c.is_ivs.ensures c.if-is_ivs.true _ (sym c.if-b.false)
+    ivs-by t a.b.delta a.b.follow a.r.now a.x.now a.l _ c.has_old-old.ensures c.if-x-place-eq0.false (ap not c.if-not-old.false) _ c.is_ivs.ensures c.if-is_ivs.true _ (sym c.if-b.false)
 
 pub old_length-u-requires : goal.old_length-u-requires
 old_length-u-requires c = record { chunk_line = c.requires.chunk_line; measured = measured-old c.requires.based.1 }
@@ -81,7 +82,7 @@ returns-then-same_list c =
     let a = c.args in
     λ t h.
     let f = chunk-field t a.b a.r.now a.x.now a.l h c.requires.chunk_line in
-    compared t a.b.delta a.b.follow a.r.now a.x.now a.l _ c.has_old-old.ensures c.if-x-place-eq0.false c.if-not-old.false _ c.is_ivs.ensures c.if-is_ivs.false _
+    compared t a.b.delta a.b.follow a.r.now a.x.now a.l _ c.has_old-old.ensures c.if-x-place-eq0.false (ap not c.if-not-old.false) _ c.is_ivs.ensures c.if-is_ivs.false _
     (sym c.if-same_list.true ∙ c.same_list.ensures ∙ ap₂ same (olds-lent f _ c.old_length-u.ensures) (news-lent f _ c.length_of-k.ensures))
 
 pub returns : goal.returns
@@ -89,5 +90,5 @@ returns c =
     let a = c.args in
     λ t h.
     let f = chunk-field t a.b a.r.now a.x.now a.l h c.requires.chunk_line in
-    compared t a.b.delta a.b.follow a.r.now a.x.now a.l _ c.has_old-old.ensures c.if-x-place-eq0.false c.if-not-old.false _ c.is_ivs.ensures c.if-is_ivs.false _
+    compared t a.b.delta a.b.follow a.r.now a.x.now a.l _ c.has_old-old.ensures c.if-x-place-eq0.false (ap not c.if-not-old.false) _ c.is_ivs.ensures c.if-is_ivs.false _
     (sym c.if-same_list.false ∙ c.same_list.ensures ∙ ap₂ same (olds-lent f _ c.old_length-u.ensures) (news-lent f _ c.length_of-k.ensures))

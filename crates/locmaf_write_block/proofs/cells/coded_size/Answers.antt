@@ -8,7 +8,9 @@ use Rattle.locmaf_write_block.proofs.SentLaws.{lent_length, one-coded, list-code
 use Rattle.locmaf_write_block.proofs.cells.coded_size.Goals as goal
 
 pub number_of-z-requires : goal.number_of-z-requires
-number_of-z-requires c = record { place_in_bounds = (line-single c.args.x.now c.requires.chunk_line c.requires.measured c.requires.k_in_bounds.1 c.if-l-eq1.true).0; place_in_bounds_2 = (line-single c.args.x.now c.requires.chunk_line c.requires.measured c.requires.k_in_bounds.1 c.if-l-eq1.true).1.0; want_value = (line-single c.args.x.now c.requires.chunk_line c.requires.measured c.requires.k_in_bounds.1 c.if-l-eq1.true).1.1 }
+number_of-z-requires c =
+    let h = line-single c.args.x.now c.requires.chunk_line c.requires.measured c.requires.k_in_bounds.1 c.if-l-eq1.true in
+    record { place_in_bounds = h.0; place_in_bounds_2 = h.1.0; want_value = h.1.1 }
 
 pub number_size-requires : goal.number_size-requires
 number_size-requires c = (line_low c.requires.chunk_line, made-is (rows c.args.form) _ _ _ _ c.number_of-z.ensures)

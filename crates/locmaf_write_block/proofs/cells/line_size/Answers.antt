@@ -1,8 +1,7 @@
 -- `locmaf_write_block::cells::line_size` meets its contract.
 use native.Mathlib.Omega.{arith}
 use mathlib.Core.Path.{sym, ◌∙◌}
-use mathlib.Core.List.{◌∷◌}
-use types.Run.{miss}
+use mathlib.Core.Logic.{inl, inr}
 use Rattle.wire.specs.Form.{rows}
 use Rattle.locmaf_write_tuples.proofs.ItemLaws.{weighed-nothing, weighed-as}
 use Rattle.locmaf_write_block.proofs.AbsentLaws.{chunk-mark, absent-at}
@@ -25,12 +24,20 @@ returns-then-x-place-eq0 c =
     (weighed-nothing c.whole.ensures)
 
 pub change_of-change-requires : goal.change_of-change-requires
-change_of-change-requires c = record { chunk_line = record { number = c.args.i; below = c.requires.i_lt_chunk_lines; found = c.line_at-l.ensures }; based = (c.args.t, c.requires.based) }
+change_of-change-requires c =
+    record {
+      chunk_line = record { number = c.args.i; below = c.requires.i_lt_chunk_lines; found = c.line_at-l.ensures };
+      based = (c.args.t, c.requires.based);
+    }
 
 pub sent_size-requires : goal.sent_size-requires
 sent_size-requires c =
-    let a = c.args in record { based = c.requires.based; chunk_line = record { number = a.i; below = c.requires.i_lt_chunk_lines; found = c.line_at-l.ensures }; l_value = sent-stands a.t a.b.delta a.b.follow a.r.now a.x.now _
-            (sym (c.change_of-change.ensures a.t c.requires.based) ∙ c.in-Sent.is) }
+    let a = c.args in
+    record {
+      based = c.requires.based;
+      chunk_line = record { number = a.i; below = c.requires.i_lt_chunk_lines; found = c.line_at-l.ensures };
+      l_value = sent-stands a.t a.b.delta a.b.follow a.r.now a.x.now _ (sym (c.change_of-change.ensures a.t c.requires.based) ∙ c.in-Sent.is);
+    }
 
 pub returns-in-Omitted : goal.returns-in-Omitted
 returns-in-Omitted c =
@@ -38,7 +45,7 @@ returns-in-Omitted c =
     weighed-as
     (line-unsent (rows a.form) a.t a.b.delta a.b.follow a.r.now a.x.now _ _ c.line_at-l.ensures
     _ (c.change_of-change.ensures a.t c.requires.based)
-    (λ e. miss (0 ∷ 1 ∷ []) 2 tt (rw e at c.in-Omitted.in-Omitted-own.keys1)))
+    (λ e. elim c.in-Omitted.is [ inl p ↦ cc | inr p ↦ cc ]))
     (weighed-nothing c.whole-in-Omitted.ensures)
 
 pub returns-in-Sent : goal.returns-in-Sent

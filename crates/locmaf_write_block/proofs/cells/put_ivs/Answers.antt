@@ -1,6 +1,6 @@
 -- `locmaf_write_block::cells::put_ivs` meets its contract: its parts one after another.
 use mathlib.Core.Path.{refl}
-use mathlib.Core.List.{◌∷◌, ◌++◌}
+use mathlib.Core.List.{[], ◌∷◌, ◌++◌}
 use Prim.Native.Nat.{◌*◌}
 use lib.ListN.{length}
 use Rattle.wire.specs.Form.{rows}

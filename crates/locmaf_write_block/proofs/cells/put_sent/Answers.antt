@@ -49,9 +49,10 @@ slice_bounds-put_ivs-end c = omega (arith, new-room (the_field-2 c) _ c.length_o
 
 pub put_ivs-requires : goal.put_ivs-requires
 put_ivs-requires c =
-    let a = c.args in record { ws_len_bound = (ivs-room (the_field-3 c) _ c.length_of-k.ensures (sym c.is_ivs.ensures ∙ c.if-is_ivs.true)
-    (rows a.form) a.out.now a.at c.requires.room_for).0; ws_in_bounds = (ivs-room (the_field-3 c) _ c.length_of-k.ensures (sym c.is_ivs.ensures ∙ c.if-is_ivs.true)
-    (rows a.form) a.out.now a.at c.requires.room_for).1 }
+    let a = c.args in
+    let ivs = sym c.is_ivs.ensures ∙ c.if-is_ivs.true in
+    let h = ivs-room (the_field-3 c) _ c.length_of-k.ensures ivs (rows a.form) a.out.now a.at c.requires.room_for in
+    record { ws_len_bound = h.0; ws_in_bounds = h.1 }
 
 pub returns-then-is_ivs : goal.returns-then-is_ivs
 returns-then-is_ivs c =
@@ -62,10 +63,21 @@ returns-then-is_ivs c =
 pub put_coded-requires : goal.put_coded-requires
 put_coded-requires c =
     let a = c.args in
-    let p = (c.requires.form_value, (c.requires.bytes_value, c.requires.room_for)) in
+    let n = c.requires in
+    let F = rows a.form in
     let f = the_field-5 c in
-    let e = coded-is f (rows a.form) _ c.is_ivs.ensures c.if-is_ivs.false
-    _ c.field_coding-c.ensures _ c.absent_value-base.ensures _ c.length_of-k.ensures in record { chunk_line = c.requires.chunk_line; measured = measured-old c.requires.based; k_in_bounds = (new-room f _ c.length_of-k.ensures, c.requires.based.0.new-words); k_le_subsamples_most = new-few f _ c.length_of-k.ensures; base_value = (put-known (rows a.form) e _ _ _ c.requires.form_value c.requires.bytes_value c.requires.room_for).0; bytes_value = (put-known (rows a.form) e _ _ _ c.requires.form_value c.requires.bytes_value c.requires.room_for).1.0; room_for = (put-known (rows a.form) e _ _ _ c.requires.form_value c.requires.bytes_value c.requires.room_for).1.1 }
+    let k = c.length_of-k.ensures in
+    let e = coded-is f F _ c.is_ivs.ensures c.if-is_ivs.false _ c.field_coding-c.ensures _ c.absent_value-base.ensures _ k in
+    let h = put-known F e _ _ _ n.form_value n.bytes_value n.room_for in
+    record {
+      chunk_line = n.chunk_line;
+      measured = measured-old n.based;
+      k_in_bounds = (new-room f _ k, n.based.0.new-words);
+      k_le_subsamples_most = new-few f _ k;
+      base_value = h.0;
+      bytes_value = h.1.0;
+      room_for = h.1.1;
+    }
 
 pub returns : goal.returns
 returns c =

@@ -1,9 +1,9 @@
 use Prim.Native.Nat.{◌-◌}
 use mathlib.Core.Path.{sym, ◌∙◌}
-use mathlib.Core.Logic.{⊎_elim}
 use borrow.Author.Tests.{not-true}
 use Rattle.locmaf_write_block.proofs.GoneLaws.{collect-full, collect-start, collect-end, collect-one, collect-none}
 use Rattle.locmaf_write_block.proofs.deletions.deleted.Goals as goal
+use Rattle.locmaf_write_block.proofs.deletions.deleted.Goals.{then-is_deleted, else-is_deleted}
 
 pub returns-then-not-b : goal.returns-then-not-b
 returns-then-not-b c = collect-full _ _ _ _ (not-true _ c.if-not-b.true) c.args.ids.now c.requires.ids_len
@@ -16,10 +16,10 @@ loop-i-preserved c =
     let h = c.loop-i.invariant in
     let lt = c.loop-i-test.true in
     let e = c.is_deleted.ensures in
-    ⊎_elim
-    (λ w. collect-one _ _ _ _ _ _ _ h lt (λ t. sym w.0.taken ∙ e t) _ w.1.ensures _ w.2 _ w.3)
-    (λ w. collect-none _ _ _ _ _ _ _ h lt (λ t. sym w.0.left ∙ e t) _ w.1 _ w.2)
-    c.if-is_deleted.branch
+    elim c.if-is_deleted.branch [
+        then-is_deleted w ↦ collect-one _ _ _ _ _ _ _ h lt (λ t. sym w.if-is_deleted.true ∙ e t) _ w.id_at.ensures _ w.ids-is _ w.n-is
+      | else-is_deleted w ↦ collect-none _ _ _ _ _ _ _ h lt (λ t. sym w.if-is_deleted.false ∙ e t) _ w.ids-is _ w.n-is
+    ]
 
 pub returns : goal.returns
 returns c = collect-end _ _ _ _ _ _ _ c.loop-i.invariant c.loop-i-test.false

@@ -18,7 +18,13 @@ put_run-requires c =
     let d = c.deleted-n.ensures in
     let e = d.all n.0 in
     let some = bytes-gone _ _ _ _ _ _ _ e.0 _ n.2 c.if-bytes-eq0.false in
-    record { id_lt_id_count = (omega arith, omega (arith, d.few, gone-many d)); value = (put-known _ (some-gone _ _ _ _ _ _ _ e.0 some _ e.1) _ _ _ n.1 n.2 n.3).0; bytes_value = (put-known _ (some-gone _ _ _ _ _ _ _ e.0 some _ e.1) _ _ _ n.1 n.2 n.3).1.0; room_for = (put-known _ (some-gone _ _ _ _ _ _ _ e.0 some _ e.1) _ _ _ n.1 n.2 n.3).1.1 }
+    let h = put-known _ (some-gone _ _ _ _ _ _ _ e.0 some _ e.1) _ _ _ n.1 n.2 n.3 in
+    record {
+      id_lt_id_count = (omega arith, omega (arith, d.few, gone-many d));
+      value = h.0;
+      bytes_value = h.1.0;
+      room_for = h.1.1;
+    }
 
 pub returns : goal.returns
 returns c =

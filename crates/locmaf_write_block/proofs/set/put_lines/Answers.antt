@@ -5,8 +5,7 @@ use Rattle.locmaf_write_block.proofs.set.put_lines.Goals as goal
 
 pub loop-i-init : goal.loop-i-init
 loop-i-init c =
-    let p = (c.requires.from_le_to, (c.requires.kept_each, (c.requires.to_value, c.requires.room_for))) in
-    put-start _ _ _ _ _ _ _ _ _ _ c.requires.from_le_to.0 c.requires.from_le_to.1 c.requires.to_value c.requires.room_for
+    let n = c.requires in put-start _ _ _ _ _ _ _ _ _ _ n.from_le_to.0 n.from_le_to.1 n.to_value n.room_for
 
 pub offset_bounds-kept-i : goal.offset_bounds-kept-i
 offset_bounds-kept-i c = omega (arith, c.loop-i.invariant.last)
@@ -16,8 +15,9 @@ bounds-kept-i c = omega (arith, c.loop-i.invariant.last, c.requires.kept_each.lo
 
 pub put_line-p-requires : goal.put_line-p-requires
 put_line-p-requires c =
-    let p = c.requires in
-    record { based = p.based; i_lt_chunk_lines = (put_first _ _ _ _ _ _ _ _ _ _ _ _ _ c.loop-i.invariant c.loop-i-test.true _ p.kept_each).0; i_value = (put_first _ _ _ _ _ _ _ _ _ _ _ _ _ c.loop-i.invariant c.loop-i-test.true _ p.kept_each).1.0; bytes_value = (put_first _ _ _ _ _ _ _ _ _ _ _ _ _ c.loop-i.invariant c.loop-i-test.true _ p.kept_each).1.1.0; room_for = (put_first _ _ _ _ _ _ _ _ _ _ _ _ _ c.loop-i.invariant c.loop-i-test.true _ p.kept_each).1.1.1 }
+    let n = c.requires in
+    let h = put_first _ _ _ _ _ _ _ _ _ _ _ _ _ c.loop-i.invariant c.loop-i-test.true _ n.kept_each in
+    record { based = n.based; i_lt_chunk_lines = h.0; i_value = h.1.0; bytes_value = h.1.1.0; room_for = h.1.1.1 }
 
 pub loop-i-preserved : goal.loop-i-preserved
 loop-i-preserved c = put_next _ _ _ _ _ _ _ _ _ _ _ _ _ c.loop-i.invariant c.loop-i-test.true _ _ c.put_line-p.ensures

@@ -1,6 +1,7 @@
 -- `locmaf_write_events::records::put_marks` meets its contract: the four numbers one after another.
 use native.Mathlib.Omega.{arith}
 use mathlib.Core.Path.{sym, ◌∙◌}
+use mathlib.Core.List.{[]}
 use Rattle.laws.proofs.PartLaws.{Parts, parts_all, parts-room, parts_then, parts_none}
 use Rattle.wire.specs.Form.{rows}
 use Rattle.event_value.specs.Events.{event_at}

@@ -1,5 +1,6 @@
 use Prim.Native.Nat.{◌-◌}
 use mathlib.Core.Path.{◌∙◌, ap}
+use mathlib.Core.List.{[]}
 use lib.Dec.{ltb}
 use borrow.Author.Rules.{rules}
 use Rattle.wire.specs.Form.{rows, limit}

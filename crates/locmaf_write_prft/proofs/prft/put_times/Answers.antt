@@ -8,9 +8,10 @@ returns-then-not-p c = put-none _ _ _ (no-times _ _ _ _ c.if-not-p.true) c.requi
 
 pub put_number-a-requires : goal.put_number-a-requires
 put_number-a-requires c =
-    record { c_value = (left-first _ _ _ _ _ _ _ _ (times-left _ _ _ _ c.if-not-p.false c.ntp_number-n.ensures c.media_number-m.ensures
-    c.args.out.now _ c.requires.p_value c.requires.room_for)).0; room_for = (left-first _ _ _ _ _ _ _ _ (times-left _ _ _ _ c.if-not-p.false c.ntp_number-n.ensures c.media_number-m.ensures
-    c.args.out.now _ c.requires.p_value c.requires.room_for)).1 }
+    let k = times-left _ _ _ _ c.if-not-p.false c.ntp_number-n.ensures c.media_number-m.ensures
+    c.args.out.now _ c.requires.p_value c.requires.room_for in
+    let h = left-first _ _ _ _ _ _ _ _ k in
+    record { c_value = h.0; room_for = h.1 }
 
 pub put_number-requires : goal.put_number-requires
 put_number-requires c =

@@ -8,11 +8,10 @@ returns-then-not-p c = put-none _ _ _ (no-version _ _ _ _ c.if-not-p.true) c.req
 
 pub put_number-requires : goal.put_number-requires
 put_number-requires c =
-    record { c_value = (put-needs _ (version-is _ _ _ _ c.if-not-p.false c.usual_version-old.ensures c.coding_for.ensures c.code-c.ensures)
-    _ _ c.requires.p_value c.requires.room_for).0; room_for = (put-needs _ (version-is _ _ _ _ c.if-not-p.false c.usual_version-old.ensures c.coding_for.ensures c.code-c.ensures)
-    _ _ c.requires.p_value c.requires.room_for).1 }
+    let k = version-is _ _ _ _ c.if-not-p.false c.usual_version-old.ensures c.coding_for.ensures c.code-c.ensures in
+    let h = put-needs _ k _ _ c.requires.p_value c.requires.room_for in
+    record { c_value = h.0; room_for = h.1 }
 
 pub returns : goal.returns
 returns c =
-    let yes = c.if-not-p.false in
-    put_as _ (version-is _ _ _ _ yes c.usual_version-old.ensures c.coding_for.ensures c.code-c.ensures) c.put_number.ensures
+    put_as _ (version-is _ _ _ _ c.if-not-p.false c.usual_version-old.ensures c.coding_for.ensures c.code-c.ensures) c.put_number.ensures

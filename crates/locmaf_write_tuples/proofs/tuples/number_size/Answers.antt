@@ -2,13 +2,15 @@
 use native.Mathlib.Omega.{arith}
 use Rattle.wire.proofs.SizeLaws.{size-eight}
 use Rattle.locmaf_write_tuples.proofs.TupleLaws.{weighed-out, weighed-no-number, weighed-number}
+use mathlib.Core.Path.{ap}
+use mathlib.Core.Bool.{not}
 use Rattle.locmaf_write_tuples.proofs.tuples.number_size.Goals as goal
 
 pub returns-then-not-stands : goal.returns-then-not-stands
-returns-then-not-stands c = weighed-out _ _ _ _ c.if-not-stands.true c.whole.ensures
+returns-then-not-stands c = weighed-out _ _ _ _ (ap not c.if-not-stands.true) c.whole.ensures
 
 pub returns-in_default : goal.returns-in_default
-returns-in_default c = weighed-no-number _ _ _ c.in_default.is _ _ c.if-not-stands.false c.too_wide.ensures
+returns-in_default c = weighed-no-number _ _ _ c.in_default.is _ _ (ap not c.if-not-stands.false) c.too_wide.ensures
 
 pub overflow_add-size : goal.overflow_add-size
 overflow_add-size c =
@@ -18,5 +20,5 @@ overflow_add-size c =
 pub returns : goal.returns
 returns c =
     let a = c.args in
-    weighed-number a.id a.c _ c.in-Number.is a.form a.stands c.if-not-stands.false c.requires.0 c.requires.1
+    weighed-number a.id a.c _ c.in-Number.is a.form a.stands (ap not c.if-not-stands.false) c.requires.0 c.requires.1
     (c.whole-2.ensures.0, omega (arith, c.whole-2.ensures.1, c.size-2.ensures, c.size.ensures))

@@ -1,6 +1,6 @@
 -- `locmaf_write_tuples::tuples::put_head` meets its contract: two varints one after another.
 use mathlib.Core.Path.{refl}
-use mathlib.Core.List.{◌∷◌}
+use mathlib.Core.List.{[], ◌∷◌}
 use Rattle.laws.proofs.PartLaws.{parts_all, parts-room, parts_then, parts_none}
 use Rattle.wire.specs.Form.{rows}
 use Rattle.wire.specs.Varint.{encode}

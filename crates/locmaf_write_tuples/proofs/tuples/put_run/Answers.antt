@@ -1,5 +1,5 @@
 -- `locmaf_write_tuples::tuples::put_run` meets its contract: the head, and the numbers after it.
-use mathlib.Core.List.{◌∷◌, ◌++◌}
+use mathlib.Core.List.{[], ◌∷◌, ◌++◌}
 use Rattle.laws.proofs.PartLaws.{Parts, parts_all, parts-room, parts_then, parts_none}
 use Rattle.wire.specs.Form.{rows}
 use Rattle.wire.specs.Varint.{encode}

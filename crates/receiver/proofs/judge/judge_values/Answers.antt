@@ -108,7 +108,7 @@ gathered c F v =
     record {
       hold = v.hold;
       words = v.words;
-      bytes = all-bytes c.args.o.now (λ i. (c.shared_slice_known-1.given i).fits);
+      bytes = all-bytes c.args.o.now (λ i. (c.type_inv.o i).fits);
     }
 
 gathered-2 : (c : goal.After-ivs_number-arg-1) (F : List Row) → Read-2 c F → let a = c.args in Gathered F a.o.now a.s.now a.t (drop events_len a.words.now)
@@ -116,7 +116,7 @@ gathered-2 c F v =
     record {
       hold = v.hold;
       words = v.words;
-      bytes = all-bytes c.args.o.now (λ i. (c.shared_slice_known-1.given i).fits);
+      bytes = all-bytes c.args.o.now (λ i. (c.type_inv.o i).fits);
     }
 
 gathered-3 : (c : goal.After-brands-1) (F : List Row) → Read-3 c F → let a = c.args in Gathered F a.o.now a.s.now a.t (drop events_len a.words.now)
@@ -124,7 +124,7 @@ gathered-3 c F v =
     record {
       hold = v.hold;
       words = v.words;
-      bytes = all-bytes c.args.o.now (λ i. (c.shared_slice_known-1.given i).fits);
+      bytes = all-bytes c.args.o.now (λ i. (c.type_inv.o i).fits);
     }
 
 -- its test is the rules'

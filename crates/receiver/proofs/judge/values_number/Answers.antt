@@ -4,7 +4,6 @@ use mathlib.Core.Path.{◌≡◌, refl, sym, ◌∙◌, ap, subst}
 use mathlib.Core.List.{List, ◌++◌}
 use borrow.Author.Rules.{part_to_end}
 use lib.ListN.{length, take, drop, set, length-set}
-use Rattle.laws.proofs.GateLaws.{failed, held}
 use Rattle.field_table.specs.Lines.{set_len, bmdt_at}
 use Rattle.event_value.specs.Events.{events_len}
 use Rattle.told_sizes.specs.Sums.{Summable}
@@ -101,17 +100,17 @@ lent-3 : (c : goal.Else-not-sums_ok) → take (length (words-4 c) - events_len) 
 lent-3 c = part_to_end (words-4 c) events_len ∙ rest-2 c
 
 pub returns-then-not-v : goal.returns-then-not-v
-returns-then-not-v c = value_out _ _ _ _ _ _ _ (failed refl c.if-not-v.true) _ _
+returns-then-not-v c = value_out _ _ _ _ _ _ _ (sym refl ∙ c.if-not-v.true) _ _
 
 pub events_ok-requires : goal.events_ok-requires
 events_ok-requires c =
     let h = c.requires.testable in
-    record { events_len = h.long; events_fit = h.fit (held refl c.if-not-v.false) }
+    record { events_len = h.long; events_fit = h.fit (sym refl ∙ c.if-not-v.false) }
 
 pub returns-then-not-events_ok : goal.returns-then-not-events_ok
 returns-then-not-events_ok c =
-    event-out _ _ _ _ _ _ _ (held refl c.if-not-v.false) c.events_ok.ensures
-    (front-new events_len set_len c.args.words.now c.requires.words_len (events c) c.words-1.given.0) (failed refl c.if-not-events_ok.true) _
+    event-out _ _ _ _ _ _ _ (sym refl ∙ c.if-not-v.false) c.events_ok.ensures
+    (front-new events_len set_len c.args.words.now c.requires.words_len (events c) c.words-1.given.0) (sym refl ∙ c.if-not-events_ok.true) _
 
 pub slice_bounds-sums_ok-count : goal.slice_bounds-sums_ok-count
 slice_bounds-sums_ok-count c = front-in events_len set_len (words c) (words_long c)
@@ -122,19 +121,19 @@ slice_bounds-sums_ok-start c = front-in events_len set_len (words c) (words_long
 pub sums_ok-requires : goal.sums_ok-requires
 sums_ok-requires c =
     let h = c.requires.testable in
-    let ok = held refl c.if-not-v.false in
+    let ok = sym refl ∙ c.if-not-v.false in
     (subst (λ (l : List ℕ). Summable l) (sym (lent c)) (h.summable ok), h.small ok)
 
 pub returns-then-not-sums_ok : goal.returns-then-not-sums_ok
 returns-then-not-sums_ok c =
     let a = c.args in
     let e = c.sums_ok.ensures ∙ ap (λ (l : List ℕ). sums_in a.t l a.payload) (lent-2 c) in
-    summed _ _ _ _ _ _ _ (held refl c.if-not-v.false) c.events_ok.ensures (front c) (held refl c.if-not-events_ok.false) (rest c) 16
-    (rw (failed e c.if-not-sums_ok.true))
+    summed _ _ _ _ _ _ _ (sym refl ∙ c.if-not-v.false) c.events_ok.ensures (front c) (sym refl ∙ c.if-not-events_ok.false) (rest c) 16
+    (rw (sym e ∙ c.if-not-sums_ok.true))
 
 pub returns : goal.returns
 returns c =
     let a = c.args in
     let e = c.sums_ok.ensures ∙ ap (λ (l : List ℕ). sums_in a.t l a.payload) (lent-3 c) in
-    summed _ _ _ _ _ _ _ (held refl c.if-not-v.false) c.events_ok.ensures (front-2 c) (held refl c.if-not-events_ok.false) (rest-2 c) 0
-    (rw (held e c.if-not-sums_ok.false))
+    summed _ _ _ _ _ _ _ (sym refl ∙ c.if-not-v.false) c.events_ok.ensures (front-2 c) (sym refl ∙ c.if-not-events_ok.false) (rest-2 c) 0
+    (rw (sym e ∙ c.if-not-sums_ok.false))

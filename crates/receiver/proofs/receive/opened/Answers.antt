@@ -1,6 +1,5 @@
 -- `receiver::receive::opened` meets its contract, by the laws of `proofs/ReceiveLaws.antt`.
 use mathlib.Core.Path.{sym, ◌∙◌}
-use Rattle.laws.proofs.GateLaws.{failed, held}
 use Rattle.wire.specs.Form.{rows}
 use Rattle.receiver.proofs.ReceiveLaws.{opened-unlawful, opened-closed, opened-headless, opened-unheld, opened-held}
 use Rattle.receiver.proofs.receive.opened.Goals as goal
@@ -8,27 +7,27 @@ use Rattle.receiver.proofs.receive.opened.Goals as goal
 pub returns-then-not-is_lawful : goal.returns-then-not-is_lawful
 returns-then-not-is_lawful c =
     let a = c.args in
-    opened-unlawful (rows a.form) a.o.now a.s.now (failed c.is_lawful.ensures c.if-not-is_lawful.true)
+    opened-unlawful (rows a.form) a.o.now a.s.now (sym c.is_lawful.ensures ∙ c.if-not-is_lawful.true)
 
 pub returns-then-s-eq0 : goal.returns-then-s-eq0
 returns-then-s-eq0 c =
     let a = c.args in
-    opened-closed (rows a.form) a.o.now a.s.now (held c.is_lawful.ensures c.if-not-is_lawful.false) c.if-s-eq0.true
+    opened-closed (rows a.form) a.o.now a.s.now (sym c.is_lawful.ensures ∙ c.if-not-is_lawful.false) c.if-s-eq0.true
 
 pub returns-then-p-s : goal.returns-then-p-s
 returns-then-p-s c =
     let a = c.args in
-    opened-unheld (rows a.form) a.o.now a.s.now (held c.is_lawful.ensures c.if-not-is_lawful.false) c.if-s-eq0.false _
+    opened-unheld (rows a.form) a.o.now a.s.now (sym c.is_lawful.ensures ∙ c.if-not-is_lawful.false) c.if-s-eq0.false _
     (sym c.head_of-h.ensures ∙ c.in-Block.is) c.if-p-s.true
 
 pub returns-in-Refused : goal.returns-in-Refused
 returns-in-Refused c =
     let a = c.args in
-    opened-headless (rows a.form) a.o.now a.s.now (held c.is_lawful.ensures c.if-not-is_lawful.false) c.if-s-eq0.false _
+    opened-headless (rows a.form) a.o.now a.s.now (sym c.is_lawful.ensures ∙ c.if-not-is_lawful.false) c.if-s-eq0.false _
     (sym c.head_of-h.ensures ∙ c.in-Refused.is)
 
 pub returns-else-p-s : goal.returns-else-p-s
 returns-else-p-s c =
     let a = c.args in
-    opened-held (rows a.form) a.o.now a.s.now (held c.is_lawful.ensures c.if-not-is_lawful.false) c.if-s-eq0.false _
+    opened-held (rows a.form) a.o.now a.s.now (sym c.is_lawful.ensures ∙ c.if-not-is_lawful.false) c.if-s-eq0.false _
     (sym c.head_of-h.ensures ∙ c.in-Block.is) c.if-p-s.false c.requires

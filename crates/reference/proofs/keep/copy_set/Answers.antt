@@ -1,11 +1,11 @@
 use Prim.Native.Nat.{◌-◌}
 use native.Mathlib.Omega.{arith}
 use mathlib.Core.Path.{◌∙◌, ap}
-use mathlib.Core.Logic.{⊎_elim}
 use mathlib.Core.List.{◌++◌}
 use Rattle.reference.proofs.KeepLaws.{Copyable, begun, start, end, further, copied, unmarked-both, stays}
 use borrow.Author.Rules.{rules}
 use Rattle.reference.proofs.keep.copy_set.Goals as goal
+use Rattle.reference.proofs.keep.copy_set.Goals.{then-s-at, else-s-at}
 
 -- the words are like that
 copyable : (c : goal.After-slice_known-2-1) → let a = c.args in Copyable a.x.now a.s.now
@@ -51,12 +51,15 @@ pub loop-i-preserved : goal.loop-i-preserved
 loop-i-preserved c =
     let h = c.loop-i.invariant.moves in
     let t = c.loop-i-test.true in
-    let m =
-    ⊎_elim
-    (λ w. copied _ _ _ _ _ h t _ c.place_at-to.ensures _ (w.5 ∙ w.2.ensures))
-    (λ w. let z = unmarked-both _ _ w.0.left in stays _ _ _ _ _ h t _ c.place_at-to.ensures _ w.1 z.0 z.1)
-    c.if-s-at.branch in
-    record { base = c.loop-i.invariant.base; front = c.loop-i.invariant.front; moves = m }
+    let at = c.place_at-to.ensures in
+    record {
+      base = c.loop-i.invariant.base;
+      front = c.loop-i.invariant.front;
+      moves = elim c.if-s-at.branch [
+        | then-s-at w ↦ copied _ _ _ _ _ h t _ at _ (w.s-is ∙ w.copy-then-s-at.ensures)
+        | else-s-at w ↦ let z = unmarked-both _ _ w.if-s-at.false in stays _ _ _ _ _ h t _ at _ w.s-is z.0 z.1
+      ];
+    }
 
 pub returns : goal.returns
 returns c =

@@ -2,33 +2,41 @@
 use native.Mathlib.Omega.{arith}
 use mathlib.Core.Path.{sym, ◌∙◌, ap}
 use mathlib.Core.Bool.{false≢true}
-use mathlib.Core.Logic.{⊎_elim}
 use lib.ListN.{length, length-set}
 use Rattle.reference.specs.declared.keep.Replaced.{Replaced}
 use Rattle.reference.proofs.KeepLaws.{Kept, kept_full, kept-delta, marked, unmarked, copied-long}
 use Rattle.reference.proofs.keep.keep.Goals as goal
+use Rattle.reference.proofs.keep.keep.Goals.{then-new, then-prft, else-prft, else-new}
 
 -- the share where the two ways of the `prft` meet
 after : (c : goal.After-copy_set-arg-1) → let a = c.args in Kept a.delta a.prft a.sequence a.x.now a.s.now c.if-new.s
 after c =
     let prft = ap (λ (r : Replaced). r.prft) c.replaced_by-new.ensures in
-    ⊎_elim
-    (λ w.
-    kept_full _ _ _ _ _ c.requires.s_len.0 (sym prft ∙ w.0.taken) w.1.s
-    (⊎_elim (λ m. marked c.args.prft _ m.0.taken m.1) (λ m. unmarked c.args.prft _ m.0.left m.1) w.1.came) _ w.2)
-    (λ w. kept-delta _ _ _ _ _ c.requires.s_len.0 (sym prft ∙ w.0.left) _ w.1)
-    c.if-new.branch
+    elim c.if-new.branch [
+      | then-new w ↦
+          kept_full _ _ _ _ _ c.requires.s_len.0 (sym prft ∙ w.if-new.true) w.if-prft.s
+          (elim w.if-prft.branch [
+            | then-prft m ↦ marked c.args.prft _ m.if-prft.true m.s-is
+            | else-prft m ↦ unmarked c.args.prft _ m.if-prft.false m.s-is
+          ])
+          _ w.s-is
+      | else-new w ↦ kept-delta _ _ _ _ _ c.requires.s_len.0 (sym prft ∙ w.if-new.false) _ w.s-is
+    ]
 
 -- the share where the two ways of the `prft` meet
 after-2 : (c : goal.After-slice_known-then-new-2-1) → let a = c.args in Kept a.delta a.prft a.sequence a.x.now a.s.now c.if-new.s
 after-2 c =
     let prft = ap (λ (r : Replaced). r.prft) c.replaced_by-new.ensures in
-    ⊎_elim
-    (λ w.
-    kept_full _ _ _ _ _ c.requires.s_len.0 (sym prft ∙ w.0.taken) w.1.s
-    (⊎_elim (λ m. marked c.args.prft _ m.0.taken m.1) (λ m. unmarked c.args.prft _ m.0.left m.1) w.1.came) _ w.2)
-    (λ w. kept-delta _ _ _ _ _ c.requires.s_len.0 (sym prft ∙ w.0.left) _ w.1)
-    c.if-new.branch
+    elim c.if-new.branch [
+      | then-new w ↦
+          kept_full _ _ _ _ _ c.requires.s_len.0 (sym prft ∙ w.if-new.true) w.if-prft.s
+          (elim w.if-prft.branch [
+            | then-prft m ↦ marked c.args.prft _ m.if-prft.true m.s-is
+            | else-prft m ↦ unmarked c.args.prft _ m.if-prft.false m.s-is
+          ])
+          _ w.s-is
+      | else-new w ↦ kept-delta _ _ _ _ _ c.requires.s_len.0 (sym prft ∙ w.if-new.false) _ w.s-is
+    ]
 
 -- no object leaves the set as it was
 never : (c : goal.Else-new-2) → ⊥

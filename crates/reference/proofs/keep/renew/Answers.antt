@@ -18,7 +18,12 @@ pub expected_behind-e-requires : goal.expected_behind-e-requires
 expected_behind-e-requires c = rw (part_to_end c.args.s.now set_at) c.requires.s_len.1
 
 pub last_protected-last-requires : goal.last_protected-last-requires
-last_protected-last-requires c = let s = c.args.s.now in record { summable = (rw (part_to_end s set_at) (c.requires.summable, ap (λ t. lawful t (drop set_at s)) c.track_of-t.ensures ∙ c.requires.s_value.1)).0; w_value = (rw (part_to_end s set_at) (c.requires.summable, ap (λ t. lawful t (drop set_at s)) c.track_of-t.ensures ∙ c.requires.s_value.1)).1 }
+last_protected-last-requires c =
+    let s = c.args.s.now in
+    record {
+      summable = rw (part_to_end s set_at) c.requires.summable;
+      w_value = rw (part_to_end s set_at) (ap (λ t. lawful t (drop set_at s)) c.track_of-t.ensures ∙ c.requires.s_value.1);
+    }
 
 pub returns-then-new : goal.returns-then-new
 returns-then-new c =

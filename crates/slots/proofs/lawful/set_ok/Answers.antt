@@ -1,5 +1,5 @@
 -- `slots::lawful::set_ok` meets its contract, by what its tests come to.
-use mathlib.Core.Path.{refl}
+use mathlib.Core.Path.{refl, sym, ◌∙◌}
 use borrow.Author.Rules.{rules}
 use borrow.Author.Rules.{part_to_end}
 use Rattle.laws.proofs.GateLaws.{failed, held}
@@ -27,7 +27,7 @@ last_fits-requires c =
 pub returns-then-not-last_fits : goal.returns-then-not-last_fits
 returns-then-not-last_fits c =
     let s = c.args.s.now in
-    last-unlawful _ s _ (part_to_end s set_at) (failed c.last_fits.ensures c.if-not-last_fits.true)
+    last-unlawful _ s _ (part_to_end s set_at) (sym c.last_fits.ensures ∙ c.if-not-last_fits.true)
 
 pub durations_by-d-requires : goal.durations_by-d-requires
 durations_by-d-requires c =
@@ -42,7 +42,7 @@ pub returns-then-not-is_same : goal.returns-then-not-is_same
 returns-then-not-is_same c =
     let s = c.args.s.now in
     expected-unlawful _ s _ (part_to_end s set_at) _ _ c.expected_of.ensures _ c.durations_by-d.ensures c.expected_by-e.ensures
-    (failed c.is_same.ensures c.if-not-is_same.true)
+    (sym c.is_same.ensures ∙ c.if-not-is_same.true)
 
 pub sizes_agree-requires : goal.sizes_agree-requires
 sizes_agree-requires c = lawful-summable _ _ (lent-long c.args.s.now c.requires.0) (held c.test_set-k.ensures.right c.if-not-k.false)
@@ -51,5 +51,5 @@ pub returns : goal.returns
 returns c =
     let s = c.args.s.now in
     set-lawful _ s _ (part_to_end s set_at) _ _ c.expected_of.ensures _ c.durations_by-d.ensures c.expected_by-e.ensures
-    (held c.test_set-k.ensures.right c.if-not-k.false) (held c.last_fits.ensures c.if-not-last_fits.false)
-    (held c.is_same.ensures c.if-not-is_same.false) _ c.sizes_agree.ensures
+    (held c.test_set-k.ensures.right c.if-not-k.false) (sym c.last_fits.ensures ∙ c.if-not-last_fits.false)
+    (sym c.is_same.ensures ∙ c.if-not-is_same.false) _ c.sizes_agree.ensures

@@ -1,4 +1,3 @@
-use Prim.Native.Nat.{◌-◌}
 use native.Mathlib.Omega.{arith}
 use mathlib.Core.Path.{refl}
 use Rattle.wire.proofs.JoinLoop.{next, next-room, joined}
@@ -13,12 +12,12 @@ overflow_mul-v c = omega (arith, next-room _ _ _ _ _ _ c.loop-i.invariant c.loop
 pub overflow_add-v : goal.overflow_add-v
 overflow_add-v c =
     omega
-    (arith, next-room _ _ _ _ _ _ c.loop-i.invariant c.loop-i-test.true, c.shared_slice_known-in-loop-i-1.given c.loop-i.i)
+    (arith, next-room _ _ _ _ _ _ c.loop-i.invariant c.loop-i-test.true, c.type_inv.s c.loop-i.i)
 
 pub loop-i-preserved : goal.loop-i-preserved
 loop-i-preserved c =
     rw c.wide.ensures
-    (next _ _ _ _ _ _ c.loop-i.invariant c.loop-i-test.true (c.shared_slice_known-in-loop-i-1.given c.loop-i.i).fits)
+    (next _ _ _ _ _ _ c.loop-i.invariant c.loop-i-test.true (c.type_inv.s c.loop-i.i).fits)
 
 pub returns : goal.returns
 returns c = joined _ _ _ _ _ _ c.loop-i.invariant c.loop-i-test.false

@@ -27,7 +27,7 @@ overflow_mul-result c = omega (arith, c.requires.form_bound.1, short-bytes (rows
 pub overflow_add-result : goal.overflow_add-result
 overflow_add-result c =
     let bytes = short-bytes (rows c.args.form) (lawful c.args.form) in
-    let low : c.wide-low.result < 2 ^ 8 = rw c.wide-low.ensures (c.shared_slice_known-2-1.given (c.args.at + 1)).fits in
+    let low : c.wide-low.result < 2 ^ 8 = rw c.wide-low.ensures (c.type_inv.s (c.args.at + 1)).fits in
     let sum : (c.args.b - c.ones.result) * 256 + c.wide-low.result < 2 ^ 64 = omega (arith, c.requires.form_bound.1, bytes, low) in
     record { fits = sum }
 

@@ -1,10 +1,9 @@
-use Prim.Native.Nat.{◌-◌}
 use native.Mathlib.Omega.{arith}
 use mathlib.Core.Path.{◌∙◌}
-use mathlib.Core.Logic.{⊎_elim}
 use Rattle.word_spans.proofs.ScanLaws.{collect-start, collect-run, collect-last, collect-end}
 use borrow.Author.Rules.{rules}
 use Rattle.word_spans.proofs.scan.many.Goals as goal
+use Rattle.word_spans.proofs.scan.many.Goals.{then-i-to, else-i-to}
 
 pub loop-i-init : goal.loop-i-init
 loop-i-init c = collect-start _ _ _ c.requires.0 (omega (arith, c.requires.1))
@@ -22,7 +21,10 @@ loop-i-2-preserved c =
 pub returns : goal.returns
 returns c =
     let h = c.loop-i-2.invariant in
-    ⊎_elim
-    (λ w. let k = w.1.ensures in
-    rw w.3 (w.2.ensures ∙ collect-last _ _ _ _ _ h k.0 (omega (arith, c.requires.1, k.1)) k.2 k.3))
-    (λ w. rw w.1 (collect-end _ _ _ _ _ h w.0.left)) c.if-i-to.branch
+    elim c.if-i-to.branch [
+      | then-i-to w ↦
+          let k = w.last_step.ensures in
+          rw w.all-is
+          (w.joined-all-then-i-to.ensures ∙ collect-last _ _ _ _ _ h k.0 (omega (arith, c.requires.1, k.1)) k.2 k.3)
+      | else-i-to w ↦ rw w.all-is (collect-end _ _ _ _ _ h w.if-i-to.false)
+    ]

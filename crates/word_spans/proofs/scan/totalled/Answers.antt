@@ -1,4 +1,3 @@
-use Prim.Native.Nat.{◌-◌}
 use Rattle.word_spans.proofs.TotalLaws.{total-start, total-more, total-end}
 use Rattle.word_spans.proofs.scan.totalled.Goals as goal
 

@@ -1,4 +1,3 @@
-use Prim.Native.Nat.{◌-◌}
 use Rattle.word_spans.proofs.CopyLoop.{start, next, end}
 use Rattle.word_spans.proofs.words.copy.Goals as goal
 
