@@ -26,7 +26,7 @@ use Rattle.field_rules.proofs.SetLaws.{eleven-for, AllFit, keeps-fits, words-sta
 use Rattle.cmaf_read_moof.specs.Headers.{bmdt_of}
 use Rattle.cmaf_read_trun.specs.Rows.{trun_ok}
 use Rattle.cmaf_read_senc.specs.declared.entries.Entries.{Entries}
-use Rattle.cmaf_read_senc.specs.Entries.{pairs_at, length_at, subsamples}
+use Rattle.cmaf_read_senc.specs.Entries.{pairs_at, length_at}
 use Rattle.cmaf_read_senc.proofs.SencLaws.{senc-stands, entries-iv}
 use Rattle.cmaf_read_rules.proofs.InfoLaws.{counts_from}
 use Rattle.cmaf_read_rules.proofs.RuleFacts.{RulesHold, rules-hold, rules-protected, protection-holds, entries-keep}

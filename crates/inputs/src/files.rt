@@ -78,10 +78,8 @@ const PARAMS: usize = 4096;
 // Room for the words of an error.
 const SENTENCE: usize = 256;
 
-// The system's numbers for a path that has a NUL in it, and for one that is no text.
+// The system's number for a path with a NUL in it.
 const NO_PATH: i32 = 22;
-
-const NO_TEXT: i32 = 84;
 
 fn opened<R: Files>(rt: &R, path: &[u8]) -> io::Result<R::File> {
     if path.contains(&0) {
@@ -89,7 +87,7 @@ fn opened<R: Files>(rt: &R, path: &[u8]) -> io::Result<R::File> {
     }
     match str::from_utf8(path) {
         Ok(text) => fs::open(rt, text),
-        Err(_) => Err(io::Error::from_raw_os_error(NO_TEXT)),
+        Err(_) => Err(io::Error::new(io::ErrorKind::InvalidInput, "its path isn't UTF-8")),
     }
 }
 

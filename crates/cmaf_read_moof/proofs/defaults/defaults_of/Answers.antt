@@ -25,15 +25,14 @@ unfolding is_field
 field_of-requires-4 c = record { inside = c.requires.inside; b_value = c.requires.b_value; flag_value = refl; other_bound = omega arith }
 
 pub returns : goal.returns
-returns c =
-    (
-      defaults-are c.args.c.now c.args.b c.args.t c.u32_at.ensures.0 c.field_of.ensures.0 c.field_of-2.ensures.0
-          c.field_of-3.ensures.0 (c.field_of-4.ensures.0 ∙ ap (field_of c.args.c.now c.args.b 0x20) c.of_five-own.ensures),
-      record {
-        track-lt = c.u32_at.ensures.1;
-        description-lt = c.field_of.ensures.1;
-        duration-lt = c.field_of-2.ensures.1;
-        size-lt = c.field_of-3.ensures.1;
-        flags-lt = c.field_of-4.ensures.1;
-      },
-    )
+returns c = (
+  defaults-are c.args.c.now c.args.b c.args.t c.u32_at.ensures.0 c.field_of.ensures.0 c.field_of-2.ensures.0
+      c.field_of-3.ensures.0 (c.field_of-4.ensures.0 ∙ ap (field_of c.args.c.now c.args.b 0x20) c.of_five-own.ensures),
+  record {
+    track-lt = c.u32_at.ensures.1;
+    description-lt = c.field_of.ensures.1;
+    duration-lt = c.field_of-2.ensures.1;
+    size-lt = c.field_of-3.ensures.1;
+    flags-lt = c.field_of-4.ensures.1;
+  },
+)

@@ -11,12 +11,11 @@ pub bit-requires : goal.bit-requires
 bit-requires c = flag-some _ c.requires.flag_value
 
 pub returns-then-bit-eq0 : goal.returns-then-bit-eq0
-returns-then-bit-eq0 c =
-    (
-      field-other c.args.c.now c.args.b c.args.flag c.args.other _ c.u32_at-word.ensures.0
-          (sym c.bit.ensures.0 ∙ c.if-bit-eq0.true),
-      c.requires.other_bound,
-    )
+returns-then-bit-eq0 c = (
+  field-other c.args.c.now c.args.b c.args.flag c.args.other _ c.u32_at-word.ensures.0
+      (sym c.bit.ensures.0 ∙ c.if-bit-eq0.true),
+  c.requires.other_bound,
+)
 
 pub nonzero_rem-word : goal.nonzero_rem-word
 nonzero_rem-word c = omega (arith, flag-some _ c.requires.flag_value)
@@ -29,10 +28,9 @@ u32_at-requires c =
     omega (arith, f, c.requires.inside, c.fields_in-before.ensures.0)
 
 pub returns : goal.returns
-returns c =
-    (
-      field-own c.args.c.now c.args.b c.args.flag c.args.other _ _ _ c.u32_at-word.ensures.0
-          (λ z. c.if-bit-eq0.false (c.bit.ensures.0 ∙ z)) c.fields_in-before.ensures.0
-          c.u32_at.ensures.0,
-      c.u32_at.ensures.1,
-    )
+returns c = (
+  field-own c.args.c.now c.args.b c.args.flag c.args.other _ _ _ c.u32_at-word.ensures.0
+      (λ z. c.if-bit-eq0.false (c.bit.ensures.0 ∙ z)) c.fields_in-before.ensures.0
+      c.u32_at.ensures.0,
+  c.u32_at.ensures.1,
+)

@@ -1,4 +1,3 @@
-use Prim.Native.Nat.{◌-◌}
 use Rattle.cmaf_read_prelude.proofs.EmsgLaws.{looking-start, looking-next, looking-end, emsg-lies}
 use borrow.Author.Rules.{rules}
 use Rattle.cmaf_read_prelude.proofs.emsg.emsgs_ok.Goals as goal

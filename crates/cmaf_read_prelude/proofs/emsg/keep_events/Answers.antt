@@ -1,5 +1,4 @@
 use native.Mathlib.Omega.{arith}
-use Prim.Native.Nat.{◌-◌}
 use Rattle.cmaf_read_prelude.proofs.EmsgLaws.{emsg-lies}
 use Rattle.cmaf_read_prelude.proofs.EventLaws.{keeping_start, keeping-ok, keeping-next, keeping-end}
 use borrow.Author.Rules.{rules}

@@ -1,4 +1,3 @@
-use Prim.Native.Nat.{◌-◌}
 use Rattle.cmaf_read_prelude.proofs.EventLaws.{storing-start, storing-next, storing-end}
 use Rattle.cmaf_read_prelude.proofs.emsg.store.Goals as goal
 

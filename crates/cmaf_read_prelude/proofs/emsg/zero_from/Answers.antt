@@ -1,4 +1,3 @@
-use Prim.Native.Nat.{◌-◌}
 use mathlib.Core.Path.{refl, ◌∙◌}
 use Rattle.cmaf_read_prelude.proofs.ZeroLaws.{zero-here, zero-next, zero-none}
 use Rattle.cmaf_read_prelude.proofs.emsg.zero_from.Goals as goal

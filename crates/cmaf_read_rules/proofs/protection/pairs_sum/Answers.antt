@@ -1,4 +1,3 @@
-use Prim.Native.Nat.{◌-◌}
 use Rattle.cmaf_read_rules.proofs.PairLaws.{adding-start, adding-next, adding-end}
 use Rattle.cmaf_read_rules.proofs.protection.pairs_sum.Goals as goal
 

@@ -1,8 +1,6 @@
-use Prim.Native.Nat.{◌-◌}
 use mathlib.Core.Path.{◌∙◌, ap, sym}
 use native.Mathlib.Omega.{arith}
 use lib.ListN.{length-set}
-use Rattle.cmaf_read_trun.specs.Rows.{cell}
 use Rattle.cmaf_read_samples.specs.Ways.{value_of}
 use Rattle.cmaf_read_trun.proofs.EachLaws.{store-start, store-next, store-end}
 use Rattle.cmaf_read_samples.proofs.CellLaws.{column-none, column-stored}

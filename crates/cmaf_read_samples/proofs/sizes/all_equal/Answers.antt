@@ -1,5 +1,3 @@
-use Prim.Native.Nat.{◌-◌}
-use Rattle.cmaf_read_trun.specs.Rows.{size_at}
 use Rattle.cmaf_read_samples.proofs.SizeLaws.{compare-start, compare-next, compare-end}
 use Rattle.cmaf_read_samples.proofs.sizes.all_equal.Goals as goal
 

@@ -1,7 +1,5 @@
-use Prim.Native.Nat.{◌-◌}
 use native.Mathlib.Omega.{arith}
 use lib.ListN.{length-set}
-use Rattle.cmaf_read_trun.specs.Rows.{size_at}
 use Rattle.cmaf_read_trun.proofs.EachLaws.{store-start, store-next, store-end}
 use Rattle.cmaf_read_samples.proofs.SizeLaws.{several, sizes-none, sizes-stored}
 use Rattle.cmaf_read_samples.proofs.sizes.put_sizes.Goals as goal

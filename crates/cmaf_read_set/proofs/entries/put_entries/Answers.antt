@@ -1,4 +1,3 @@
-use Prim.Native.Nat.{◌-◌}
 use native.Mathlib.Omega.{arith}
 use Rattle.cmaf_read_set.proofs.EntryWalk.{walk_start, walk-head, walk_here, walk-pairs, walk-fits, walk-next, walk_end}
 use mathlib.Core.Path.{sym, ◌∙◌}

@@ -1,4 +1,3 @@
-use Prim.Native.Nat.{◌-◌}
 use Rattle.cmaf_read_set.proofs.EntryLoops.{iv-start, iv-next, iv-end}
 use Rattle.cmaf_read_set.proofs.entries.put_iv.Goals as goal
 

@@ -1,4 +1,3 @@
-use Prim.Native.Nat.{◌-◌}
 use native.Mathlib.Omega.{arith}
 use lib.ListN.{length-set}
 use Rattle.cmaf_read_set.proofs.EntryLoops.{pairs_start, pairs_next, pairs_end}

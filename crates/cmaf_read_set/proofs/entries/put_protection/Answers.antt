@@ -24,11 +24,14 @@ put_entries-requires c =
     let h = c.requires in
     let n = c.if-senc-eq0.false in
     let q = c.entries_of-e.ensures.0 in
-    let e = c.entries_of-e.result in record { count_le_samples_most = (
+    let e = c.entries_of-e.result in record {
+      count_le_samples_most = (
         count-asked a.t a.c.now a.f n e q h.few_entries.0,
         iv-size-asked a.t a.c.now a.f n e q h.few_entries.1,
         senc-few a.t a.c.now a.f.senc h.inside.0 h.inside.1 (some_bytes _ n) h.few_entries.2 q,
-      ); x_len = ap length c.put_marks.ensures ∙ marks-length e a.x.now ∙ h.x_len }
+      );
+      x_len = ap length c.put_marks.ensures ∙ marks-length e a.x.now ∙ h.x_len;
+    }
 
 -- what is stored, where the box stands
 stored : (c : goal.After-slice_known-3-1)

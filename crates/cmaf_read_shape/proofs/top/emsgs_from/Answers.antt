@@ -1,4 +1,3 @@
-use Prim.Native.Nat.{◌-◌}
 use native.Mathlib.Omega.{arith}
 use borrow.Author.Rules.{rules}
 use Rattle.cmaf_read_shape.proofs.RunLaws.{run-start, run_end, run-stop, run_room, run_long, run_on, run-is-in}

@@ -1,6 +1,5 @@
-use Prim.Native.Nat.{ℕ, ◌-◌}
+use Prim.Native.Nat.{ℕ}
 use mathlib.Core.Path.{refl, sym, ◌∙◌, ap}
-use mathlib.Core.Bool.{true}
 use Rattle.laws.specs.Tests.{all_le}
 use lib.Dec.{leb}
 use Rattle.laws.proofs.RowLaws.{tests-start, tests-next, tests-end}

@@ -1,6 +1,5 @@
-use Prim.Native.Nat.{ℕ, ◌-◌}
+use Prim.Native.Nat.{ℕ}
 use mathlib.Core.Path.{refl, sym, ◌∙◌, ap}
-use mathlib.Core.Bool.{true}
 use Rattle.laws.proofs.RowLaws.{tests-start, tests-next, tests-end}
 use Rattle.media.specs.Flags.{only}
 use Rattle.cmaf_read_trun.specs.Rows.{cell, sample_flags}

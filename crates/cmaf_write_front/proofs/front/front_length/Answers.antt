@@ -8,4 +8,4 @@ returns c =
     let a = c.args in
     λ sequence payload o fit.
     front_length a.t sequence a.w.now payload a.prft (events_of o a.events.now a.k) a.brands.now _ _ _ _ c.styp_length.ensures.0
-    (c.prft_length.ensures.0 a.t) (c.emsgs_length.ensures.0 o fit) (c.moof_length.ensures.0 sequence payload)
+    (c.prft_length.ensures.0 a.t) (c.emsgs_length.ensures.0 o fit) (c.moof_length.ensures.length sequence payload)

@@ -8,4 +8,4 @@ returns c =
     let a = c.args in
     let e = c.plain_length.ensures.0 in
     let q = c.protection_length in
-    record { length = λ sequence payload offset. rw e (moof-length a.t sequence a.w.now payload q.result q.ensures.0 offset); small = omega (arith, c.plain_length.ensures.1, q.ensures.1) }
+    record { length = λ sequence payload offset. rw e (moof-length a.t sequence a.w.now payload q.result q.ensures.length offset); small = omega (arith, c.plain_length.ensures.1, q.ensures.small) }

@@ -1,5 +1,3 @@
--- TURN: 5 answers for 4 needs: by their names
--- TURN: no goal for slice-aggregate-rules-ok (slice-aggregate-rules-ok)
 -- `locmaf_read_set::read::bare_number` meets its contract: two tests with one number.
 use Rattle.locmaf_read_set.proofs.BareLaws.{bare-number}
 use Rattle.locmaf_read_set.proofs.read.bare_number.Goals as goal

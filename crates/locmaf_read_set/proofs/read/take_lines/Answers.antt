@@ -1,10 +1,10 @@
 use Prim.Native.Nat.{◌-◌}
 use native.Mathlib.Omega.{arith}
-use mathlib.Core.Logic.{⊎_elim}
 use Rattle.locmaf_read_set.proofs.ClearLaws.{all-fit}
 use Rattle.locmaf_read_set.proofs.StandingLaws.{marks-count, unmarked}
 use Rattle.locmaf_read_set.proofs.TakingLaws.{taking-start, taking-end, taking-as, here, enough, taking-next, taking-skip}
 use Rattle.locmaf_read_set.proofs.read.take_lines.Goals as goal
+use Rattle.locmaf_read_set.proofs.read.take_lines.Goals.{then-marks-i-ne0, else-marks-i-ne0}
 
 pub loop-i-init : goal.loop-i-init
 loop-i-init c = let p = c.requires in taking-start _ _ _ _ p.measured.1 p.measured.2 p.measured.3 (all-fit _ _ _ p.readable.words p.readable.lawful _ _ p.measured.0)
@@ -26,13 +26,13 @@ loop-i-preserved c =
     let p = c.requires in
     let h = c.loop-i.invariant in
     let lt = c.loop-i-test.true in
-    ⊎_elim
-    (λ w. taking-as _ _ _ _ (taking-next _ _ _ _ _ _ _ _ _ h lt _ _ w.2.ensures) w.8 w.9 w.10 w.11)
-    (λ w.
+    elim c.if-marks-i-ne0.branch
+    [ then-marks-i-ne0 w ↦ taking-as _ _ _ _ (taking-next _ _ _ _ _ _ _ _ _ h lt _ _ w.take_line-c.ensures) w.x-is w.first-is w.second-is w.within-is
+    | else-marks-i-ne0 w ↦
     taking-as _ _ _ _
-    (taking-skip _ _ _ _ _ _ _ _ _ h lt (unmarked _ _ _ _ _ _ _ p.readable _ p.marks_value _ (here _ _ _ _ _ _ _ _ _ h lt) w.0.left _ _))
-    w.1 w.2 w.3 w.4)
-    c.if-marks-i-ne0.branch
+    (taking-skip _ _ _ _ _ _ _ _ _ h lt (unmarked _ _ _ _ _ _ _ p.readable _ p.marks_value _ (here _ _ _ _ _ _ _ _ _ h lt) w.if-marks-i-ne0.false _ _))
+    w.x-is w.first-is w.second-is w.within-is
+    ]
 
 pub shape_of-x : goal.shape_of-x
 shape_of-x c = c.loop-i.invariant.long

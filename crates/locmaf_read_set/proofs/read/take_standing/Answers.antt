@@ -1,7 +1,6 @@
 -- `locmaf_read_set::read::take_standing` meets its contract: what it hands on is what `finish_fields` asks for.
 use Prim.Native.Nat.{◌+◌}
 use native.Mathlib.Omega.{arith}
-use mathlib.Core.Logic.{⊎_elim}
 use mathlib.Core.Path.{◌≡◌, refl, ◌∙◌}
 use lib.ListN.{length}
 use lib.Seq.{slice}
@@ -15,6 +14,7 @@ use Rattle.locmaf_read_set.proofs.StandingLaws.{unmarked}
 use Rattle.locmaf_read_set.proofs.TakingLaws.{taken-one}
 use Rattle.locmaf_read_set.proofs.RungLaws.{measured, start-long, fits-at}
 use Rattle.locmaf_read_set.proofs.read.take_standing.Goals as goal
+use Rattle.locmaf_read_set.proofs.read.take_standing.Goals.{then-marks-eq0, else-marks-eq0}
 
 pub standing-requires : goal.standing-requires
 standing-requires c =
@@ -36,12 +36,12 @@ eleven c =
     let p = c.requires in
     let long = start-long _ _ p.n_le_samples_most.2 in
     let fit = fits-at _ _ _ _ _ p.n_le_samples_most.1 p.readable.words p.readable.lawful p.readable.iv p.n_le_samples_most.0 0 (omega arith) in
-    ⊎_elim
-    (λ w.
+    elim c.if-marks-eq0.branch
+    [ then-marks-eq0 w ↦
     taken-one _ _ (omega arith) _ long fit
-    (taken-always (unmarked _ _ _ _ _ _ _ p.readable _ c.standing.ensures subsamples_line (omega arith) w.0.taken _ _)) w.2 (w.3 ∙ w.1.ensures))
-    (λ w. taken-one _ _ (omega arith) _ long fit w.2.ensures w.5 w.6)
-    c.if-marks-eq0.branch
+    (taken-always (unmarked _ _ _ _ _ _ _ p.readable _ c.standing.ensures subsamples_line (omega arith) w.if-marks-eq0.true _ _)) w.x-is (w.b-is ∙ w.well-b.ensures)
+    | else-marks-eq0 w ↦ taken-one _ _ (omega arith) _ long fit w.take_line-b.ensures w.x-is w.b-is
+    ]
 
 -- id 11, where it stands and where it doesn't
 eleven-2 : (c : goal.Joined-marks-eq0)
@@ -53,12 +53,12 @@ eleven-2 c =
     let p = c.requires in
     let long = start-long _ _ p.n_le_samples_most.2 in
     let fit = fits-at _ _ _ _ _ p.n_le_samples_most.1 p.readable.words p.readable.lawful p.readable.iv p.n_le_samples_most.0 0 (omega arith) in
-    ⊎_elim
-    (λ w.
+    elim c.if-marks-eq0.branch
+    [ then-marks-eq0 w ↦
     taken-one _ _ (omega arith) _ long fit
-    (taken-always (unmarked _ _ _ _ _ _ _ p.readable _ c.standing.ensures subsamples_line (omega arith) w.0.taken _ _)) w.2 (w.3 ∙ w.1.ensures))
-    (λ w. taken-one _ _ (omega arith) _ long fit w.2.ensures w.5 w.6)
-    c.if-marks-eq0.branch
+    (taken-always (unmarked _ _ _ _ _ _ _ p.readable _ c.standing.ensures subsamples_line (omega arith) w.if-marks-eq0.true _ _)) w.x-is (w.b-is ∙ w.well-b.ensures)
+    | else-marks-eq0 w ↦ taken-one _ _ (omega arith) _ long fit w.take_line-b.ensures w.x-is w.b-is
+    ]
 
 -- id 11, where it stands and where it doesn't
 eleven-3 : (c : goal.After-take_lines-arg-1)
@@ -70,12 +70,12 @@ eleven-3 c =
     let p = c.requires in
     let long = start-long _ _ p.n_le_samples_most.2 in
     let fit = fits-at _ _ _ _ _ p.n_le_samples_most.1 p.readable.words p.readable.lawful p.readable.iv p.n_le_samples_most.0 0 (omega arith) in
-    ⊎_elim
-    (λ w.
+    elim c.if-marks-eq0.branch
+    [ then-marks-eq0 w ↦
     taken-one _ _ (omega arith) _ long fit
-    (taken-always (unmarked _ _ _ _ _ _ _ p.readable _ c.standing.ensures subsamples_line (omega arith) w.0.taken _ _)) w.2 (w.3 ∙ w.1.ensures))
-    (λ w. taken-one _ _ (omega arith) _ long fit w.2.ensures w.5 w.6)
-    c.if-marks-eq0.branch
+    (taken-always (unmarked _ _ _ _ _ _ _ p.readable _ c.standing.ensures subsamples_line (omega arith) w.if-marks-eq0.true _ _)) w.x-is (w.b-is ∙ w.well-b.ensures)
+    | else-marks-eq0 w ↦ taken-one _ _ (omega arith) _ long fit w.take_line-b.ensures w.x-is w.b-is
+    ]
 
 -- the words are as many behind it
 behind : (c : goal.Joined-marks-eq0) → length c.if-marks-eq0.x ≡ set_len

@@ -1,6 +1,3 @@
--- TURN: c: a place by itself
--- TURN: c: a place by itself
--- TURN: c: a place by itself
 -- `receiver::judge::split` meets its contract: what the index answers, and which ids stand.
 use mathlib.Core.Bool.{not}
 use lib.Dec.{eqb}
@@ -20,7 +17,7 @@ returns-then-k-ne0 c =
     let i = c.index-i in
     let x = index i.result i.new.out i.new.events in
     let n = noted c.requires.judgeable c.requires.index_value.0 c.requires.index_value.1 {x = x} i.ensures in
-    let long = events-long c.requires.judgeable c.requires.index_value.0 c.requires.index_value.1 x.events (same-length-2 c) in
+    let long = events-long c.requires.judgeable c.requires.index_value.0 c.requires.index_value.1 x.events c.index-i.auto.events in
     split-is {x = x} n long c.index_number-k.result
     (number-given i.result
     (ids_ok c.args.p.delta (not (eqb (get_or c.args.s.now prft_at 0) 0)) (stands_in x.words)) _ c.index_number-k.ensures c.if-k-ne0.true)
@@ -36,7 +33,7 @@ returns-then-ids_ok c =
     let i = c.index-i in
     let x = index i.result i.new.out i.new.events in
     let n = noted c.requires.judgeable c.requires.index_value.0 c.requires.index_value.1 {x = x} i.ensures in
-    let long = events-long c.requires.judgeable c.requires.index_value.0 c.requires.index_value.1 x.events (same-length-4 c) in
+    let long = events-long c.requires.judgeable c.requires.index_value.0 c.requires.index_value.1 x.events c.index-i.auto.events in
     split-is {x = x} n long _
     (number-right i.result _ _ _ c.index_number-k.ensures c.if-k-ne0.false c.ids_ok.ensures c.if-ids_ok.true)
 
@@ -45,6 +42,6 @@ returns c =
     let i = c.index-i in
     let x = index i.result i.new.out i.new.events in
     let n = noted c.requires.judgeable c.requires.index_value.0 c.requires.index_value.1 {x = x} i.ensures in
-    let long = events-long c.requires.judgeable c.requires.index_value.0 c.requires.index_value.1 x.events (same-length-6 c) in
+    let long = events-long c.requires.judgeable c.requires.index_value.0 c.requires.index_value.1 x.events c.index-i.auto.events in
     split-is {x = x} n long _
     (number-wrong i.result _ _ _ c.index_number-k.ensures c.if-k-ne0.false c.ids_ok.ensures c.if-ids_ok.false)

@@ -1,4 +1,4 @@
-use Rattle.std.proofs.Common.{◌-◌, sym, arith, length-take-le, rules}
+use Rattle.std.proofs.Common.{sym, arith, length-take-le, rules}
 use Rattle.wire_vectors.proofs.lists.long_lists.Goals as goal
 
 pub loop-i-preserved : goal.loop-i-preserved
