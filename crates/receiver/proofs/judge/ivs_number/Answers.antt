@@ -41,7 +41,11 @@ pub returns-then-delta-index : goal.returns-then-delta-index
 returns-then-delta-index c = none-derived _ _ _ _ _ (not_left c.args.t _ _ _ _ c.if-delta-index.true)
 
 pub derive-requires : goal.derive-requires
-derive-requires c = record { behind = (rw (part_to_end c.args.s.now set_at) (c.requires.behind (left c), both-stand c.args.t _ _ _ _ (left c))).0; r_value = (rw (part_to_end c.args.s.now set_at) (c.requires.behind (left c), both-stand c.args.t _ _ _ _ (left c))).1 }
+derive-requires c =
+    record {
+      behind = rw (part_to_end c.args.s.now set_at) (c.requires.behind (left c));
+      r_value = rw (part_to_end c.args.s.now set_at) (both-stand c.args.t _ _ _ _ (left c));
+    }
 
 pub shape_of-x-then-derive : goal.shape_of-x-then-derive
 shape_of-x-then-derive c = (c.derive.ensures 0).long

@@ -14,7 +14,7 @@ pub returns-then-n-ne0 : goal.returns-then-n-ne0
 returns-then-n-ne0 c = refuses-read c.read_block-n.ensures _ _ _ c.refused.ensures c.if-n-ne0.true
 
 pub judge_values-requires : goal.judge_values-requires
-judge_values-requires c = record { set_read = (rows c.args.form, c.read_block-n.ensures.read c.if-n-ne0.false); words_len = c.words-1.given ∙ zeros-long events_len set_len c.requires.words_value }
+judge_values-requires c = record { set_read = (rows c.args.form, c.read_block-n.ensures.read c.if-n-ne0.false); words_len = c.read_block-n.auto.words ∙ zeros-long events_len set_len c.requires.words_value }
 
 pub returns : goal.returns
 returns c =

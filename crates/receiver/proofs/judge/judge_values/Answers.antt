@@ -1,18 +1,7 @@
--- TURN: a declaration that isn't read: module _ (c : tie.Joined1) where
--- TURN: a declaration that isn't read:   -- the events stay
--- TURN: a declaration that isn't read:   -- the number is that of the values and sums, where it isn't 0
--- TURN: a declaration that isn't read:   -- and that of the IVs, where it is
--- TURN: a declaration that isn't read:   -- there are as many words
--- TURN: c.before.before: a place by itself
--- TURN: j: a place by itself
--- TURN: j: a place by itself
--- TURN: j: a place by itself
--- TURN: tie in: module _ (c : tie.Joined1) where
 -- `receiver::judge::judge_values` meets its contract: what it was told decides the number, and what it leaves is ready.
 use Prim.Native.Nat.{ℕ, ◌+◌, ◌-◌}
 use native.Mathlib.Omega.{arith}
 use mathlib.Core.Path.{◌≡◌, sym, ◌∙◌, ap}
-use mathlib.Core.Logic.{⊎_elim}
 use mathlib.Core.List.{List}
 use borrow.Author.Rules.{part_to_end}
 use lib.ListN.{length, take, drop, length-drop}
@@ -30,6 +19,7 @@ use Rattle.receiver.proofs.JudgeLaws.{Worked, Gathered, plain_ok, lent-expected,
 use Rattle.receiver.proofs.TestedLaws.{ivs-same}
 use Rattle.receiver.proofs.ValueNumber.{ivs-lent, values-judged}
 use Rattle.receiver.proofs.judge.judge_values.Goals as goal
+use Rattle.receiver.proofs.judge.judge_values.Goals.{then-n-eq0, else-n-eq0}
 
 -- by a form F that the words were read by
 abbrev Read : goal.After-values_number-arg-1 → List Row → Type 0
@@ -170,11 +160,11 @@ back-2 c = c.values_number-n.new.words
 
 -- they are as many as before
 back_long : (c : goal.Then-n-eq0) → length (back c) ≡ events_len + set_len
-back_long c = c.words-1.given ∙ c.requires.words_len
+back_long c = c.values_number-n.auto.words ∙ c.requires.words_len
 
 -- they are as many as before
 back_long-2 : (c : goal.After-ivs_number-arg-1) → length (back-2 c) ≡ events_len + set_len
-back_long-2 c = c.words-1.given ∙ c.requires.words_len
+back_long-2 c = c.values_number-n.auto.words ∙ c.requires.words_len
 
 -- what `ivs_number` is lent of them
 lent : (c : goal.After-ivs_number-arg-1) → take (length (back-2 c) - events_len) (drop events_len (back-2 c)) ≡ drop events_len (back-2 c)
@@ -189,47 +179,51 @@ slice_bounds-ivs_number-start c = front-in events_len set_len (back c) (back_lon
 pub ivs_number-number-requires : goal.ivs_number-number-requires
 ivs_number-number-requires c =
     let v = c.requires.set_read in
-    let l : length (drop events_len (back-2 c)) ≡ set_len = omega (arith, length-drop events_len (back-2 c), back_long-2 c) in record { s_len = (rw (lent c) (
-      (v.1.head.share, v.1.split.telling.words, l),
-      λ _.
-          ivs-lent c.values_of-v.result (worked-2 c v.0 v.1) (gathered-2 c v.0 v.1) (within-2 c v.0 v.1) c.values_number-n.ensures c.if-n-eq0.true,
-    )).0; behind = (rw (lent c) (
-      (v.1.head.share, v.1.split.telling.words, l),
-      λ _.
-          ivs-lent c.values_of-v.result (worked-2 c v.0 v.1) (gathered-2 c v.0 v.1) (within-2 c v.0 v.1) c.values_number-n.ensures c.if-n-eq0.true,
-    )).1 }
+    let l : length (drop events_len (back-2 c)) ≡ set_len = omega (arith, length-drop events_len (back-2 c), back_long-2 c) in
+    record {
+      s_len = rw (lent c) (v.1.head.share, v.1.split.telling.words, l);
+      behind =
+          rw (lent c)
+          (λ _. ivs-lent c.values_of-v.result (worked-2 c v.0 v.1) (gathered-2 c v.0 v.1) (within-2 c v.0 v.1) c.values_number-n.ensures c.if-n-eq0.true);
+    }
 
-module _ (c : tie.Joined1) where
-  abbrev words : tie.After-words
-  words = c.before.before
+-- ---- the IVs were asked, or not
 
-  -- the events stay
-  events-stay : take events_len c.if1.words ≡ take events_len (back words)
-  events-stay =
-      ⊎_elim (λ w. ap (take events_len) w.5 ∙ front-stays events_len set_len (back words) (back_long words) w.2.last.1.1.1.1.0)
-      (λ w. ap (take events_len) w.1) c.if1.branch
+-- all words as `values_number` leaves them
+abbrev back-3 : goal.After-brands-1 → List ℕ
+back-3 c = c.values_number-n.new.words
 
-  -- the number is that of the values and sums, where it isn't 0
-  not-asked : (words.before.values-number.result ≡ 0 → ⊥) → c.if1.number ≡ words.before.values-number.result
-  not-asked d = ⊎_elim (λ w. absurd (d w.0.taken)) (λ w. w.2) c.if1.branch
+-- they are as many as before
+back_long-3 : (c : goal.After-brands-1) → length (back-3 c) ≡ events_len + set_len
+back_long-3 c = c.values_number-n.auto.words ∙ c.requires.words_len
 
-  -- and that of the IVs, where it is
-  asked : words.before.values-number.result ≡ 0 → (bytes : ℕ)
-      → let a = words.before.before.before.before.before.before.before.before.before.before.args in
-      IvsAs a.t a.p.delta a.s.now a.index.now (drop events_len (back words)) bytes c.if1.number (drop events_len c.if1.words)
-  asked z bytes =
-      ⊎_elim
-      (λ w.
-      ivs-same (lent words) w.6 (ap (drop events_len) w.5 ∙ rest-new events_len set_len (back words) (back_long words) w.2.last.1.1.1.1.0)
-      (w.2.ensures bytes))
-      (λ w. absurd (w.0.left z)) c.if1.branch
+-- the events stay
+events-stay : (c : goal.After-brands-1) → take events_len c.if-n-eq0.words ≡ take events_len (back-3 c)
+events-stay c =
+    elim c.if-n-eq0.branch
+    [ then-n-eq0 w ↦ ap (take events_len) w.words-is ∙ front-stays events_len set_len (back-3 c) (back_long-3 c) w.ivs_number-number.new.x
+    | else-n-eq0 w ↦ ap (take events_len) w.words-is
+    ]
 
-  -- there are as many words
-  all_stay : length c.if1.words ≡ length (back words)
-  all_stay = ⊎_elim (λ w. ap length w.5 ∙ w.3.given.1) (λ w. ap length w.1) c.if1.branch
+-- the number is that of the values and sums, where it isn't 0
+not-asked : (c : goal.After-brands-1) → (c.values_number-n.result ≡ 0 → ⊥) → c.if-n-eq0.number ≡ c.values_number-n.result
+not-asked c d = elim c.if-n-eq0.branch [ then-n-eq0 w ↦ absurd (d w.if-n-eq0.true) | else-n-eq0 w ↦ w.number-is ]
+
+-- and that of the IVs, where it is
+asked : (c : goal.After-brands-1) → c.values_number-n.result ≡ 0 → (bytes : ℕ)
+    → let a = c.args in
+    IvsAs a.t a.p.delta a.s.now a.index.now (drop events_len (back-3 c)) bytes c.if-n-eq0.number (drop events_len c.if-n-eq0.words)
+asked c z bytes =
+    elim c.if-n-eq0.branch
+    [ then-n-eq0 w ↦
+    ivs-same (part_to_end (back-3 c) events_len) w.number-is
+    (ap (drop events_len) w.words-is ∙ rest-new events_len set_len (back-3 c) (back_long-3 c) w.ivs_number-number.new.x)
+    (w.ivs_number-number.ensures bytes)
+    | else-n-eq0 w ↦ absurd (w.if-n-eq0.false z)
+    ]
 
 pub shape_of-words : goal.shape_of-words
-shape_of-words c = all_stay c ∙ c.words-1.given
+shape_of-words c = c.if-n-eq0.auto.words ∙ c.values_number-n.auto.words
 
 pub returns : goal.returns
 returns c =
