@@ -21,14 +21,17 @@ put_saiz_head-a-requires c = omega (arith, c.requires.w_in_bounds, saiz-length-o
 pub put_sizes-requires : goal.put_sizes-requires
 unfolding be words
 put_sizes-requires c =
-    let w = c.put_saiz_head-a.ensures in record { protectable = c.requires.protectable; w_in_bounds = omega (
+    let w = c.put_saiz_head-a.ensures in record {
+      protectable = c.requires.protectable;
+      w_in_bounds = omega (
         arith,
         c.requires.w_in_bounds,
         wrote-length w,
         w.place,
         sizes-length c.args.t c.args.w.now (count_in c.args.w.now) 0,
         saiz-length-other c.args.t c.args.w.now c.info_size-size.ensures.0 c.all_sized.ensures c.if-all_sized.false,
-      ) }
+      );
+    }
 
 pub returns : goal.returns
 returns c =

@@ -1,4 +1,3 @@
-use Prim.Native.Nat.{◌-◌}
 use native.Mathlib.Nat.{sub-zero}
 use native.Mathlib.Omega.{arith}
 use Rattle.constants.specs.Maxima.{subsamples_most}
@@ -22,11 +21,14 @@ pub put_iv-a-requires : goal.put_iv-a-requires
 put_iv-a-requires c =
     let l = c.loop-i in
     let v = c.iv_words-ivs in
-    record { w_len = (c.requires.protectable.long, iv-inside c.loop-i-test.true c.requires.protectable.few v.ensures.1); i_in_bounds = omega (
+    record {
+      w_len = (c.requires.protectable.long, iv-inside c.loop-i-test.true c.requires.protectable.few v.ensures.1);
+      i_in_bounds = omega (
         arith,
         left-room (l.invariant.1 c.args.t v.ensures.0 c.requires.w_in_bounds),
         entries-room c.args.t c.args.w.now (count_in c.args.w.now) l.i l.j c.loop-i-test.true v.ensures.0 c.pairs_of-k.ensures,
-      ) }
+      );
+    }
 
 pub put_map-p-requires : goal.put_map-p-requires
 put_map-p-requires c =
@@ -34,13 +36,16 @@ put_map-p-requires c =
     let v = c.iv_words-ivs in
     let n = count_in c.args.w.now in
     let w = c.put_iv-a.ensures in
-    let on = pairs-on c.args.w.now n l.i c.requires.protectable.long c.requires.protectable.few c.loop-i-test.true l.j subsamples_most c.pairs_of-k.ensures l.invariant.0 in record { w_len = (c.requires.protectable.long, omega (arith, on)); i_in_bounds = omega (
+    let on = pairs-on c.args.w.now n l.i c.requires.protectable.long c.requires.protectable.few c.loop-i-test.true l.j subsamples_most c.pairs_of-k.ensures l.invariant.0 in record {
+      w_len = (c.requires.protectable.long, omega (arith, on));
+      i_in_bounds = omega (
         arith,
         left-room (l.invariant.1 c.args.t v.ensures.0 c.requires.w_in_bounds),
         wrote-length w,
         w.place,
         entries-room c.args.t c.args.w.now n l.i l.j c.loop-i-test.true v.ensures.0 c.pairs_of-k.ensures,
-      ) }
+      );
+    }
 
 pub overflow_add-j : goal.overflow_add-j
 overflow_add-j c =
@@ -52,8 +57,7 @@ overflow_add-j c =
 
 pub loop-i-preserved : goal.loop-i-preserved
 loop-i-preserved c =
-    let l = c.loop-i in
-    (
+    let l = c.loop-i in (
       pairs-on c.args.w.now _ l.i c.requires.protectable.long c.requires.protectable.few c.loop-i-test.true l.j subsamples_most c.pairs_of-k.ensures l.invariant.0,
       λ u e room.
           left_less (l.invariant.1 u e room) _

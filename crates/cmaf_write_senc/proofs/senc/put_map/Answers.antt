@@ -21,8 +21,11 @@ pub put_subsamples-requires : goal.put_subsamples-requires
 unfolding be line_for lines
 put_subsamples-requires c =
     let a = c.args in
-    let w = c.put_u16-a.ensures in record { w_len = c.requires.w_len; i_in_bounds = omega
-          (arith, c.requires.i_in_bounds, map-room a.w.now a.k a.i (has-yes 11 a.w.now c.if-w-eq0.false), subsamples-length a.w.now a.k a.i, wrote-length w, w.place) }
+    let w = c.put_u16-a.ensures in record {
+      w_len = c.requires.w_len;
+      i_in_bounds = omega
+          (arith, c.requires.i_in_bounds, map-room a.w.now a.k a.i (has-yes 11 a.w.now c.if-w-eq0.false), subsamples-length a.w.now a.k a.i, wrote-length w, w.place);
+    }
 
 pub returns : goal.returns
 unfolding line_for lines

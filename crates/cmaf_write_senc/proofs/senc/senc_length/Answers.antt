@@ -29,8 +29,7 @@ pub overflow_add-result-2 : goal.overflow_add-result-2
 overflow_add-result-2 c = omega (arith, small-2 c)
 
 pub returns : goal.returns
-returns c =
-    (
-      rw (c.iv_words.ensures.0, c.with_pairs.ensures.0, c.pairs.ensures) (sym (senc-length c.args.t c.args.w.now c.requires.long c.requires.few)),
-      omega (arith, small-2 c),
-    )
+returns c = (
+  rw (c.iv_words.ensures.0, c.with_pairs.ensures.0, c.pairs.ensures) (sym (senc-length c.args.t c.args.w.now c.requires.long c.requires.few)),
+  omega (arith, small-2 c),
+)

@@ -23,11 +23,14 @@ bounds-x-1 c = omega (arith, zeros-long c.requires.r_len.3)
 pub take_fields-requires : goal.take_fields-requires
 take_fields-requires c =
     let p = c.requires in
-    let en = c.in-To.is in record { readable = readable _ _ _ _ _ _ _ c.base_of-a.ensures _ c.count_of-g.ensures p.r_len.0 p.r_len.1 p.r_len.2 _ en p.telling _ _ c.mark.ensures (ap not c.if-not-mark.false); n_le_samples_most = (
+    let en = c.in-To.is in record {
+      readable = readable _ _ _ _ _ _ _ c.base_of-a.ensures _ c.count_of-g.ensures p.r_len.0 p.r_len.1 p.r_len.2 _ en p.telling _ _ c.mark.ensures (ap not c.if-not-mark.false);
+      n_le_samples_most = (
         found-few _ _ _ _ c.base_of-a.ensures p.r_len.1 p.r_len.2 _ _ c.count_of-g.ensures _ en,
         found-count _ _ _ _ _ _ _ c.base_of-a.ensures _ c.count_of-g.ensures p.r_len.0 p.r_len.1 p.r_len.2 _ en,
         words-start-at _ _ p.r_len.3,
-      ) }
+      );
+    }
 
 pub shape_of-x : goal.shape_of-x
 shape_of-x c = c.take_fields.ensures.long ∙ sym (zeros-long c.requires.r_len.3)

@@ -1,4 +1,3 @@
-use Prim.Native.Nat.{◌-◌}
 use Rattle.locmaf_read_set.proofs.StandingLaws.{marking-start, marking-end, marking-set, marking-keep}
 use Rattle.locmaf_read_set.proofs.read.standing.Goals as goal
 use Rattle.locmaf_read_set.proofs.read.standing.Goals.{then-stays, else-stays}
@@ -14,9 +13,9 @@ loop-i-preserved c =
     let h = c.loop-i.invariant in
     let lt = c.loop-i-test.true in
     let eb = c.stays.ensures in
-    elim c.if-stays.branch
-    [ then-stays w ↦ marking-set _ _ _ _ _ _ h lt _ eb w.if-stays.true _ w.m-is
-    | else-stays w ↦ marking-keep _ _ _ _ _ _ h lt _ eb w.if-stays.false _ w.m-is
+    elim c.if-stays.branch [
+      | then-stays w ↦ marking-set _ _ _ _ _ _ h lt _ eb w.if-stays.true _ w.m-is
+      | else-stays w ↦ marking-keep _ _ _ _ _ _ h lt _ eb w.if-stays.false _ w.m-is
     ]
 
 pub returns : goal.returns

@@ -1,4 +1,3 @@
-use Prim.Native.Nat.{◌-◌}
 use native.Mathlib.Omega.{arith}
 use Rattle.locmaf_read_set.proofs.ClearLaws.{all-fit}
 use Rattle.locmaf_read_set.proofs.StandingLaws.{marks-count, unmarked}
@@ -26,12 +25,12 @@ loop-i-preserved c =
     let p = c.requires in
     let h = c.loop-i.invariant in
     let lt = c.loop-i-test.true in
-    elim c.if-marks-i-ne0.branch
-    [ then-marks-i-ne0 w ↦ taking-as _ _ _ _ (taking-next _ _ _ _ _ _ _ _ _ h lt _ _ w.take_line-c.ensures) w.x-is w.first-is w.second-is w.within-is
-    | else-marks-i-ne0 w ↦
-    taking-as _ _ _ _
-    (taking-skip _ _ _ _ _ _ _ _ _ h lt (unmarked _ _ _ _ _ _ _ p.readable _ p.marks_value _ (here _ _ _ _ _ _ _ _ _ h lt) w.if-marks-i-ne0.false _ _))
-    w.x-is w.first-is w.second-is w.within-is
+    elim c.if-marks-i-ne0.branch [
+      | then-marks-i-ne0 w ↦ taking-as _ _ _ _ (taking-next _ _ _ _ _ _ _ _ _ h lt _ _ w.take_line-c.ensures) w.x-is w.first-is w.second-is w.within-is
+      | else-marks-i-ne0 w ↦
+          taking-as _ _ _ _
+          (taking-skip _ _ _ _ _ _ _ _ _ h lt (unmarked _ _ _ _ _ _ _ p.readable _ p.marks_value _ (here _ _ _ _ _ _ _ _ _ h lt) w.if-marks-i-ne0.false _ _))
+          w.x-is w.first-is w.second-is w.within-is
     ]
 
 pub shape_of-x : goal.shape_of-x

@@ -36,11 +36,11 @@ eleven c =
     let p = c.requires in
     let long = start-long _ _ p.n_le_samples_most.2 in
     let fit = fits-at _ _ _ _ _ p.n_le_samples_most.1 p.readable.words p.readable.lawful p.readable.iv p.n_le_samples_most.0 0 (omega arith) in
-    elim c.if-marks-eq0.branch
-    [ then-marks-eq0 w ↦
-    taken-one _ _ (omega arith) _ long fit
-    (taken-always (unmarked _ _ _ _ _ _ _ p.readable _ c.standing.ensures subsamples_line (omega arith) w.if-marks-eq0.true _ _)) w.x-is (w.b-is ∙ w.well-b.ensures)
-    | else-marks-eq0 w ↦ taken-one _ _ (omega arith) _ long fit w.take_line-b.ensures w.x-is w.b-is
+    elim c.if-marks-eq0.branch [
+      | then-marks-eq0 w ↦
+          taken-one _ _ (omega arith) _ long fit
+          (taken-always (unmarked _ _ _ _ _ _ _ p.readable _ c.standing.ensures subsamples_line (omega arith) w.if-marks-eq0.true _ _)) w.x-is (w.b-is ∙ w.well-b.ensures)
+      | else-marks-eq0 w ↦ taken-one _ _ (omega arith) _ long fit w.take_line-b.ensures w.x-is w.b-is
     ]
 
 -- id 11, where it stands and where it doesn't
@@ -53,11 +53,11 @@ eleven-2 c =
     let p = c.requires in
     let long = start-long _ _ p.n_le_samples_most.2 in
     let fit = fits-at _ _ _ _ _ p.n_le_samples_most.1 p.readable.words p.readable.lawful p.readable.iv p.n_le_samples_most.0 0 (omega arith) in
-    elim c.if-marks-eq0.branch
-    [ then-marks-eq0 w ↦
-    taken-one _ _ (omega arith) _ long fit
-    (taken-always (unmarked _ _ _ _ _ _ _ p.readable _ c.standing.ensures subsamples_line (omega arith) w.if-marks-eq0.true _ _)) w.x-is (w.b-is ∙ w.well-b.ensures)
-    | else-marks-eq0 w ↦ taken-one _ _ (omega arith) _ long fit w.take_line-b.ensures w.x-is w.b-is
+    elim c.if-marks-eq0.branch [
+      | then-marks-eq0 w ↦
+          taken-one _ _ (omega arith) _ long fit
+          (taken-always (unmarked _ _ _ _ _ _ _ p.readable _ c.standing.ensures subsamples_line (omega arith) w.if-marks-eq0.true _ _)) w.x-is (w.b-is ∙ w.well-b.ensures)
+      | else-marks-eq0 w ↦ taken-one _ _ (omega arith) _ long fit w.take_line-b.ensures w.x-is w.b-is
     ]
 
 -- id 11, where it stands and where it doesn't
@@ -70,11 +70,11 @@ eleven-3 c =
     let p = c.requires in
     let long = start-long _ _ p.n_le_samples_most.2 in
     let fit = fits-at _ _ _ _ _ p.n_le_samples_most.1 p.readable.words p.readable.lawful p.readable.iv p.n_le_samples_most.0 0 (omega arith) in
-    elim c.if-marks-eq0.branch
-    [ then-marks-eq0 w ↦
-    taken-one _ _ (omega arith) _ long fit
-    (taken-always (unmarked _ _ _ _ _ _ _ p.readable _ c.standing.ensures subsamples_line (omega arith) w.if-marks-eq0.true _ _)) w.x-is (w.b-is ∙ w.well-b.ensures)
-    | else-marks-eq0 w ↦ taken-one _ _ (omega arith) _ long fit w.take_line-b.ensures w.x-is w.b-is
+    elim c.if-marks-eq0.branch [
+      | then-marks-eq0 w ↦
+          taken-one _ _ (omega arith) _ long fit
+          (taken-always (unmarked _ _ _ _ _ _ _ p.readable _ c.standing.ensures subsamples_line (omega arith) w.if-marks-eq0.true _ _)) w.x-is (w.b-is ∙ w.well-b.ensures)
+      | else-marks-eq0 w ↦ taken-one _ _ (omega arith) _ long fit w.take_line-b.ensures w.x-is w.b-is
     ]
 
 -- the words are as many behind it
@@ -100,17 +100,21 @@ take_lines-e-requires c =
 
 pub finish_fields-requires : goal.finish_fields-requires
 finish_fields-requires c =
-    let p = c.requires in record { readable = p.readable; marks_value = c.standing.ensures; front_taken = record {
-          start = _;
-          eleven = _;
-          few = p.n_le_samples_most.0;
-          lengths = refl;
-          reached = p.n_le_samples_most.1;
-          empty = p.n_le_samples_most.2;
-          pairs = eleven c;
-          tally = c.tally_of-c.ensures;
-          others = c.take_lines-e.ensures;
-        } }
+    let p = c.requires in record {
+      readable = p.readable;
+      marks_value = c.standing.ensures;
+      front_taken = record {
+        start = _;
+        eleven = _;
+        few = p.n_le_samples_most.0;
+        lengths = refl;
+        reached = p.n_le_samples_most.1;
+        empty = p.n_le_samples_most.2;
+        pairs = eleven c;
+        tally = c.tally_of-c.ensures;
+        others = c.take_lines-e.ensures;
+      };
+    }
 
 pub shape_of-x : goal.shape_of-x
 shape_of-x c = omega (arith, c.finish_fields.ensures.long, start-long _ _ c.requires.n_le_samples_most.2)

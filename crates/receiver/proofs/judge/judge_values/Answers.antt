@@ -142,13 +142,16 @@ values_number-n-requires c =
     let v = c.requires.set_read in
     let w = worked c v.0 v.1 in
     let x = gathered c v.0 v.1 in
-    let e = within c v.0 v.1 in record { testable = record {
+    let e = within c v.0 v.1 in record {
+      testable = record {
         long = w.split.long;
         room = some_words w x;
         fit = λ h. events-lent w (sym e ∙ h);
         summable = λ h. stored-summable w x (sym e ∙ h);
         small = λ h. payload-most w (sym e ∙ h);
-      }; words_len = c.requires.words_len }
+      };
+      words_len = c.requires.words_len;
+    }
 
 -- all words as `values_number` leaves them
 abbrev back : goal.Then-n-eq0 → List ℕ
@@ -200,9 +203,9 @@ back_long-3 c = c.values_number-n.auto.words ∙ c.requires.words_len
 -- the events stay
 events-stay : (c : goal.After-brands-1) → take events_len c.if-n-eq0.words ≡ take events_len (back-3 c)
 events-stay c =
-    elim c.if-n-eq0.branch
-    [ then-n-eq0 w ↦ ap (take events_len) w.words-is ∙ front-stays events_len set_len (back-3 c) (back_long-3 c) w.ivs_number-number.new.x
-    | else-n-eq0 w ↦ ap (take events_len) w.words-is
+    elim c.if-n-eq0.branch [
+      | then-n-eq0 w ↦ ap (take events_len) w.words-is ∙ front-stays events_len set_len (back-3 c) (back_long-3 c) w.ivs_number-number.new.x
+      | else-n-eq0 w ↦ ap (take events_len) w.words-is
     ]
 
 -- the number is that of the values and sums, where it isn't 0
@@ -214,12 +217,12 @@ asked : (c : goal.After-brands-1) → c.values_number-n.result ≡ 0 → (bytes 
     → let a = c.args in
     IvsAs a.t a.p.delta a.s.now a.index.now (drop events_len (back-3 c)) bytes c.if-n-eq0.number (drop events_len c.if-n-eq0.words)
 asked c z bytes =
-    elim c.if-n-eq0.branch
-    [ then-n-eq0 w ↦
-    ivs-same (part_to_end (back-3 c) events_len) w.number-is
-    (ap (drop events_len) w.words-is ∙ rest-new events_len set_len (back-3 c) (back_long-3 c) w.ivs_number-number.new.x)
-    (w.ivs_number-number.ensures bytes)
-    | else-n-eq0 w ↦ absurd (w.if-n-eq0.false z)
+    elim c.if-n-eq0.branch [
+      | then-n-eq0 w ↦
+          ivs-same (part_to_end (back-3 c) events_len) w.number-is
+          (ap (drop events_len) w.words-is ∙ rest-new events_len set_len (back-3 c) (back_long-3 c) w.ivs_number-number.new.x)
+          (w.ivs_number-number.ensures bytes)
+      | else-n-eq0 w ↦ absurd (w.if-n-eq0.false z)
     ]
 
 pub shape_of-words : goal.shape_of-words

@@ -38,10 +38,14 @@ renew-requires c =
     let h = v.acceptable.head in
     let r = v.acceptable.ready in
     let l = r.writable.set.long in
-    let g = set-good _ _ _ _ _ h _ _ _ r in record { s_len = (renewable c.args.s.now h.share _ _ _ c.args.x.now _ _ c.keep.ensures l (lawful-timed _ _ l g) (lawful-summable _ _ l g)
-    (writable _ _ _ _ _ h _ _ _ r v.named).sized (opened-facts Receiver _ h.lawful h.opened).track _ h.track g).0; summable = (renewable c.args.s.now h.share _ _ _ c.args.x.now _ _ c.keep.ensures l (lawful-timed _ _ l g) (lawful-summable _ _ l g)
-    (writable _ _ _ _ _ h _ _ _ r v.named).sized (opened-facts Receiver _ h.lawful h.opened).track _ h.track g).1.0; s_value = (renewable c.args.s.now h.share _ _ _ c.args.x.now _ _ c.keep.ensures l (lawful-timed _ _ l g) (lawful-summable _ _ l g)
-    (writable _ _ _ _ _ h _ _ _ r v.named).sized (opened-facts Receiver _ h.lawful h.opened).track _ h.track g).1.1 }
+    let g = set-good _ _ _ _ _ h _ _ _ r in record {
+      s_len = (renewable c.args.s.now h.share _ _ _ c.args.x.now _ _ c.keep.ensures l (lawful-timed _ _ l g) (lawful-summable _ _ l g)
+          (writable _ _ _ _ _ h _ _ _ r v.named).sized (opened-facts Receiver _ h.lawful h.opened).track _ h.track g).0;
+      summable = (renewable c.args.s.now h.share _ _ _ c.args.x.now _ _ c.keep.ensures l (lawful-timed _ _ l g) (lawful-summable _ _ l g)
+          (writable _ _ _ _ _ h _ _ _ r v.named).sized (opened-facts Receiver _ h.lawful h.opened).track _ h.track g).1.0;
+      s_value = (renewable c.args.s.now h.share _ _ _ c.args.x.now _ _ c.keep.ensures l (lawful-timed _ _ l g) (lawful-summable _ _ l g)
+          (writable _ _ _ _ _ h _ _ _ r v.named).sized (opened-facts Receiver _ h.lawful h.opened).track _ h.track g).1.1;
+    }
 
 pub returns : goal.returns
 returns c =
