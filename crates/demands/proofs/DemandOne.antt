@@ -54,6 +54,7 @@ spared (n ∷ ns) = not (dropped_by n) and spared ns
 
 none-drops : (k : ℕ) (ns : List ℕ) → spared ns ≡ true → Memᴰ k ns → Drops k → ⊥
 unfolding spared
+none-drops k [] e m d = elim m [ ]
 none-drops k (n ∷ ns) e (Memᴰ.head q) d =
     false≢true (sym (not-true _ (left _ _ e)) ∙ ap dropped_by (sym q) ∙ d)
 none-drops k (n ∷ ns) e (Memᴰ.tail m) d = none-drops k ns (right _ _ e) m d

@@ -13,7 +13,7 @@ use lib.Seq.{slice, length-slice}
 use Rattle.constants.specs.Ids.{id_count}
 use Rattle.wire.specs.declared.form.Row.{Row}
 use Rattle.locmaf_read_index.specs.Places.{index_len, stands_at, number_at}
-use Rattle.locmaf_read_index.specs.Index.{index, index_at}
+use Rattle.locmaf_read_index.specs.Index.{index_at}
 use Rattle.locmaf_read_block.specs.Entries.{Entry, entries_at, body, readable, lawful, says}
 use Rattle.locmaf_read_index.specs.Held.{HeldAs, Tells}
 use Rattle.laws.specs.Options.{is_some}

@@ -17,7 +17,6 @@ use Rattle.track.specs.Track.{u32}
 use Rattle.field_set.specs.Lawful.{lawful as lawful_set}
 use Rattle.slots.specs.declared.lawful.Side.TheVariants.{Receiver}
 use Rattle.share_words.specs.Share.{accepted_at}
-use Rattle.slots.specs.Share.{lawful}
 use Rattle.slots.specs.Table.{out}
 use Rattle.event_value.specs.Events.{events_of}
 use Rattle.cmaf_write_front.specs.Front.{front}

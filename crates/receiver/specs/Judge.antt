@@ -11,7 +11,7 @@ use Rattle.field_table.specs.Lines.{bmdt_at}
 use Rattle.field_set.specs.Lawful.{has, lawful as lawful_set}
 use Rattle.told_sizes.specs.Sums.{Summable}
 use Rattle.effective.specs.Sums.{sizes_ok, protected_ok}
-use Rattle.counters.specs.Follow.{derived_fit, with_derived, Behind}
+use Rattle.counters.specs.Follow.{derived_fit, with_derived}
 use Rattle.slots.specs.declared.lawful.Side.TheVariants.{Receiver}
 use Rattle.share_words.specs.Share.{share_len, last_at, set_at}
 use Rattle.slots.specs.Share.{is_open, lawful}

@@ -1,4 +1,3 @@
-use Prim.Native.Nat.{◌-◌}
 use Rattle.locmaf_read_field.proofs.PackLoop.{pack-none, pack-more, pack-all}
 use Rattle.locmaf_read_field.proofs.cells.pack.Goals as goal
 

@@ -1,4 +1,4 @@
-use Prim.Native.Nat.{◌+◌, ◌-◌}
+use Prim.Native.Nat.{◌+◌}
 use native.Mathlib.Omega.{arith}
 use Rattle.locmaf_read_field.proofs.PackLoop.{read_none, read-room, read_more, read_all}
 use Rattle.locmaf_read_field.proofs.cells.word_at.Goals as goal

@@ -1,11 +1,8 @@
-use Prim.Native.Nat.{◌-◌}
 use native.Mathlib.Omega.{arith}
-use mathlib.Core.Path.{sym, ◌∙◌, ap}
-use borrow.Author.Tests.{not-true, not-false}
+use mathlib.Core.Path.{sym, ◌∙◌}
 use Rattle.wire.specs.Form.{rows}
 use Rattle.locmaf_read_block.proofs.ReadLaws.{Found, found}
 use Rattle.locmaf_read_said.proofs.DeletionLaws.{start, done, cut-never, refused, next}
-use mathlib.Core.Bool.{not}
 use Rattle.locmaf_read_said.proofs.deletions.strike_all.Goals as goal
 
 pub loop-p-init : goal.loop-p-init

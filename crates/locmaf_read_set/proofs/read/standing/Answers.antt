@@ -1,4 +1,3 @@
-use Prim.Native.Nat.{◌-◌}
 use Rattle.locmaf_read_set.proofs.StandingLaws.{marking-start, marking-end, marking-set, marking-keep}
 use Rattle.locmaf_read_set.proofs.read.standing.Goals as goal
 use Rattle.locmaf_read_set.proofs.read.standing.Goals.{then-stays, else-stays}

@@ -1,4 +1,3 @@
-use Prim.Native.Nat.{◌-◌}
 use native.Mathlib.Omega.{arith}
 use Rattle.locmaf_read_set.proofs.ClearLaws.{all-fit}
 use Rattle.locmaf_read_set.proofs.StandingLaws.{marks-count, unmarked}

@@ -1,9 +1,10 @@
 -- `receiver::judge::read_block` meets its contract: the block, and its set where the block is split.
 use Prim.Native.Nat.{ℕ, ◌+◌}
+use native.Mathlib.Omega.{arith}
 use mathlib.Core.Path.{◌≡◌, sym, ◌∙◌}
 use mathlib.Core.List.{List, ◌++◌}
 use borrow.Author.Rules.{part_to_end}
-use lib.ListN.{length, take, drop}
+use lib.ListN.{length, take, drop, length-append, length-drop}
 use Rattle.field_table.specs.Lines.{set_len}
 use Rattle.event_value.specs.Events.{events_len}
 use Rattle.laws.proofs.HalvesLaws.{zeros-long, zeros-front, zeros-rest, front-in, front_long, front-new, rest-stays, front-stays, rest-new}
@@ -47,16 +48,20 @@ abbrev words-3 : goal.After-slice_known-5-1 → List ℕ
 words-3 c = events-2 c ++ drop events_len c.args.words.now
 
 words_long : (c : goal.After-r-1) → length (words c) ≡ events_len + set_len
-words_long c = c.words-1.given.1 ∙ long-5 c
+words_long c =
+    let w = c.args.words.now in
+    omega (arith, length-append (events-3 c) (drop events_len w), length-drop events_len w, front_long events_len set_len w (long-5 c), c.split-k.auto.events, long-5 c)
 
 words_long-2 : (c : goal.After-slice_known-5-1) → length (words-3 c) ≡ events_len + set_len
-words_long-2 c = c.words-1.given.1 ∙ long-4 c
+words_long-2 c =
+    let w = c.args.words.now in
+    omega (arith, length-append (events-2 c) (drop events_len w), length-drop events_len w, front_long events_len set_len w (long-4 c), c.split-k.auto.events, long-4 c)
 
 front : (c : goal.After-slice_known-5-1) → take events_len (words-3 c) ≡ events-2 c
-front c = front-new events_len set_len c.args.words.now (long-4 c) (events-2 c) c.words-1.given.0
+front c = front-new events_len set_len c.args.words.now (long-4 c) (events-2 c) c.split-k.auto.events
 
 rest : (c : goal.After-read_set-arg-1) → drop events_len (words-2 c) ≡ drop events_len c.args.words.now
-rest c = rest-stays events_len set_len c.args.words.now (long-3 c) (events c) c.words-1.given.0
+rest c = rest-stays events_len set_len c.args.words.now (long-3 c) (events c) c.split-k.auto.events
 
 pub slice_bounds-split-end : goal.slice_bounds-split-end
 slice_bounds-split-end c = front-in events_len set_len c.args.words.now (long c)
