@@ -3,8 +3,8 @@
     python3 faults/draw.py [--seed N] [--count N] [--crates A,B,..]
 
 A fault is an operator turned, a constant changed by one, or a test negated, anywhere in src/ but in contracts. Faults are drawn by a seeded generator, more of
-them from longer crates. Each is made in a copy of the repository, and its crate is checked there over what `rt check` has proved (so run that first). A line
-says where the fault is, what was put for what, and 'refused' or 'taken'; the last line counts them. A constant has no contract of its own, so a fault that its own
+them from longer crates. Each is made in a copy of the crates, and its crate is checked there over what `rt check` has kept of it (so run `rt all check` first).
+A line says where the fault is, what was put for what, and 'refused' or 'taken'; the last line counts them. A constant has no contract of its own, so a fault that its own
 crate takes is shown to the crates that name it, and the first that refuses it is told. One that is taken is either code that does the same, or a contract that says too
 little: look at each. A fault that is no program (a type that doesn't fit) is passed over and another drawn.
 
@@ -27,28 +27,44 @@ TURNED = {
 OPERATOR = re.compile(r" (" + "|".join(re.escape(o) for o in sorted(TURNED, key=len, reverse=True)) + r") ")
 NUMBER = re.compile(r"(?<![\w.])(0x[0-9a-fA-F_]+|[0-9][0-9_]*)(?![\w.])")
 TEST = re.compile(r"^(\s*(?:\} else )?(?:if|while) )(?!let )(.*)( \{)$")
-GHOST = re.compile(r"[⌜⌝λ≡]|^\s*(ghost |use |mod |pub mod |//|requires|ensures|#\[)")
+GHOST = re.compile(r"^\s*(use |pub use |mod |pub mod |//|#!?\[)")
+CLAUSE = re.compile(r"^\s*(pub )?(ghost|requires|ensures)\b")
+OUTSIDE = re.compile(r"\bprint(ln)?!|\bstd::(io|fs|env)\b")
 
 
 def listed():
     """The crates of crates.txt with what each depends on, in its order."""
     lines = [line.split("#")[0] for line in (ROOT / "crates.txt").read_text().splitlines()]
-    return [(line.split(":")[0].strip(), line.split(":")[1].split()) for line in lines if ":" in line]
+    return [(line.split(":")[0].split()[0], line.split(":")[1].split()) for line in lines if ":" in line]
 
 
 def libraries():
     """The library crates that have code, but for those that read or print: no contract can say what comes in or goes out."""
-    return [n for n, deps in listed() if "io" not in deps and (ROOT / "crates" / n / "src" / "lib.rt").exists() and places(n)]
+    return [n for n, _ in listed() if (ROOT / "crates" / n / "src" / "lib.rt").exists() and not OUTSIDE.search(source(n)) and places(n)]
+
+
+def source(crate):
+    """All the code of a crate."""
+    return "\n".join(file.read_text() for file in sorted((ROOT / "crates" / crate / "src").glob("*.rt")))
+
+
+def code_lines(text):
+    """The lines that are code, with their numbers: without comments, and without clauses, which end where their braces close."""
+    depth = 0
+    for number, line in enumerate(text.splitlines()):
+        code = line.split("//")[0]
+        in_clause = depth > 0 or CLAUSE.match(line)
+        if in_clause:
+            depth += code.count("{") - code.count("}")
+        elif not GHOST.match(line):
+            yield number, line, code
 
 
 def places(crate):
     """Every place for a fault in a crate: file, line number, and the line as it would be."""
     found = []
     for file in sorted((ROOT / "crates" / crate / "src").glob("*.rt")):
-        for number, line in enumerate(file.read_text().splitlines()):
-            if GHOST.search(line):
-                continue
-            code = line.split("//")[0]
+        for number, line, code in code_lines(file.read_text()):
             for m in OPERATOR.finditer(code):
                 found.append((file.name, number, line[: m.start(1)] + TURNED[m.group(1)] + line[m.end(1) :]))
             for m in NUMBER.finditer(code):
@@ -68,13 +84,13 @@ def refused_above(copy, crate):
     """The first crate above a crate of the copy that refuses it as it is there, if one does."""
     with tempfile.TemporaryDirectory() as folder:
         other = pathlib.Path(folder) / "copy"
-        shutil.copytree(copy, other, symlinks=True)
+        shutil.copytree(copy, other, ignore=shutil.ignore_patterns("out"))
         return next((n for n in above(crate) if check(other, n) != "taken"), None)
 
 
 def check(copy, crate):
     """What the prover says of a crate of the copy: 'taken', 'refused', or None if it isn't a program."""
-    done = subprocess.run(["rt", "dev", crate], cwd=copy, capture_output=True, text=True)
+    done = subprocess.run(["rt", "check"], cwd=copy / "crates" / crate, capture_output=True, text=True)
     if done.returncode == 0:
         return "taken"
     return "refused" if "logic=not-proved" in done.stdout + done.stderr else None
@@ -92,7 +108,8 @@ def main():
     counts = {"refused": 0, "taken": 0}
     with tempfile.TemporaryDirectory() as folder:
         copy = pathlib.Path(folder) / "copy"
-        shutil.copytree(ROOT, copy, symlinks=True, ignore=shutil.ignore_patterns(".git", "inc", "must-fail", "bin", "obj"))
+        shutil.copytree(ROOT / "crates", copy / "crates", ignore=shutil.ignore_patterns("out", "must-fail", "data"))
+        shutil.copy(ROOT / "crates.txt", copy)
         whole = set()
         for crate, name, number, line in everywhere:
             if sum(counts.values()) == asked.count:

@@ -3,13 +3,12 @@
 # TOOLS says with what. `cc` is a compiler of this machine ($CC, or cc on x86-64 and x86_64-linux-gnu-gcc elsewhere). `kit` is the clang, the linker
 # and the C library that Rattle's kit has, for which host/kit/ has the headers: nothing else is needed. Unset, it is `cc` where such a compiler makes
 # a program, else `kit`.
-kit=$(dirname "$(dirname "$(rt doc)")")
-machine=$(uname -m)
+kit=$(dirname "$(rt doc)")/toolchain
 warnings="-O2 -std=gnu11 -Wall -Wextra"
-if [ "$machine" = x86_64 ]; then
+if [ "$(uname -m)" = x86_64 ]; then
     compiler=${CC:-cc}
 else
-    # a program that needs no loader runs under any emulator
+    # The kit's own programs are for x86-64, so where rt runs such programs run; this one then needs no loader.
     compiler="${CC:-x86_64-linux-gnu-gcc} -static"
 fi
 
@@ -32,7 +31,7 @@ compile() {
 
 # The kit's clang knows no headers and its linker no C library, so each is named here.
 compile_by_kit() {
-    local out=$1 bin=$kit/on/$machine/toolchain/bin lib=$kit/toolchain/lib word includes=() files=() links=()
+    local out=$1 bin=$kit/bin lib=$kit/lib word includes=() files=() links=()
     shift
     for word in "$@"; do
         case $word in
@@ -55,10 +54,7 @@ compile_by_kit() {
 execute() {
     local command=("$1")
     if [ "$TOOLS" = kit ]; then
-        command=("$kit/toolchain/lib/ld-linux-x86-64.so.2" --library-path "$kit/toolchain/lib" "$1")
-    fi
-    if [ "$machine" != x86_64 ]; then
-        command=("$kit/on/$machine/toolchain/bin/qemu-x86_64" "${command[@]}")
+        command=("$kit/lib/ld-linux-x86-64.so.2" --library-path "$kit/lib" "$1")
     fi
     "${command[@]}"
 }
