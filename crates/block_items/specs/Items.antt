@@ -1,5 +1,5 @@
 -- What a property block is to hold, an id and its number or an id, a length and the bytes; and its bytes.
-use Rattle.std.specs.Prelude.{ℕ, ◌+◌, List, [], ◌∷◌, ◌++◌, length}
+use Rattle.std.specs.Prelude.{ℕ, List, [], ◌∷◌, ◌++◌, length}
 use Rattle.wire.specs.declared.form.Row.{Row}
 use Rattle.wire.specs.Varint.{encode}
 

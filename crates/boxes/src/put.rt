@@ -44,10 +44,8 @@ pub fn put_words(out: &mut [u8], at: usize, ws: &[u64]) -> usize
     ensures { Wrote out.old at (words ws.now) out.new result }
 {
     let mut p = at;
-    let mut i = 0;
-    while i < ws.len() {
+    for i in 0..ws.len() {
         p = put_u32(out, p, ws[i]);
-        i += 1;
     }
     p
 }
@@ -57,12 +55,7 @@ pub fn put_bytes(out: &mut [u8], at: usize, src: &[u8]) -> usize
     requires { at + length src.now ≤ length out.old }
     ensures { Wrote out.old at src.now out.new result }
 {
-    let mut p = at;
-    let mut i = 0;
-    while i < src.len() {
-        out[p] = src[i];
-        p += 1;
-        i += 1;
-    }
-    p
+    let end = at + src.len();
+    out[at..end].copy_from_slice(src);
+    end
 }

@@ -25,9 +25,9 @@ use Rattle.cmaf_read_prelude.specs.Emsg.{emsgs_ok}
 use Rattle.cmaf_read_moof.specs.Headers.{mfhd_ok, tfdt_ok}
 use Rattle.cmaf_read_moof.specs.Defaults.{tfhd_ok}
 use Rattle.cmaf_read_trun.specs.Rows.{trun_ok}
-use Rattle.cmaf_read_senc.specs.declared.entries.Filled.{Filled}
-use Rattle.cmaf_read_senc.specs.declared.entries.Filled.TheVariants.{With, Wrong}
-use Rattle.cmaf_read_senc.specs.Entries.{is_with, senc_ok, with_of, subsamples}
+use Rattle.std.specs.Prelude.{Option, Some, None, is_some}
+use Rattle.std.specs.Option.{unwrap_or}
+use Rattle.cmaf_read_senc.specs.Entries.{senc_ok, subsamples}
 use Rattle.cmaf_read_senc.specs.Sizes.{saiz_ok, saio_ok}
 use Rattle.cmaf_read_boxes.specs.Right.{outer_right, samples_right, boxes_ok, PairsAs}
 
@@ -162,14 +162,14 @@ module _ (t : Track) (c : List ℕ) {top : Top} {f : Inner} (et : top ≡ top_of
   order-breaks q n = boxes-are ∙ ap (λ (x : Bool). x && (others && senc_ok t c f.senc)) (failed q n)
 
   -- one is wrong beside the `senc`
-  pub pairs-wrong : {x : Bool} → x ≡ others → not x ≡ true → PairsAs t c Wrong
+  pub pairs-wrong : {x : Bool} → x ≡ others → not x ≡ true → PairsAs t c None
   pairs-wrong q n =
       let z : boxes_ok t c ≡ false = boxes-are ∙ rw (failed q n) (and-false order) in
       record { right = sym z; counted = λ k. absurd (false≢true (sym z ∙ k)) }
 
   -- none is
-  pub pairs-read : {x : Bool} {r : Filled} → order ≡ true → x ≡ others → not x ≡ false
-      → (is_with r ≡ senc_ok t c f.senc) × (with_of r ≡ subsamples t c f.senc) → PairsAs t c r
+  pub pairs-read : {x : Bool} {r : Option ℕ} → order ≡ true → x ≡ others → not x ≡ false
+      → (is_some r ≡ senc_ok t c f.senc) × (unwrap_or r 0 ≡ subsamples t c f.senc) → PairsAs t c r
   pairs-read h q n e = record { right = e.0 ∙ sym (boxes-are ∙ rw (h, held q n)); counted = λ k. e.1 ∙ rw (ef, et) }
 
   -- boxes that stand where they must make a whole tree
@@ -177,11 +177,11 @@ module _ (t : Track) (c : List ℕ) {top : Top} {f : Inner} (et : top ≡ top_of
   order-whole q n = shaped-whole c (rw (ef, et) at (held q n))
 
   -- all were answered to be right, with so many subsamples
-  pub with-right : {r : Filled} {n : ℕ} → PairsAs t c r → r ≡ With n → (boxes_ok t c ≡ true) × (n ≡ subsamples t c f.senc)
-  with-right p e =
-      let b : boxes_ok t c ≡ true = sym p.right ∙ ap is_with e in
-      (b, sym (ap with_of e) ∙ p.counted b ∙ sym (rw (ef, et)))
+  pub with-right : {n : ℕ} → PairsAs t c (Some n) → (boxes_ok t c ≡ true) × (n ≡ subsamples t c f.senc)
+  with-right p =
+      let b : boxes_ok t c ≡ true = sym p.right in
+      (b, p.counted b ∙ sym (rw (ef, et)))
 
 -- one was answered to be wrong
-pub wrong-breaks : {t : Track} {c : List ℕ} {r : Filled} → PairsAs t c r → r ≡ Wrong → boxes_ok t c ≡ false
-wrong-breaks p e = sym p.right ∙ ap is_with e
+pub wrong-breaks : {t : Track} {c : List ℕ} → PairsAs t c None → boxes_ok t c ≡ false
+wrong-breaks p = sym p.right

@@ -12,8 +12,9 @@ use Rattle.cmaf_read_prelude.specs.Emsg.{emsgs_ok}
 use Rattle.cmaf_read_moof.specs.Headers.{mfhd_ok, tfdt_ok}
 use Rattle.cmaf_read_moof.specs.Defaults.{tfhd_ok}
 use Rattle.cmaf_read_trun.specs.Rows.{trun_ok}
-use Rattle.cmaf_read_senc.specs.declared.entries.Filled.{Filled}
-use Rattle.cmaf_read_senc.specs.Entries.{is_with, senc_ok, with_of, subsamples}
+use Rattle.std.specs.Prelude.{Option, is_some}
+use Rattle.std.specs.Option.{unwrap_or}
+use Rattle.cmaf_read_senc.specs.Entries.{senc_ok, subsamples}
 use Rattle.cmaf_read_senc.specs.Sizes.{saiz_ok, saio_ok}
 
 -- ==== The rules
@@ -41,6 +42,6 @@ boxes_ok t c = boxes_right t c (top_of c) (inner_of c (top_of c).moof)
 -- ==== What only mirrors the code
 
 -- the boxes were looked at: whether they are right, and then how many subsamples the `senc` has
-pub record PairsAs (t : Track) (c : List ℕ) (r : Filled) : Type 0 where
-  pub right : is_with r ≡ boxes_ok t c
-  pub counted : boxes_ok t c ≡ true → with_of r ≡ subsamples t c (inner_of c (top_of c).moof).senc
+pub record PairsAs (t : Track) (c : List ℕ) (r : Option ℕ) : Type 0 where
+  pub right : is_some r ≡ boxes_ok t c
+  pub counted : boxes_ok t c ≡ true → unwrap_or r 0 ≡ subsamples t c (inner_of c (top_of c).moof).senc

@@ -9,7 +9,6 @@ ghost use Rattle.cmaf_read_tree.specs.Whole.{whole};
 ghost use Rattle.cmaf_read_senc.specs.Sizes.{saiz_ok, saio_ok};
 ghost use Rattle.cmaf_read_boxes.specs.Right.{outer_right, samples_right, PairsAs};
 
-use cmaf_read_senc::entries::Filled;
 use cmaf_read_shape::inner::Inner;
 use cmaf_read_shape::top::Top;
 use cmaf_read_tree::whole;
@@ -74,14 +73,14 @@ pub fn unordered(c: &[u8]) -> u64
 
 // How many subsamples the chunk has, if versions, flags and lengths of its boxes are right, which stand where they must. The entries of the `senc` are
 // walked last, and once.
-pub fn pairs_in(t: Track, c: &[u8], top: Top, f: Inner) -> Filled
+pub fn pairs_in(t: Track, c: &[u8], top: Top, f: Inner) -> Option<u64>
     requires top_value { (top ≡ top_of c.now) × (f ≡ inner_of c.now top.moof) }
     requires f_value { (top_ok c.now top && inner_ok top.moof f) ≡ true }
     ensures { PairsAs t c.now result }
 {
     let senc = f.senc;
     if !(outer_ok(c, top) & (samples_ok(c, f) & sizes_ok(c, f))) {
-        return Filled::Wrong;
+        return None;
     }
     cmaf_read_senc::entries::senc_read(t, c, senc)
 }

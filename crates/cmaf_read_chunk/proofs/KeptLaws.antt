@@ -1,8 +1,8 @@
 -- The events of a chunk as `count` keeps them: what is known of their words, and of the bytes of their records. Assumes nothing.
 use Prim.Native.Nat.{ℕ, ◌*◌, ◌≤◌}
 use native.Mathlib.Omega.{arith}
-use mathlib.Core.Path.{◌≡◌, ◌∙◌, ap, subst}
-use mathlib.Core.Bool.{true}
+use mathlib.Core.Path.{◌≡◌, sym, ◌∙◌, ap, subst}
+use mathlib.Core.Bool.{Bool, true}
 use mathlib.Core.List.{List}
 use lib.ListN.{length}
 use Rattle.constants.specs.Maxima.{event_bytes_most}
@@ -34,6 +34,11 @@ pub record Counting (t : Track) (c : List ℕ) (x : Top) (f : Inner) (ws₀ : Li
   pub boxes-right : boxes_ok t c ≡ true
   pub counts-right : counts_ok t c ≡ true
   pub lent : length ws₀ ≡ events_len
+
+-- of the boxes that the code has found, whose counts were asked
+pub counting : {t : Track} {c : List ℕ} {x : Top} {f : Inner} {ws₀ : List ℕ} {ok : Bool} → (x ≡ top_of c) × (f ≡ inner_of c x.moof)
+    → (boxes_ok t c ≡ true) × (length ws₀ ≡ events_len) → ok ≡ counts_ok t c → ok ≡ true → Counting t c x f ws₀
+counting p q e n = record { top-is = p.0; inner-is = p.1; boxes-right = q.0; counts-right = sym e ∙ n; lent = q.1 }
 
 module _ {t : Track} {c : List ℕ} {x : Top} {f : Inner} {ws₀ : List ℕ} (k : Counting t c x f ws₀) where
   events-few : x.events ≤ 16

@@ -3,7 +3,7 @@ use Prim.Native.Nat.{ℕ}
 use mathlib.Core.Path.{◌≡◌, refl, sym, ◌∙◌, ap}
 use mathlib.Core.Bool.{Bool, false, and-false}
 use mathlib.Core.List.{List, [], ◌∷◌}
-use mathlib.Core.Option.{none}
+use Rattle.std.specs.Prelude.{None}
 use borrow.Author.Tests.{eq-eqb}
 use Rattle.track.specs.declared.Track.{Track}
 use Rattle.track.proofs.TrackLaws.{iv-size-le}
@@ -23,11 +23,11 @@ unfolding iv_size_differs iv_size
 never t c = rw (eq-eqb _ _ (entries-iv t c (inner c).senc), and-false) refl
 
 -- the definition of the set, which says nothing of id 16
-silent : (t : Track) (c : List ℕ) → held_for t c (inner c) 16 ≡ none
+silent : (t : Track) (c : List ℕ) → held_for t c (inner c) 16 ≡ None
 unfolding lines line_for
 silent t c = no-sixteen t c (inner c)
 
-absent-case : (values : List ℕ) → none ≡ held_if false values
+absent-case : (values : List ℕ) → None ≡ held_if false values
 unfolding held_if
 absent-case values = refl
 

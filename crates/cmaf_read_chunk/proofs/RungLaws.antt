@@ -1,15 +1,15 @@
 -- The numbers of a chunk, by the tests of the code in their order. Assumes nothing.
 use Prim.Native.Nat.{ℕ, ◌*◌, ◌≤◌, ◌<◌}
 use native.Mathlib.Omega.{arith}
-use mathlib.Core.Path.{◌≡◌, sym, ◌∙◌, ap}
+use mathlib.Core.Path.{◌≡◌, refl, sym, ◌∙◌, ap}
 use mathlib.Core.Bool.{Bool, true, false, not}
-use mathlib.Core.List.{List, [], ◌∷◌}
+use mathlib.Core.List.{List}
 use borrow.Author.Tests.{le-leb, lt-leb, not-false}
 use lib.ListN.{length}
 use Rattle.laws.specs.Gate.{gate}
-use Rattle.laws.specs.Ladder.{◌else◌, ladder}
+use Rattle.laws.specs.Ladder.{ladder}
 use Rattle.laws.specs.Tests.{◌and◌}
-use Rattle.laws.proofs.LadderLaws.{number_of, all_hold, broken, passed, stopped-on, top as done}
+use Rattle.laws.proofs.LadderLaws.{number_of, broken, passed, top as done}
 use Rattle.laws.proofs.GateLaws.{failed, held}
 use Rattle.laws.proofs.TestLaws.{left, both}
 use Rattle.constants.specs.Maxima.{event_bytes_most}
@@ -24,7 +24,8 @@ use Rattle.event_value.specs.Events.{event_words}
 use Rattle.locmaf_write_events.specs.Records.{list_bytes}
 use Rattle.cmaf_read_rules.specs.Rules.{rules_ok}
 use Rattle.cmaf_read_chunk.specs.declared.read.Chunk.{Chunk}
-use Rattle.cmaf_read_chunk.specs.declared.read.Counted.{Counted}
+use Rattle.std.specs.Prelude.{Some, None}
+use Rattle.std.proofs.lemmas.Option.{none-some, same_Some}
 use Rattle.cmaf_read_chunk.specs.Accepted.{top, inner, boxes, events, fields, counts_ok, maxima_ok, late_rungs, accept_rungs}
 use Rattle.cmaf_read_boxes.specs.Right.{boxes_ok}
 use Rattle.cmaf_read_chunk.specs.Chunks.{refused_with, taken_as, Listed, CountedAs, SettledAs, ReadAs}
@@ -34,31 +35,31 @@ module _ (F : List Row) (t : Track) (c : List ℕ) where
   -- ---- the maxima
 
   -- one is passed
-  maxima-break : {ws : List ℕ} → maxima_ok F t c ≡ false → CountedAs F t c (record { number = 8; list = 0 }) ws
-  maxima-break e = record { answered = broken _ 8 _ (λ n. n) 0 e; listed = λ z. absurd (omega (arith, z)) }
+  maxima-break : {ws : List ℕ} → maxima_ok F t c ≡ false → CountedAs F t c None ws
+  maxima-break e = record { answered = sym e; listed = λ n z. absurd (none-some _ z) }
 
   -- by a count
-  pub counts-break : {ws : List ℕ} → counts_ok t c ≡ false → CountedAs F t c (record { number = 8; list = 0 }) ws
+  pub counts-break : {ws : List ℕ} → counts_ok t c ≡ false → CountedAs F t c None ws
   unfolding maxima_ok ◌and◌
   counts-break e = maxima-break (rw e)
 
   module _ (k : counts_ok t c ≡ true) {list : ℕ} (l : list ≡ list_bytes F (events t c)) where
     -- or by the bytes of the list
-    pub list-breaks : {ws : List ℕ} → event_bytes_most < list → CountedAs F t c (record { number = 8; list = 0 }) ws
+    pub list-breaks : {ws : List ℕ} → event_bytes_most < list → CountedAs F t c None ws
     unfolding maxima_ok ◌and◌
     list-breaks h = maxima-break (rw k (lt-leb (list_bytes F (events t c)) event_bytes_most (omega (arith, l))))
 
     -- none is
-    pub maxima-keep : {ws : List ℕ} → list ≤ event_bytes_most → Listed F t c list ws → CountedAs F t c (record { number = 0; list = list }) ws
+    pub maxima-keep : {ws : List ℕ} → list ≤ event_bytes_most → Listed F t c list ws → CountedAs F t c (Some list) ws
     unfolding maxima_ok
     maxima-keep h s =
         let m : maxima_ok F t c ≡ true = both _ _ k (le-leb (list_bytes F (events t c)) event_bytes_most (omega (arith, l))) in
-        record { answered = passed _ 8 _ (λ n. n) 0 m (done (λ n. n) 0); listed = λ z. s }
+        record { answered = sym m; listed = λ n z. rw (sym (same_Some _ _ z)) s }
 
-  -- the number 0 says that none is
-  module _ {k : Counted} {ws : List ℕ} (h : CountedAs F t c k ws) (z : k.number ≡ 0) where
+  -- none was passed
+  module _ {list : ℕ} {ws : List ℕ} (h : CountedAs F t c (Some list) ws) where
     maxima-kept : maxima_ok F t c ≡ true
-    maxima-kept = (all_hold ((maxima_ok F t c else 8) ∷ []) ((λ z. omega arith), tt) (sym h.answered ∙ z)).0
+    maxima-kept = sym h.answered
 
     pub counts-kept : counts_ok t c ≡ true
     unfolding maxima_ok
@@ -66,7 +67,7 @@ module _ (F : List Row) (t : Track) (c : List ℕ) where
 
     -- and the words of the events are there
     pub events-there : {y : Top} → y ≡ top_of c → event_words * y.events ≤ length ws
-    events-there et = rw et (words-there ws (top c).events (h.listed z).words)
+    events-there et = rw et (words-there ws (top c).events (h.listed list refl).words)
 
   -- ---- all of them
 
@@ -84,46 +85,44 @@ module _ (F : List Row) (t : Track) (c : List ℕ) where
       some true z = omega (arith, z)
       some false z = omega (arith, z)
 
-  module _ (w : whole c ≡ true) (b : boxes_ok t c ≡ true) {k : Counted} {ws : List ℕ} (h : CountedAs F t c k ws) where
+  module _ (w : whole c ≡ true) (b : boxes_ok t c ≡ true) where
     -- past the tree and the boxes
     late : {n : ℕ} → n ≡ number_of (late_rungs F t c) → n ≡ number_of (accept_rungs F t c)
     unfolding accept_rungs
     late e = passed _ 5 _ (λ n. n) 0 w (passed _ 6 _ (λ n. n) 0 b e)
 
     -- a maximum is passed
-    pub counted-break : {r : Chunk} {vs x : List ℕ} → r ≡ refused_with k.number → (k.number ≡ 0 → ⊥) → ReadAs F t c r vs x
+    pub counted-break : {r : Chunk} {ws vs x : List ℕ} → CountedAs F t c None ws → r ≡ refused_with 8 → ReadAs F t c r vs x
     unfolding late_rungs
-    counted-break e n =
-        read_none k.number e n
-        (late (h.answered ∙ stopped-on ((maxima_ok F t c else 8) ∷ []) _ (λ n. n) 0 (λ z. n (h.answered ∙ z))))
+    counted-break h e = read_none 8 e (λ z. omega arith) (late (broken _ 8 _ (λ n. n) 0 (sym h.answered)))
 
     -- none is
-    module _ (z : k.number ≡ 0) {y : Top} {f : Inner} (et : y ≡ top_of c) (ef : f ≡ inner_of c y.moof) {ok : Bool} {x : List ℕ}
-        (s : SettledAs t c y f ws ok x) where
+    module _ {list : ℕ} {ws : List ℕ} (h : CountedAs F t c (Some list) ws) {y : Top} {f : Inner} (et : y ≡ top_of c) (ef : f ≡ inner_of c y.moof)
+        {ok : Bool} {x : List ℕ} (s : SettledAs t c y f ws ok x) where
       -- the rules that were asked are the chunk's
       rules-are : ok ≡ rules_ok t c (top c) (inner c) (boxes c)
-      rules-are = s.asked ∙ rw (ef, et, (h.listed z).boxes-are)
+      rules-are = s.asked ∙ rw (ef, et, (h.listed list refl).boxes-are)
 
       -- a rule is broken
       pub rules-break : {r : Chunk} {vs xs : List ℕ} → r ≡ refused_with 7 → not ok ≡ true → ReadAs F t c r vs xs
       unfolding late_rungs
       rules-break e n =
           read_none 7 e (λ z. omega arith)
-          (late (passed _ 8 _ (λ n. n) 0 (maxima-kept h z) (broken _ 7 _ (λ n. n) 0 (failed rules-are n))))
+          (late (passed _ 8 _ (λ n. n) 0 (maxima-kept h) (broken _ 7 _ (λ n. n) 0 (failed rules-are n))))
 
       -- none is
-      pub rules-keep : {r : Chunk} → r ≡ taken_as c k.list → not ok ≡ false → ReadAs F t c r ws x
+      pub rules-keep : {r : Chunk} → r ≡ taken_as c list → not ok ≡ false → ReadAs F t c r ws x
       unfolding late_rungs fields
       rules-keep {r} e n =
-          let l : r.list ≡ k.list = ap (λ (y : Chunk). y.list) e in
+          let l : r.list ≡ list = ap (λ (y : Chunk). y.list) e in
           let m : 0 ≡ number_of (accept_rungs F t c) =
-          late (passed _ 8 _ (λ n. n) 0 (maxima-kept h z) (passed _ 7 _ (λ n. n) 0 (held rules-are n) (done (λ n. n) 0))) in
+          late (passed _ 8 _ (λ n. n) 0 (maxima-kept h) (passed _ 7 _ (λ n. n) 0 (held rules-are n) (done (λ n. n) 0))) in
           record {
             answered = ap (λ (y : Chunk). y.number) e ∙ m;
             taken = λ q.
                 record {
                   chunk-is = e ∙ ap (taken_as c) (sym l);
                   set_is = s.filled (not-false _ n) ∙ rw (ef, et);
-                  listed = rw l (h.listed z);
+                  listed = rw l (h.listed list refl);
                 };
           }

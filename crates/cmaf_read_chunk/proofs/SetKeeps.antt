@@ -4,7 +4,7 @@ use native.Mathlib.Omega.{arith}
 use mathlib.Core.Path.{◌≡◌, refl, sym, ◌∙◌, ap, subst}
 use mathlib.Core.Bool.{Bool, true, false, false≢true, not, ◌&&◌}
 use mathlib.Core.List.{List, [], map}
-use mathlib.Core.Option.{none, some}
+use Rattle.std.specs.Prelude.{Some, None}
 use borrow.Author.Tests.{not-true}
 use lib.Dec.{eqb}
 use lib.ListN.{length, get_or, take, length-map, length-take}
@@ -44,12 +44,12 @@ record Filled (m : Measure) (l : Line) (vs : List ℕ) : Type 0 where
   pub bound : all_le l.bound vs ≡ true
 
 abbrev Fills : Measure → Line → Held → Type 0
-Fills m l none = Unit {0}
-Fills m l (some vs) = Filled m l vs
+Fills m l None = Unit {0}
+Fills m l (Some vs) = Filled m l vs
 
 fills-keeps : (m : Measure) (l : Line) (h : Held) → Fills m l h → wanted l.want m ≤ l.room → Keeps m l h
-fills-keeps m l none k r = tt
-fills-keeps m l (some vs) k r = record { long = k.long; room = r; bound = k.bound }
+fills-keeps m l None k r = tt
+fills-keeps m l (Some vs) k r = record { long = k.long; room = r; bound = k.bound }
 
 held-fills : (m : Measure) (l : Line) (b : Bool) (vs : List ℕ) → (b ≡ true → Filled m l vs) → Fills m l (held_if b vs)
 unfolding held_if
@@ -67,7 +67,7 @@ unfolding held_if
 held-no b vs h = rw h
 
 -- what is known of them is known of the field
-held-some : (P : List ℕ → Type 0) (b : Bool) (vs : List ℕ) → (b ≡ true → P vs) → (ws : List ℕ) → held_if b vs ≡ some ws → P ws
+held-some : (P : List ℕ → Type 0) (b : Bool) (vs : List ℕ) → (b ≡ true → P vs) → (ws : List ℕ) → held_if b vs ≡ Some ws → P ws
 unfolding held_if
 held-some P true vs h ws e = subst P (ap numbers e) (h refl)
 held-some P false vs h ws e = absurd (false≢true (ap is_some e))
@@ -120,7 +120,7 @@ module _ (t : Track) (c : List ℕ) (f : Inner) where
   eleven-is = refl
 
   module _ (g : Counted t c f) where
-    pub eleven-long : (vs : List ℕ) → field_of t c f (get_or lines subsamples_line spare) ≡ some vs → length vs ≡ r.count
+    pub eleven-long : (vs : List ℕ) → field_of t c f (get_or lines subsamples_line spare) ≡ Some vs → length vs ≡ r.count
     eleven-long vs q =
         held-some (λ ws. length ws ≡ r.count) (has_map t c f) _ (λ h. counts-length c e e.count e.at ∙ g.counted (some_bytes _ _ h)) vs
         (sym eleven-is ∙ q)

@@ -1,7 +1,7 @@
 -- What the code hands on of an accepted chunk.
 -- ==== What only mirrors the code
-use Rattle.std.specs.Prelude.{ℕ, ◌≤◌, ◌≡◌, Bool, true, List, [], ◌∷◌}
-use Rattle.laws.specs.Ladder.{◌else◌, ladder}
+use Rattle.std.specs.Prelude.{ℕ, ◌≤◌, ◌≡◌, Bool, true, List, Option, Some, is_some}
+use Rattle.laws.specs.Ladder.{ladder}
 use Rattle.constants.specs.Maxima.{event_bytes_most}
 use Rattle.wire.specs.declared.form.Row.{Row}
 use Rattle.track.specs.declared.Track.{Track}
@@ -14,7 +14,6 @@ use Rattle.locmaf_write_events.specs.Records.{AllWords, AllIn, list_bytes}
 use Rattle.cmaf_read_rules.specs.Rules.{rules_ok}
 use Rattle.cmaf_read_set.specs.Set.{chunk_set}
 use Rattle.cmaf_read_chunk.specs.declared.read.Chunk.{Chunk}
-use Rattle.cmaf_read_chunk.specs.declared.read.Counted.{Counted}
 use Rattle.cmaf_read_chunk.specs.Accepted.{top, boxes, events, prft, fields, maxima_ok, accept_rungs}
 
 -- nothing but a number
@@ -49,10 +48,10 @@ pub record Listed (F : List Row) (t : Track) (c : List ℕ) (list : ℕ) (ws : L
   pub list-is : list ≡ list_bytes F (events t c)
   pub short : list ≤ event_bytes_most
 
--- the maxima were asked: 8 or 0, and with 0 the words ws of the events and the bytes of their records
-pub record CountedAs (F : List Row) (t : Track) (c : List ℕ) (k : Counted) (ws : List ℕ) : Type 0 where
-  pub answered : k.number ≡ ladder ((maxima_ok F t c else 8) ∷ []) (λ n. n) 0
-  pub listed : k.number ≡ 0 → Listed F t c k.list ws
+-- the maxima were asked: whether the chunk keeps them, and if it does the words ws of the events and the bytes of their records
+pub record CountedAs (F : List Row) (t : Track) (c : List ℕ) (r : Option ℕ) (ws : List ℕ) : Type 0 where
+  pub answered : is_some r ≡ maxima_ok F t c
+  pub listed : (list : ℕ) → r ≡ Some list → Listed F t c list ws
 
 -- the rules were asked of the boxes y and f that were found, with the words ws of the events: whether they hold, and if they do the words x of the set
 pub record SettledAs (t : Track) (c : List ℕ) (y : Top) (f : Inner) (ws : List ℕ) (ok : Bool) (x : List ℕ) : Type 0 where

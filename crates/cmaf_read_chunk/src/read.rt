@@ -18,7 +18,6 @@ use crate::maxima;
 use byte_parts::Part;
 use cmaf_read_boxes::right;
 use cmaf_read_moof::defaults;
-use cmaf_read_senc::entries::Filled;
 use cmaf_read_shape::inner::Inner;
 use cmaf_read_shape::top::Top;
 use constants::maxima::EVENT_BYTES;
@@ -37,13 +36,6 @@ pub struct Chunk {
     pub list: usize,
     pub brands: Part,
     pub payload: Part,
-}
-
-// The bytes of the events' records, or 8.
-#[derive(Clone, Copy)]
-struct Counted {
-    number: u64,
-    list: usize,
 }
 
 fn refused(number: u64) -> Chunk
@@ -76,7 +68,7 @@ fn taken(c: &[u8], top: Top, list: usize) -> Chunk
     }
 }
 
-// The maxima, of a chunk whose boxes are right: 8 or 0. The words of the events are kept on the way.
+// The bytes of the events' records, if a chunk whose boxes are right keeps its maxima. The words of the events are kept on the way.
 fn count(
     form: Form,
     t: Track,
@@ -85,14 +77,14 @@ fn count(
     f: Inner,
     pairs: u64,
     events: &mut [u64],
-) -> Counted
+) -> Option<usize>
     requires top_value { (top ≡ top_of c.now) × (f ≡ inner_of c.now top.moof) }
     requires c_value { (boxes_ok t c.now ≡ true) × (length events.old ≡ events_len) }
     requires pairs_value { pairs ≡ subsamples t c.now f.senc }
     ensures { CountedAs (rows form) t c.now result events.new }
 {
     if !maxima::counts_ok(c, top, f, pairs) {
-        return Counted { number: 8, list: 0 };
+        return None;
     }
     let emsgs = top.emsgs;
     let tfdt = f.tfdt;
@@ -100,9 +92,9 @@ fn count(
     let bmdt = cmaf_read_moof::headers::bmdt_of(c, tfdt);
     let list = locmaf_write_events::records::list_bytes(form, t, bmdt, events, top.events);
     if (EVENT_BYTES as usize) < list {
-        return Counted { number: 8, list: 0 };
+        return None;
     }
-    Counted { number: 0, list }
+    Some(list)
 }
 
 // Whether the rules hold, of a chunk that keeps its maxima and whose events have their words; where they do, its set into words that are zeros. Both go
@@ -141,14 +133,13 @@ fn read_rest(
     ensures { ReadAs (rows form) t c.now result (take events_len words.new)
         (drop events_len words.new) }
 {
-    let counts = count(form, t, c, top, f, pairs, &mut words[..ALL_WORDS]);
-    if counts.number != 0 {
-        return refused(counts.number);
-    }
+    let Some(list) = count(form, t, c, top, f, pairs, &mut words[..ALL_WORDS]) else {
+        return refused(8);
+    };
     if !settle(t, c, top, f, &mut *words) {
         return refused(7);
     }
-    taken(c, top, counts.list)
+    taken(c, top, list)
 }
 
 // A chunk for a track. The words are those of its events and behind them those of its set, zeros before; they count only with the number 0.
@@ -164,8 +155,7 @@ pub fn read_chunk(form: Form, t: Track, c: &[u8], words: &mut [u64]) -> Chunk
     if !right::order_ok(c, top, f) {
         return refused(right::unordered(c));
     }
-    let read = right::pairs_in(t, c, top, f);
-    let Filled::With(pairs) = read else {
+    let Some(pairs) = right::pairs_in(t, c, top, f) else {
         return refused(6);
     };
     read_rest(form, t, c, top, f, pairs, words)

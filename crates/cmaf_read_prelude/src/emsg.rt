@@ -48,12 +48,10 @@ pub fn emsgs_ok(c: &[u8], at: usize, k: usize) -> bool
 {
     let mut ok = true;
     let mut p = at;
-    let mut i = 0;
-    while i < k {
+    for i in 0..k {
         let b = box_at(c, p, c.len(), kinds::EMSG);
         ok = ok & emsg_ok(c, b);
         p = end_of(b);
-        i += 1;
     }
     ok
 }
@@ -64,11 +62,8 @@ fn store(out: &mut [u64], at: usize, words: &[u64])
     ensures out_after { out.new ≡ sets out.old at words.now }
     ensures out_len_unchanged { length out.new ≡ length out.old }
 {
-    let mut i = 0;
-    while i < words.len() {
-        out[at + i] = words[i];
-        i += 1;
-    }
+    let end = at + words.len();
+    out[at..end].copy_from_slice(words);
 }
 
 // Keeps an event in the ten words from the place on, in the order of their places: where its texts stand and how long they are, and its numbers as
@@ -104,11 +99,9 @@ pub fn keep_events(c: &[u8], at: usize, k: usize, events: &mut [u64])
     ensures { events.new ≡ kept_events c.now k at events.old }
 {
     let mut p = at;
-    let mut i = 0;
-    while i < k {
+    for i in 0..k {
         let b = box_at(c, p, c.len(), kinds::EMSG);
         keep_event(c, b, &mut *events, WORDS * i);
         p = end_of(b);
-        i += 1;
     }
 }

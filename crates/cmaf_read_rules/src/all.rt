@@ -21,10 +21,8 @@ fn clocks_ok(events: &[u64], k: usize) -> bool
     ensures { result ≡ clocks_ok (events_of [] events.now k) }
 {
     let mut ok = true;
-    let mut i = 0;
-    while i < k {
+    for i in 0..k {
         ok = ok & (events[WORDS * i + TIMESCALE] != 0);
-        i += 1;
     }
     ok
 }

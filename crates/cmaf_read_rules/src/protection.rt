@@ -56,14 +56,12 @@ fn entries_ok(c: &[u8], saiz: Part, e: Entries, r: Run, default: u64) -> bool
     let n = r.count as usize;
     let mut ok = true;
     let mut p = e.at;
-    let mut i = 0;
-    while i < n {
+    for i in 0..n {
         let k = entries::pairs_at(c, e, p);
         let len = e.iv + entries::map_length(e, k);
         let size = rows::size_at(c, r, default, i);
         ok = ok & (entry_ok(c, e, p, k, size) & (sizes::info_size(c, saiz, i) == len as u64));
         p += len;
-        i += 1;
     }
     ok
 }

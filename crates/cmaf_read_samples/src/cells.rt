@@ -56,9 +56,7 @@ pub fn put_column(c: &[u8], r: Run, column: u64, way: Way, x: &mut [u64], place:
     }
     x[place] = 1;
     let n = r.count as usize;
-    let mut i = 0;
-    while i < n {
+    for i in 0..n {
         x[place + 1 + i] = value(way, rows::cell(c, r, column, i));
-        i += 1;
     }
 }

@@ -19,10 +19,8 @@ pub fn all_equal(c: &[u8], r: Run, default: u64) -> bool
 {
     let n = r.count as usize;
     let mut ok = true;
-    let mut i = 1;
-    while i < n {
+    for i in 1..n {
         ok = ok & (rows::size_at(c, r, default, i) == rows::size_at(c, r, default, 0));
-        i += 1;
     }
     ok
 }
@@ -39,10 +37,8 @@ pub fn put_sizes(c: &[u8], r: Run, default: u64, equal: bool, x: &mut [u64])
     }
     x[lines::SIZES] = 1;
     let n = r.count as usize - 1;
-    let mut i = 0;
-    while i < n {
+    for i in 0..n {
         x[lines::SIZES + 1 + i] = rows::size_at(c, r, default, i);
-        i += 1;
     }
 }
 

@@ -14,9 +14,9 @@ use Rattle.laws.specs.Gate.{gate}
 use Rattle.laws.proofs.GateLaws.{stop, pass}
 use Rattle.laws.proofs.SliceLaws.{take-slice, drop-slice}
 use Rattle.cmaf_read_senc.specs.declared.entries.Entries.{Entries}
-use Rattle.cmaf_read_senc.specs.declared.entries.Filled.{Filled}
-use Rattle.cmaf_read_senc.specs.declared.entries.Filled.TheVariants.{With, Wrong}
-use Rattle.cmaf_read_senc.specs.Entries.{map_length, pairs_of, pairs_at, length_of, length_at, more, entries_in, is_with, with_of, FewPairs}
+use Rattle.std.specs.Prelude.{Option, Some, None}
+use Rattle.std.proofs.lemmas.Option.{none-some, same_Some}
+use Rattle.cmaf_read_senc.specs.Entries.{map_length, pairs_of, pairs_at, length_of, length_at, more, entries_in, FewPairs}
 use Rattle.cmaf_read_tree.specs.Numbers.{u16}
 
 -- ---- an entry, with subsamples and without
@@ -71,31 +71,31 @@ pairs-here c e p end h k = by e.map refl
 
 -- ---- so many entries from the front of a list
 
-pub more-none : (f : Filled) → more 0 f ≡ f
+pub more-none : (f : Option ℕ) → more 0 f ≡ f
 unfolding more
-more-none (With n) = let z : 0 + n ≡ n = omega arith in ap With z
-more-none Wrong = refl
+more-none (Some n) = let z : 0 + n ≡ n = omega arith in ap Some z
+more-none None = refl
 
-more-more : (a b : ℕ) (f : Filled) → more a (more b f) ≡ more (a + b) f
+more-more : (a b : ℕ) (f : Option ℕ) → more a (more b f) ≡ more (a + b) f
 unfolding more
-more-more a b (With n) = let z : a + (b + n) ≡ a + b + n = omega arith in ap With z
-more-more a b Wrong = refl
+more-more a b (Some n) = let z : a + (b + n) ≡ a + b + n = omega arith in ap Some z
+more-more a b None = refl
 
-more-inv : (k s : ℕ) (f : Filled) → more k f ≡ With s → (f ≡ With (s - k)) × (k ≤ s)
+more-inv : (k s : ℕ) (f : Option ℕ) → more k f ≡ Some s → (f ≡ Some (s - k)) × (k ≤ s)
 unfolding more
-more-inv k s (With n) h =
-    let z : k + n ≡ s = ap with_of h in
+more-inv k s (Some n) h =
+    let z : k + n ≡ s = same_Some _ _ h in
     let y : n ≡ s - k = omega arith in
-    (ap With y, omega arith)
-more-inv k s Wrong h = absurd (false≢true (ap is_with h))
+    (ap Some y, omega arith)
+more-inv k s None h = absurd (none-some _ h)
 
-pub gate-inv : (t : Bool) (f : Filled) (s : ℕ) → gate t Wrong f ≡ With s → (t ≡ true) × (f ≡ With s)
+pub gate-inv : (t : Bool) (f : Option ℕ) (s : ℕ) → gate t None f ≡ Some s → (t ≡ true) × (f ≡ Some s)
 unfolding gate
 gate-inv true f s h = (refl, h)
-gate-inv false f s h = absurd (false≢true (ap is_with h))
+gate-inv false f s h = absurd (none-some _ h)
 
 -- the next entry doesn't fit
-entries-cut : (e : Entries) (n : ℕ) (l : List ℕ) → 0 < n → length l < length_of e l → Wrong ≡ entries_in e n l
+entries-cut : (e : Entries) (n : ℕ) (l : List ℕ) → 0 < n → length l < length_of e l → None ≡ entries_in e n l
 unfolding entries_in
 entries-cut e zero l h k = absurd (omega arith)
 entries-cut e (suc n) l h k = stop _ (lt-leb (length_of e l) (length l) k)
@@ -107,30 +107,30 @@ unfolding entries_in
 entries-on e zero l h k = absurd (omega arith)
 entries-on e (suc n) l h k =
     let z : suc n - 1 ≡ n = omega arith in
-    pass Wrong (le-leb (length_of e l) (length l) k) (ap (λ (m : ℕ). more (pairs_of e l) (entries_in e m (drop (length_of e l) l))) z)
+    pass None (le-leb (length_of e l) (length l) k) (ap (λ (m : ℕ). more (pairs_of e l) (entries_in e m (drop (length_of e l) l))) z)
 
-entries-inv : (e : Entries) (n : ℕ) (l : List ℕ) (s : ℕ) → 0 < n → entries_in e n l ≡ With s → length_of e l ≤ length l
+entries-inv : (e : Entries) (n : ℕ) (l : List ℕ) (s : ℕ) → 0 < n → entries_in e n l ≡ Some s → length_of e l ≤ length l
 unfolding entries_in
 entries-inv e zero l s h k = absurd (omega arith)
 entries-inv e (suc n) l s h k = leb-true _ _ (gate-inv (leb (length_of e l) (length l)) _ s k).0
 
 -- no entry is left
-entries-full : (e : Entries) (l : List ℕ) → length l ≡ 0 → With 0 ≡ entries_in e 0 l
+entries-full : (e : Entries) (l : List ℕ) → length l ≡ 0 → Some 0 ≡ entries_in e 0 l
 unfolding entries_in
-entries-full e l h = pass Wrong (eq-eqb (length l) 0 h) refl
+entries-full e l h = pass None (eq-eqb (length l) 0 h) refl
 
-entries_over : (e : Entries) (l : List ℕ) → 0 < length l → Wrong ≡ entries_in e 0 l
+entries_over : (e : Entries) (l : List ℕ) → 0 < length l → None ≡ entries_in e 0 l
 unfolding entries_in
 entries_over e l h = stop _ (ne_eqb (length l) 0 (λ z. omega arith))
 
-entries-last : (e : Entries) (l : List ℕ) (s : ℕ) → entries_in e 0 l ≡ With s → (length l ≡ 0) × (s ≡ 0)
+entries-last : (e : Entries) (l : List ℕ) (s : ℕ) → entries_in e 0 l ≡ Some s → (length l ≡ 0) × (s ≡ 0)
 unfolding entries_in
 entries-last e l s h =
-    let g = gate-inv (eqb (length l) 0) (With 0) s h in
-    (eqb-true (length l) 0 g.0, sym (ap with_of g.1))
+    let g = gate-inv (eqb (length l) 0) (Some 0) s h in
+    (eqb-true (length l) 0 g.0, sym (same_Some _ _ g.1))
 
 -- with subsamples each has two bytes or more, so that no list has more than half as many as bytes, whatever count is asked for
-pub entries-most : (e : Entries) → e.map ≡ true → (n : ℕ) (l : List ℕ) (s : ℕ) → entries_in e n l ≡ With s → 2 * n ≤ length l
+pub entries-most : (e : Entries) → e.map ≡ true → (n : ℕ) (l : List ℕ) (s : ℕ) → entries_in e n l ≡ Some s → 2 * n ≤ length l
 entries-most e m zero l s h = omega arith
 entries-most e m (suc n) l s h =
     let z : suc n - 1 ≡ n = omega arith in
@@ -153,13 +153,13 @@ module _ (e : Entries) (m : e.map ≡ false) where
       ∙ more-none _
       ∙ ap₂ (λ (i j : ℕ). entries_in e i (drop j l)) z (plain-length l))
 
-  pub plain-full : (n : ℕ) (l : List ℕ) → length l ≡ e.iv * n → With 0 ≡ entries_in e n l
+  pub plain-full : (n : ℕ) (l : List ℕ) → length l ≡ e.iv * n → Some 0 ≡ entries_in e n l
   plain-full zero l h = let z : e.iv * 0 ≡ 0 = mul-zero e.iv in entries-full e l (h ∙ z)
   plain-full (suc n) l h =
       let z : e.iv * suc n ≡ e.iv * n + e.iv = mul-suc e.iv n in
       plain-full n (drop e.iv l) (omega (arith, z, length-drop e.iv l)) ∙ plain-on n l (omega (arith, z))
 
-  pub plain-off : (n : ℕ) (l : List ℕ) → (length l ≡ e.iv * n → ⊥) → Wrong ≡ entries_in e n l
+  pub plain-off : (n : ℕ) (l : List ℕ) → (length l ≡ e.iv * n → ⊥) → None ≡ entries_in e n l
   plain-off zero l h = let z : e.iv * 0 ≡ 0 = mul-zero e.iv in entries_over e l (some (length l) (λ y. h (y ∙ sym z)))
     where
       some : (k : ℕ) → (k ≡ 0 → ⊥) → 0 < k
@@ -167,8 +167,8 @@ module _ (e : Entries) (m : e.map ≡ false) where
       some (suc k) y = omega arith
   plain-off (suc n) l h = by (leb e.iv (length l)) refl (plain-off n (drop e.iv l))
     where
-      by : (t : Bool) → leb e.iv (length l) ≡ t → ((length (drop e.iv l) ≡ e.iv * n → ⊥) → Wrong ≡ entries_in e n (drop e.iv l))
-          → Wrong ≡ entries_in e (suc n) l
+      by : (t : Bool) → leb e.iv (length l) ≡ t → ((length (drop e.iv l) ≡ e.iv * n → ⊥) → None ≡ entries_in e n (drop e.iv l))
+          → None ≡ entries_in e (suc n) l
       by true y ih =
           let k : e.iv ≤ length l = leb-true _ _ y in
           let z : e.iv * suc n ≡ e.iv * n + e.iv = mul-suc e.iv n in
@@ -184,11 +184,11 @@ module _ (c : List ℕ) (e : Entries) (end p : ℕ) (w : end ≤ length c) where
   here-length h = ap (λ (k : ℕ). e.iv + map_length e k) (pairs-here c e p end h w)
 
   -- the next entry doesn't fit, not even if it has no subsamples; or by those that it has
-  here-short : {n : ℕ} → 0 < n → end - p < e.iv + map_length e 0 → Wrong ≡ entries_in e n (slice p end c)
+  here-short : {n : ℕ} → 0 < n → end - p < e.iv + map_length e 0 → None ≡ entries_in e n (slice p end c)
   here-short h k =
       entries-cut e _ (slice p end c) h (omega (arith, length-slice p end c w, map-least e (pairs_of e (slice p end c))))
 
-  here-cut : {n : ℕ} → 0 < n → e.iv + map_length e 0 ≤ end - p → p ≤ end → end - p < length_at c e p → Wrong ≡ entries_in e n (slice p end c)
+  here-cut : {n : ℕ} → 0 < n → e.iv + map_length e 0 ≤ end - p → p ≤ end → end - p < length_at c e p → None ≡ entries_in e n (slice p end c)
   here-cut h a b k = entries-cut e _ (slice p end c) h (omega (arith, length-slice p end c w, here-length (omega arith)))
 
   -- it fits
@@ -217,18 +217,18 @@ pub length-is : (c : List ℕ) (e : Entries) (p : ℕ) {k len : ℕ} → k ≡ p
 length-is c e p x y = ap (λ (i : ℕ). e.iv + i) (y ∙ ap (map_length e) x)
 
 module _ {c : List ℕ} {e : Entries} {end sum p left : ℕ} (m : e.map ≡ true) (w : end ≤ length c) (g : Walking c e end sum p left) where
-  wrong-rest : Wrong ≡ entries_in e left (slice p end c) → Wrong ≡ entries_in e e.count (slice e.at end c)
+  wrong-rest : None ≡ entries_in e left (slice p end c) → None ≡ entries_in e e.count (slice e.at end c)
   unfolding more
   wrong-rest h = ap (more sum) h ∙ g.rest
 
-  pub walk-short : 0 < left → end - p < e.iv + 2 → Wrong ≡ entries_in e e.count (slice e.at end c)
+  pub walk-short : 0 < left → end - p < e.iv + 2 → None ≡ entries_in e e.count (slice e.at end c)
   walk-short h k = wrong-rest (here-short c e end p w h (omega (arith, map-yes e 0 m)))
 
   pub walk-head : e.iv + 2 ≤ end - p → p + (e.iv + map_length e 0) ≤ length c
   walk-head k = omega (arith, map-yes e 0 m, g.here)
 
   module _ (k len : ℕ) (x : k ≡ pairs_at c e p) (y : len ≡ map_length e k) where
-    pub walk-cut : 0 < left → e.iv + 2 ≤ end - p → end - p < e.iv + len → Wrong ≡ entries_in e e.count (slice e.at end c)
+    pub walk-cut : 0 < left → e.iv + 2 ≤ end - p → end - p < e.iv + len → None ≡ entries_in e e.count (slice e.at end c)
     walk-cut h a b = wrong-rest (here-cut c e end p w h (omega (arith, map-yes e 0 m)) g.here (omega (arith, length-is c e p x y)))
 
     pub walk-len : len ≡ 2 + 6 * k
@@ -246,17 +246,17 @@ module _ {c : List ℕ} {e : Entries} {end sum p left : ℕ} (m : e.map ≡ true
               ∙ g.rest;
         }
 
-  pub walk-over : left ≤ 0 → p < end → Wrong ≡ entries_in e e.count (slice e.at end c)
+  pub walk-over : left ≤ 0 → p < end → None ≡ entries_in e e.count (slice e.at end c)
   walk-over h k =
       let z : left ≡ 0 = omega arith in
       wrong-rest (entries_over e (slice p end c) (omega (arith, length-slice p end c w)) ∙ ap (λ (i : ℕ). entries_in e i (slice p end c)) (sym z))
 
-  pub walk-full : left ≤ 0 → end ≤ p → With sum ≡ entries_in e e.count (slice e.at end c)
+  pub walk-full : left ≤ 0 → end ≤ p → Some sum ≡ entries_in e e.count (slice e.at end c)
   unfolding more
   walk-full h k =
       let z : left ≡ 0 = omega arith in
       let y : sum ≡ sum + 0 = omega arith in
-      ap With y
+      ap Some y
       ∙ ap (more sum)
       (entries-full e (slice p end c) (omega (arith, length-slice p end c w)) ∙ ap (λ (i : ℕ). entries_in e i (slice p end c)) (sym z))
       ∙ g.rest
@@ -266,7 +266,7 @@ module _ {c : List ℕ} {e : Entries} {end sum p left : ℕ} (m : e.map ≡ true
 pub record Left (c : List ℕ) (e : Entries) (end n p s : ℕ) : Type 0 where
   pub here : p ≤ end
   pub within : end ≤ length c
-  pub rest : entries_in e n (slice p end c) ≡ With s
+  pub rest : entries_in e n (slice p end c) ≡ Some s
 
 -- those that are asked for before the first is read
 pub left-few : {c : List ℕ} {e : Entries} {n most : ℕ} (g : FewPairs c e n most) → Left c e g.end n e.at g.pairs
@@ -289,7 +289,7 @@ module _ {c : List ℕ} {e : Entries} {end n p s : ℕ} (h : 0 < n) (g : Left c 
   pub left-whole : p + length_at c e p ≤ length c
   left-whole = omega (arith, left_here, g.within)
 
-  next : (entries_in e (n - 1) (slice (p + length_at c e p) end c) ≡ With (s - pairs_at c e p)) × (pairs_at c e p ≤ s)
+  next : (entries_in e (n - 1) (slice (p + length_at c e p) end c) ≡ Some (s - pairs_at c e p)) × (pairs_at c e p ≤ s)
   next = more-inv (pairs_at c e p) s _ (here_on c e end p g.within n h left_here ∙ g.rest)
 
   -- its subsamples are among those that are left

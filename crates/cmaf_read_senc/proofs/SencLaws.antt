@@ -14,9 +14,9 @@ use Rattle.byte_parts.specs.declared.Part.{Part}
 use Rattle.cmaf_read_shape.specs.Parts.{end_of, Inside}
 use Rattle.track.specs.declared.Track.{Track}
 use Rattle.cmaf_read_senc.specs.declared.entries.Entries.{Entries}
-use Rattle.cmaf_read_senc.specs.declared.entries.Filled.{Filled}
-use Rattle.cmaf_read_senc.specs.declared.entries.Filled.TheVariants.{With, Wrong}
-use Rattle.cmaf_read_senc.specs.Entries.{entries_of, entries_in, senc_filled, is_with, senc_ok, senc_count, with_of, subsamples, FewPairs}
+use Rattle.std.specs.Prelude.{Option, Some, None, is_some}
+use Rattle.std.specs.Option.{unwrap_or}
+use Rattle.cmaf_read_senc.specs.Entries.{entries_of, entries_in, senc_filled, senc_ok, senc_count, subsamples, FewPairs}
 use Rattle.cmaf_read_tree.specs.Numbers.{u32}
 use Rattle.cmaf_read_senc.proofs.EntryLaws.{gate-inv, plain-full, plain-off, Left}
 
@@ -71,7 +71,7 @@ module _ (t : Track) (c : List ℕ) (b : Part) where
   entries_at = refl
 
   -- all of them, from the first up to the end of the box
-  abbrev all : Entries → Filled
+  abbrev all : Entries → Option ℕ
   all e = entries_in e e.count (slice e.at (end_of b) c)
 
   abbrev flags : Bool
@@ -79,7 +79,7 @@ module _ (t : Track) (c : List ℕ) (b : Part) where
 
   filled-yes : flags ≡ true → senc_filled t c b ≡ all (entries_of t c b)
   unfolding senc_filled
-  filled-yes h = sym (pass Wrong h refl)
+  filled-yes h = sym (pass None h refl)
 
   flag-two : (entries_of t c b).map ≡ true → flags ≡ true
   flag-two h = or_right (eqb (u32 c (b.at + 8)) 0) (eqb (u32 c (b.at + 8)) 2) (sym entries-map ∙ h)
@@ -99,11 +99,11 @@ module _ (t : Track) (c : List ℕ) (b : Part) where
     pub entries-first : 16 ≤ b.len → e.at ≤ end_of b
     entries-first h = omega (arith, ap (λ (f : Entries). f.at) q, entries_at)
 
-    pub filled-map : {r : Filled} (end : ℕ) → end ≡ end_of b → e.map ≡ true → r ≡ entries_in e e.count (slice e.at end c) → r ≡ senc_filled t c b
+    pub filled-map : {r : Option ℕ} (end : ℕ) → end ≡ end_of b → e.map ≡ true → r ≡ entries_in e e.count (slice e.at end c) → r ≡ senc_filled t c b
     filled-map end x h w = w ∙ ap (λ (i : ℕ). entries_in e e.count (slice e.at i c)) x ∙ ap all q ∙ sym (filled-yes (flag-two (map_is h)))
 
     -- flags that are neither 0 nor 2
-    pub filled-flags : e.map ≡ false → (f : ℕ) → f ≡ u32 c (b.at + 8) → (f ≡ 0 → ⊥) → Wrong ≡ senc_filled t c b
+    pub filled-flags : e.map ≡ false → (f : ℕ) → f ≡ u32 c (b.at + 8) → (f ≡ 0 → ⊥) → None ≡ senc_filled t c b
     unfolding senc_filled
     filled-flags h f r n =
         stop _
@@ -116,10 +116,10 @@ module _ (t : Track) (c : List ℕ) (b : Part) where
       body-length : length (slice e.at (end_of b) c) ≡ b.len - 16
       body-length = omega (arith, length-slice e.at (end_of b) c i.within, ap (λ (f : Entries). f.at) q, entries_at)
 
-      pub filled-full : b.len ≡ 16 + e.iv * e.count → With 0 ≡ senc_filled t c b
+      pub filled-full : b.len ≡ 16 + e.iv * e.count → Some 0 ≡ senc_filled t c b
       filled-full n = plain-full e h e.count (slice e.at (end_of b) c) (omega (arith, n, body-length)) ∙ all-is
 
-      pub filled_off : (b.len ≡ 16 + e.iv * e.count → ⊥) → Wrong ≡ senc_filled t c b
+      pub filled_off : (b.len ≡ 16 + e.iv * e.count → ⊥) → None ≡ senc_filled t c b
       filled_off n = plain-off e h e.count (slice e.at (end_of b) c) (λ y. n (omega (arith, y, body-length, s))) ∙ all-is
 
   -- ---- the box
@@ -128,17 +128,17 @@ module _ (t : Track) (c : List ℕ) (b : Part) where
   unfolding senc_ok
   senc-short h = short b.len 16 _ _ h
 
-  pub senc-by : 16 ≤ b.len → (f : Filled) → f ≡ senc_filled t c b → is_with f ≡ senc_ok t c b
+  pub senc-by : 16 ≤ b.len → (f : Option ℕ) → f ≡ senc_filled t c b → is_some f ≡ senc_ok t c b
   unfolding senc_ok
-  senc-by h f e = ap is_with e ∙ long b.len 16 _ _ h
+  senc-by h f e = ap is_some e ∙ long b.len 16 _ _ h
 
   pub sum-none : b.len < 16 → 0 ≡ subsamples t c b
   unfolding subsamples
   sum-none h = short b.len 16 _ _ h
 
-  pub sum_by : 16 ≤ b.len → (f : Filled) → f ≡ senc_filled t c b → with_of f ≡ subsamples t c b
+  pub sum_by : 16 ≤ b.len → (f : Option ℕ) → f ≡ senc_filled t c b → unwrap_or f 0 ≡ subsamples t c b
   unfolding subsamples
-  sum_by h f e = ap with_of e ∙ long b.len 16 _ _ h
+  sum_by h f e = ap (λ (o : Option ℕ). unwrap_or o 0) e ∙ long b.len 16 _ _ h
 
   -- a box that stands and passes has its head
   pub senc-stands : senc_ok t c b ≡ true → 0 < b.len → 16 ≤ b.len
@@ -158,14 +158,14 @@ module _ (t : Track) (c : List ℕ) (b : Part) where
       record {
         here = entries-first (entries_of t c b) refl h;
         within = i.within;
-        rest = (gate-inv flags (all (entries_of t c b)) (subsamples t c b) (is-with ∙ ap With (sum_by h (senc_filled t c b) refl))).1;
+        rest = (gate-inv flags (all (entries_of t c b)) (subsamples t c b) (is-with ∙ ap Some (sum_by h (senc_filled t c b) refl))).1;
       }
     where
-      with-inv : (f : Filled) → is_with f ≡ true → f ≡ With (with_of f)
-      with-inv (With n) e = refl
-      with-inv Wrong e = absurd (false≢true e)
+      with-inv : (f : Option ℕ) → is_some f ≡ true → f ≡ Some (unwrap_or f 0)
+      with-inv (Some n) e = refl
+      with-inv None e = absurd (false≢true e)
 
-      is-with : senc_filled t c b ≡ With (with_of (senc_filled t c b))
+      is-with : senc_filled t c b ≡ Some (unwrap_or (senc_filled t c b) 0)
       is-with = with-inv (senc_filled t c b) (senc-by h (senc_filled t c b) refl ∙ k)
 
   -- they can be walked, by what was read of them

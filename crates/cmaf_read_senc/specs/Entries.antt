@@ -8,8 +8,8 @@ use Rattle.byte_parts.specs.declared.Part.{Part}
 use Rattle.cmaf_read_shape.specs.Parts.{end_of}
 use Rattle.track.specs.declared.Track.{Track}
 use Rattle.cmaf_read_senc.specs.declared.entries.Entries.{Entries}
-use Rattle.cmaf_read_senc.specs.declared.entries.Filled.{Filled}
-use Rattle.cmaf_read_senc.specs.declared.entries.Filled.TheVariants.{With, Wrong}
+use Rattle.std.specs.Prelude.{Option, Some, None, is_some}
+use Rattle.std.specs.Option.{unwrap_or}
 
 -- ==== The rules
 
@@ -44,42 +44,34 @@ length_at c e at = e.iv + map_length e (pairs_at c e at)
 -- ---- all entries
 
 -- some subsamples before those of other entries
-unfoldable pub more : ℕ → Filled → Filled
-more k (With n) = With (k + n)
-more k Wrong = Wrong
+unfoldable pub more : ℕ → Option ℕ → Option ℕ
+more k (Some n) = Some (k + n)
+more k None = None
 
 -- so many entries, one after another from the front of the list, which they must use up: how many subsamples they have
-unfoldable pub entries_in : Entries → ℕ → List ℕ → Filled
-entries_in e zero l = gate (eqb (length l) 0) Wrong (With 0)
-entries_in e (suc n) l = gate (leb (length_of e l) (length l)) Wrong (more (pairs_of e l) (entries_in e n (drop (length_of e l) l)))
+unfoldable pub entries_in : Entries → ℕ → List ℕ → Option ℕ
+entries_in e zero l = gate (eqb (length l) 0) None (Some 0)
+entries_in e (suc n) l = gate (leb (length_of e l) (length l)) None (more (pairs_of e l) (entries_in e n (drop (length_of e l) l)))
 
 -- ---- senc
 
 -- 01: "`senc` (flags 0 or 2)"; "Versions and flags not named are 0". Its entries stand after the version, the flags and their count, up to its end.
-unfoldable pub senc_filled : Track → List ℕ → Part → Filled
+unfoldable pub senc_filled : Track → List ℕ → Part → Option ℕ
 senc_filled t c b =
     let e = entries_of t c b in
-    gate (eqb (word_of c b) 0 || eqb (word_of c b) 2) Wrong (entries_in e e.count (slice e.at (end_of b) c))
-
-abbrev pub is_with : Filled → Bool
-is_with (With n) = true
-is_with Wrong = false
+    gate (eqb (word_of c b) 0 || eqb (word_of c b) 2) None (entries_in e e.count (slice e.at (end_of b) c))
 
 -- 01: "own version and flags .., box lengths .. are 6"; a box of no bytes doesn't stand (D25)
 unfoldable pub senc_ok : Track → List ℕ → Part → Bool
-senc_ok t c b = cond (ltb b.len senc_head) (eqb b.len 0) (is_with (senc_filled t c b))
+senc_ok t c b = cond (ltb b.len senc_head) (eqb b.len 0) (is_some (senc_filled t c b))
 
 -- how many samples it counts: none where it doesn't stand
 unfoldable pub senc_count : List ℕ → Part → ℕ
 senc_count c b = cond (ltb b.len senc_head) 0 (u32 c (b.at + 12))
 
-abbrev pub with_of : Filled → ℕ
-with_of (With n) = n
-with_of Wrong = 0
-
 -- and how many subsamples it has
 unfoldable pub subsamples : Track → List ℕ → Part → ℕ
-subsamples t c b = cond (ltb b.len senc_head) 0 (with_of (senc_filled t c b))
+subsamples t c b = cond (ltb b.len senc_head) 0 (unwrap_or (senc_filled t c b) 0)
 
 -- ==== What only mirrors the code
 
@@ -89,5 +81,5 @@ pub record FewPairs (c : List ℕ) (e : Entries) (n most : ℕ) : Type 0 where
   pub pairs : ℕ
   pub here : e.at ≤ end
   pub within : end ≤ length c
-  pub filled : entries_in e n (slice e.at end c) ≡ With pairs
+  pub filled : entries_in e n (slice e.at end c) ≡ Some pairs
   pub few : pairs ≤ most

@@ -1,9 +1,10 @@
 // `senc`: whether its entries fill it, how many they are, and what an entry has. The track's IV size cuts the entries, whatever the track.
 // Letters: `t` the track, `c` a chunk's bytes, `b` a box of the chunk, `e` the entries of the `senc`.
-ghost use Rattle.std.specs.Prelude.{◌≡◌, true, ◌+◌, ◌≤◌, ◌<◌, ◌^◌, length};
+ghost use Rattle.std.specs.Prelude.{◌≡◌, true, is_some, ◌+◌, ◌≤◌, ◌<◌, ◌^◌, length};
+ghost use Rattle.std.specs.Option.{unwrap_or};
 ghost use Rattle.std.proofs.Math.Seq.{slice};
 ghost use Rattle.cmaf_read_shape.specs.Parts.{Inside};
-ghost use Rattle.cmaf_read_senc.specs.Entries.{senc_head, entries_of, pairs_at, map_length, entries_in, senc_filled, is_with, senc_ok, senc_count, with_of, subsamples};
+ghost use Rattle.cmaf_read_senc.specs.Entries.{senc_head, entries_of, pairs_at, map_length, entries_in, senc_filled, senc_ok, senc_count, subsamples};
 
 use byte_parts::Part;
 use cmaf_read_shape::parts;
@@ -17,13 +18,6 @@ pub struct Entries {
     pub count: u64,
     pub iv: usize,
     pub at: usize,
-}
-
-// How many subsamples some entries have, or that they don't end where they must.
-#[derive(Clone, Copy)]
-pub enum Filled {
-    With(u64),
-    Wrong,
 }
 
 // The bytes of a `senc` before its first entry: its head, version and flags, and the count.
@@ -69,7 +63,7 @@ pub fn map_length(e: Entries, pairs: usize) -> usize
 
 // Entries with subsamples, one after another up to the place `end`. Each has two bytes or more, so the walk ends with the box, whatever the
 // count.
-fn walk_entries(c: &[u8], e: Entries, end: usize) -> Filled
+fn walk_entries(c: &[u8], e: Entries, end: usize) -> Option<u64>
     requires map_value { (e.map ≡ true) × (e.iv < 2 ^ 8) }
     requires at_le_end { (e.at ≤ end) × (end ≤ length c.now) }
     ensures { result ≡ entries_in e e.count (slice e.at end c.now) }
@@ -79,25 +73,25 @@ fn walk_entries(c: &[u8], e: Entries, end: usize) -> Filled
     let mut left = e.count;
     while 0 < left {
         if end - p < e.iv + 2 {
-            return Filled::Wrong;
+            return None;
         }
         let k = pairs_at(c, e, p);
         let len = e.iv + map_length(e, k);
         if end - p < len {
-            return Filled::Wrong;
+            return None;
         }
         sum += k as u64;
         p += len;
         left -= 1;
     }
     if p < end {
-        return Filled::Wrong;
+        return None;
     }
-    Filled::With(sum)
+    Some(sum)
 }
 
 // Version 0, flags 0 or 2, and entries that end with the box. Without subsamples all are as long as an IV, and the product is exact.
-fn senc_filled(t: Track, c: &[u8], b: Part) -> Filled
+fn senc_filled(t: Track, c: &[u8], b: Part) -> Option<u64>
     requires { Inside c.now b × (senc_head ≤ b.len) }
     ensures { result ≡ senc_filled t c.now b }
 {
@@ -106,26 +100,26 @@ fn senc_filled(t: Track, c: &[u8], b: Part) -> Filled
         return walk_entries(c, e, parts::end_of(b));
     }
     if numbers::u32_at(c, b.at + 8) != 0 {
-        return Filled::Wrong;
+        return None;
     }
     if b.len as u64 != HEAD as u64 + e.iv as u64 * e.count {
-        return Filled::Wrong;
+        return None;
     }
-    Filled::With(0)
+    Some(0)
 }
 
 // ---- senc
 
 // How many subsamples it has, or that it is wrong; none where it doesn't stand.
-pub fn senc_read(t: Track, c: &[u8], b: Part) -> Filled
+pub fn senc_read(t: Track, c: &[u8], b: Part) -> Option<u64>
     requires { Inside c.now b }
-    ensures { (is_with result ≡ senc_ok t c.now b) × (with_of result ≡ subsamples t c.now b) }
+    ensures { (is_some result ≡ senc_ok t c.now b) × (unwrap_or result 0 ≡ subsamples t c.now b) }
 {
     if b.len < HEAD {
         if b.len == 0 {
-            return Filled::With(0);
+            return Some(0);
         }
-        return Filled::Wrong;
+        return None;
     }
     senc_filled(t, c, b)
 }

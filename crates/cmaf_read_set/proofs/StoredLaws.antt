@@ -4,7 +4,7 @@ use native.Mathlib.Omega.{arith}
 use mathlib.Core.Path.{◌≡◌, refl, sym, ◌∙◌, ap}
 use mathlib.Core.Bool.{Bool, not}
 use mathlib.Core.List.{List, [], ◌∷◌, map-id, append-nil}
-use mathlib.Core.Option.{none}
+use Rattle.std.specs.Prelude.{None}
 use lib.Dec.{eqb}
 use lib.ListN.{length, get_or, set, replicate}
 use lib.Seq.{slice, sets, set_comm}
@@ -55,7 +55,7 @@ earlier z a b w h k =
     ap (λ (y : List ℕ). sets y subsamples_at b) (sym (sets-past w a z ivs_at first_flags_at (omega arith))) ∙ sym (sets-past w b (sets z ivs_at a) subsamples_at first_flags_at (omega arith))
 
 -- the order of the code gives what the order of the table gives
-in-order : (f : Line → Held) (x : List ℕ) → AllFit f → f (line_for 16 lines) ≡ none
+in-order : (f : Line → Held) (x : List ℕ) → AllFit f → f (line_for 16 lines) ≡ None
     → store_all f protection_lines (sets (store_all f (slice offsets_line ivs_line lines) (store_all f (slice 0 offsets_line lines) x)) first_flags_at (words_of (f (line_for 12 lines))))
     ≡ store_all f lines x
 unfolding lines line_for store_all
@@ -111,7 +111,7 @@ module _ (t : Track) (c : List ℕ) (f : Inner) where
     high-stored = λ j. stored_high t c (ed j) (er j) (ee j) x
 
   -- the definition of the set says nothing of id 16
-  pub no-sixteen : field_of t c f (line_for 16 lines) ≡ none
+  pub no-sixteen : field_of t c f (line_for 16 lines) ≡ None
   unfolding lines line_for held_for
   no-sixteen = refl
 

@@ -1,7 +1,6 @@
 -- The set of moof fields of a chunk: which ids stand, and their values. 01, "Full objects".
 -- ==== The rules
-use Rattle.std.specs.Prelude.{ℕ, Bool, cond, not, ◌&&◌, List, [], ◌∷◌, map, eqb, leb}
-use Rattle.std.proofs.Math.Option.{none}
+use Rattle.std.specs.Prelude.{ℕ, Bool, cond, not, ◌&&◌, List, [], ◌∷◌, map, eqb, leb, None}
 use Rattle.media.specs.Flags.{five_of}
 use Rattle.track.specs.declared.Track.{Track}
 use Rattle.cmaf_read_shape.specs.declared.inner.Inner.{Inner}
@@ -69,7 +68,7 @@ module _ (t : Track) (c : List ℕ) (f : Inner) where
       (cond (eqb id 12) (held_if (eqb (bit_of run.word first) 1) (five_of (first_flags c f.trun) ∷ []))
       (cond (eqb id 13) (held_if has_map (all_clear c entries entries.count entries.at))
       (cond (eqb id 15) (held_if has_map (all_protected c entries entries.count entries.at))
-      none))))))))))))
+      None))))))))))))
 
   abbrev pub field_of : Line → Held
   field_of l = held_for l.id

@@ -24,10 +24,8 @@ fn put_iv(c: &[u8], at: usize, k: usize, x: &mut [u64], i: usize)
     requires { (at + 8 * k ≤ length c.now) × (ivs_at + 1 + i + k ≤ length x.old) × (k ≤ 32) }
     ensures { x.new ≡ sets x.old (ivs_at + 1 + i) (iv_words c.now k at) }
 {
-    let mut j = 0;
-    while j < k {
+    for j in 0..k {
         x[lines::IVS + 1 + i + j] = numbers::u64_at(c, at + 8 * j);
-        j += 1;
     }
 }
 
@@ -36,12 +34,10 @@ fn put_pairs(c: &[u8], at: usize, k: usize, x: &mut [u64], i: usize)
     requires { (at + 6 * k ≤ length c.now) × (i + k ≤ subsamples_most) × (length x.old ≡ set_len) }
     ensures { x.new ≡ stored_pairs c.now k at i x.old }
 {
-    let mut j = 0;
-    while j < k {
+    for j in 0..k {
         let p = at + 6 * j;
         x[lines::CLEAR + 1 + i + j] = numbers::u16_at(c, p);
         x[lines::PROTECTED + 1 + i + j] = numbers::u32_at(c, p + 2);
-        j += 1;
     }
 }
 
@@ -83,13 +79,11 @@ fn put_entries(c: &[u8], e: Entries, x: &mut [u64])
     let n = e.count as usize;
     let mut j = 0;
     let mut p = e.at;
-    let mut i = 0;
-    while i < n {
+    for i in 0..n {
         let k = entries::pairs_at(c, e, p);
         put_entry(c, e, p, k, &mut *x, i, j);
         p += e.iv + entries::map_length(e, k);
         j += k;
-        i += 1;
     }
 }
 

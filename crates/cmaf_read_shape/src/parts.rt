@@ -6,7 +6,6 @@ ghost use Rattle.cmaf_read_shape.specs.Parts.{end_of, body_of, any_at, box_at, f
 
 use byte_parts::Part;
 use cmaf_read_tree::heads;
-use cmaf_read_tree::heads::Head;
 
 // A box of any type; all zeros but its place where none stands.
 #[derive(Clone, Copy)]
@@ -42,8 +41,7 @@ pub fn any_at(c: &[u8], at: usize, end: usize) -> Any
     requires { (at ≤ end) × (end ≤ length c.now) }
     ensures { result ≡ any_at c.now at end }
 {
-    let h = heads::head_at(&c[..end], at);
-    let Head::Stands(len, kind) = h else {
+    let Some((len, kind)) = heads::head_at(&c[..end], at) else {
         return Any {
             kind: 0,
             at,

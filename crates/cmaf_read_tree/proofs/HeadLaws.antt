@@ -10,7 +10,8 @@ use Rattle.laws.specs.Bytes.{de}
 use Rattle.laws.specs.Gate.{gate}
 use Rattle.laws.proofs.GateLaws.{stop, pass}
 use Rattle.laws.proofs.SliceLaws.{slice-drop}
-use Rattle.cmaf_read_tree.specs.declared.heads.Head.TheVariants.{Stands, Broken}
+use Rattle.std.specs.Prelude.{Option, Some, None}
+use Rattle.std.proofs.lemmas.Option.{none-some, some_pair_parts}
 use Rattle.cmaf_read_tree.specs.Whole.{size_of, kind_of, sized}
 use Rattle.cmaf_read_tree.specs.Heads.{head_of}
 use Rattle.cmaf_read_tree.proofs.WholeLaws.{Sized, sized-says, sized-is}
@@ -23,14 +24,14 @@ sized-not l h = by (sized l) refl
     by true e = absurd (h (sized-says l e))
     by false e = e
 
-head-not : (l : List ℕ) → (Sized l → ⊥) → Broken ≡ head_of l
+head-not : (l : List ℕ) → (Sized l → ⊥) → None ≡ head_of l
 unfolding head_of
 head-not l h = stop _ (sized-not l h)
 
 -- ---- what was read at a place, and the head there
 
 module _ (s : List ℕ) (at : ℕ) where
-  pub head-short : length s - at < 8 → Broken ≡ head_of (drop at s)
+  pub head-short : length s - at < 8 → None ≡ head_of (drop at s)
   head-short h = head-not (drop at s) (λ z. omega (arith, z, length-drop at s))
 
   module _ (h : at ≤ length s) where
@@ -43,14 +44,14 @@ module _ (s : List ℕ) (at : ℕ) where
     kind_at = let z : at + 8 ≡ at + 4 + 4 = omega arith in ap de (slice-drop at 4 8 s h) ∙ ap (λ (m : ℕ). de (slice (at + 4) m s)) z
 
     module _ (n : ℕ) (e : n ≡ de (slice at (at + 4) s)) where
-      pub head_small : n < 8 → Broken ≡ head_of (drop at s)
+      pub head_small : n < 8 → None ≡ head_of (drop at s)
       head_small l = head-not (drop at s) (λ z. omega (arith, z, size-at))
 
-      pub head-cut : length s - at < n → Broken ≡ head_of (drop at s)
+      pub head-cut : length s - at < n → None ≡ head_of (drop at s)
       head-cut l = head-not (drop at s) (λ z. omega (arith, z, size-at, length-drop at s))
 
     pub head-stands : (n k : ℕ) → n ≡ de (slice at (at + 4) s) → k ≡ de (slice (at + 4) (at + 4 + 4) s)
-        → 8 ≤ length s - at → 8 ≤ n → n ≤ length s - at → Stands n k ≡ head_of (drop at s)
+        → 8 ≤ length s - at → 8 ≤ n → n ≤ length s - at → Some (n, k) ≡ head_of (drop at s)
     unfolding head_of
     head-stands n k e f a b c =
         let z : Sized (drop at s) =
@@ -59,7 +60,7 @@ module _ (s : List ℕ) (at : ℕ) where
           eight = omega (arith, size-at);
           fits = omega (arith, size-at, length-drop at s);
         } in
-        pass _ (sized-is (drop at s) z) (ap₂ Stands (e ∙ sym size-at) (f ∙ sym kind_at))
+        pass _ (sized-is (drop at s) z) (ap₂ (λ (m j : ℕ). Some (m, j)) (e ∙ sym size-at) (f ∙ sym kind_at))
 
 -- ---- what an answered head says
 
@@ -70,17 +71,17 @@ pub record HeadAt (s : List ℕ) (at n k : ℕ) : Type 0 where
   pub eight : 8 ≤ n
   pub room : at + n ≤ length s
 
-stands-inv : {n k : ℕ} (t : Bool) (m j : ℕ) → Stands n k ≡ gate t Broken (Stands m j) → (t ≡ true) × (n ≡ m) × (k ≡ j)
+stands-inv : {n k : ℕ} (t : Bool) (m j : ℕ) → ◌≡◌ {A = Option (ℕ × ℕ)} (Some (n, k)) (gate t None (Some (m, j))) → (t ≡ true) × (n ≡ m) × (k ≡ j)
 unfolding gate
-stands-inv true m j e = (refl, cc, cc)
-stands-inv false m j e = let z : ◌≡◌ {A = ℕ} 0 1 = cc in absurd (omega arith)
+stands-inv true m j e = let p = some_pair_parts _ _ _ _ e in (refl, p.0, p.1)
+stands-inv false m j e = absurd (none-some _ (sym e))
 
-broken-inv : (t : Bool) (m j : ℕ) → Broken ≡ gate t Broken (Stands m j) → t ≡ false
+broken-inv : (t : Bool) (m j : ℕ) → ◌≡◌ {A = Option (ℕ × ℕ)} None (gate t None (Some (m, j))) → t ≡ false
 unfolding gate
-broken-inv true m j e = let z : ◌≡◌ {A = ℕ} 0 1 = cc in absurd (omega arith)
+broken-inv true m j e = absurd (none-some _ e)
 broken-inv false m j e = refl
 
-pub head_at : (s : List ℕ) (at n k : ℕ) → Stands n k ≡ head_of (drop at s) → HeadAt s at n k
+pub head_at : (s : List ℕ) (at n k : ℕ) → Some (n, k) ≡ head_of (drop at s) → HeadAt s at n k
 unfolding head_of
 head_at s at n k e =
     let l : List ℕ = drop at s in
@@ -88,6 +89,6 @@ head_at s at n k e =
     let z = sized-says l p.0 in
     record { is-sized = z; size = p.1; kind = p.2; eight = omega (arith, z, p.1); room = omega (arith, z, p.1, length-drop at s) }
 
-pub head-broken : (l : List ℕ) → Broken ≡ head_of l → sized l ≡ false
+pub head-broken : (l : List ℕ) → None ≡ head_of l → sized l ≡ false
 unfolding head_of
 head-broken l e = broken-inv (sized l) (size_of l) (kind_of l) e

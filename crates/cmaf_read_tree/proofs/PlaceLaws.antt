@@ -11,7 +11,7 @@ use Rattle.laws.specs.Bytes.{de}
 use Rattle.laws.specs.Tests.{◌and◌}
 use Rattle.laws.proofs.SliceLaws.{slice-drop, slice-lent, take-slice, drop-slice}
 use Rattle.laws.proofs.TestLaws.{and-true}
-use Rattle.cmaf_read_tree.specs.declared.heads.Head.TheVariants.{Broken}
+use Rattle.std.specs.Prelude.{None}
 use Rattle.cmaf_read_tree.specs.Whole.{size_of, kind_of, inside_of, after_of, sized, container, whole, whole_box}
 use Rattle.cmaf_read_tree.specs.Heads.{head_of}
 use Rattle.cmaf_read_tree.specs.Fills.{fills}
@@ -44,7 +44,7 @@ module _ {P : List ℕ → Bool} (b : Boxwise P) {s : List ℕ} {at : ℕ} (p : 
   pub passed-all : length s ≤ at → true ≡ P s
   passed-all h = sym (p.same ∙ b.empty (drop at s) (omega (arith, length-drop at s)))
 
-  pub passed-broken : at < length s → Broken ≡ head_of (drop at s) → false ≡ P s
+  pub passed-broken : at < length s → None ≡ head_of (drop at s) → false ≡ P s
   passed-broken h e = sym (p.same ∙ b.broken (drop at s) (omega (arith, length-drop at s)) (head-broken (drop at s) e))
 
 -- ---- past the box at the place

@@ -2,9 +2,8 @@
 -- ==== What only mirrors the code
 use Rattle.std.specs.Prelude.{ℕ, List}
 use Rattle.laws.specs.Gate.{gate}
-use Rattle.cmaf_read_tree.specs.declared.heads.Head.{Head}
-use Rattle.cmaf_read_tree.specs.declared.heads.Head.TheVariants.{Stands, Broken}
+use Rattle.std.specs.Prelude.{Option, Some, None}
 use Rattle.cmaf_read_tree.specs.Whole.{size_of, kind_of, sized}
 
-unfoldable pub head_of : List ℕ → Head
-head_of l = gate (sized l) Broken (Stands (size_of l) (kind_of l))
+unfoldable pub head_of : List ℕ → Option (ℕ × ℕ)
+head_of l = gate (sized l) None (Some (size_of l, kind_of l))

@@ -31,10 +31,8 @@ pub fn u64_at(b: &[u8], at: usize) -> u64
     ensures { result ≡ de (slice at (at + 8) b.now) }
 {
     let mut v = 0;
-    let mut i = 0;
-    while i < 8 {
+    for i in 0..8 {
         v = v * 256 + u8_at(b, at + i);
-        i += 1;
     }
     v
 }

@@ -5,7 +5,6 @@ ghost use Rattle.cmaf_read_tree.specs.Whole.{whole};
 ghost use Rattle.cmaf_read_tree.specs.Fills.{fills};
 
 use crate::heads;
-use crate::heads::Head;
 
 // The boxes of the list fill it, whatever stands inside them.
 fn boxes_fill(b: &[u8]) -> bool
@@ -13,8 +12,7 @@ fn boxes_fill(b: &[u8]) -> bool
 {
     let mut at: usize = 0;
     while at < b.len() {
-        let h = heads::head_at(b, at);
-        let Head::Stands(size, _) = h else {
+        let Some((size, _)) = heads::head_at(b, at) else {
             return false;
         };
         at += size;
@@ -29,8 +27,7 @@ pub fn walk_whole(b: &[u8]) -> bool
 {
     let mut at: usize = 0;
     while at < b.len() {
-        let h = heads::head_at(b, at);
-        let Head::Stands(size, kind) = h else {
+        let Some((size, kind)) = heads::head_at(b, at) else {
             return false;
         };
         let end = at + size;

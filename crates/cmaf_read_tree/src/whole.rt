@@ -4,7 +4,6 @@
 ghost use Rattle.std.specs.Prelude.{◌≡◌, ◌≤◌, length};
 ghost use Rattle.cmaf_read_tree.specs.Whole.{whole, whole_box};
 
-use crate::heads::Head;
 use crate::{heads, numbers, walk};
 
 // The deepest nesting that is checked by calls. A chunk that is accepted has a `traf` in a `moof` and no more.
@@ -23,8 +22,7 @@ fn list_whole(b: &[u8], budget: usize) -> bool
 {
     let mut at: usize = 0;
     while at < b.len() {
-        let h = heads::head_at(b, at);
-        let Head::Stands(size, _) = h else {
+        let Some((size, _)) = heads::head_at(b, at) else {
             return false;
         };
         let kind = at + 4;

@@ -19,6 +19,11 @@ offset_most = 0x7fff_ffff
 
 -- ==== What only mirrors the code
 
+-- a test holds of every number
+unfoldable pub all_by : (ℕ → Bool) → List ℕ → Bool
+all_by holds [] = true
+all_by holds (x ∷ xs) = holds x and all_by holds xs
+
 -- the rows of a run lie in the chunk, and keep their maximum
 abbrev pub FewRows : List ℕ → Run → Type 0
 FewRows c r = RowsIn c r × (r.count ≤ samples_most)

@@ -1,11 +1,11 @@
 // A column of a `trun`, or the sizes of its samples, from the first sample to the last. The count keeps its maximum by now, so no loop is longer than 64.
 // Letters: `c` a chunk's bytes, `r` the rows of the `trun`.
-ghost use Rattle.std.specs.Prelude.{◌≡◌, ◌<◌, ◌^◌};
+ghost use Rattle.std.specs.Prelude.{◌≡◌, ℕ, ◌<◌, ◌^◌, Bool, true};
 ghost use Rattle.laws.specs.Tests.{all_le, sum};
 ghost use Rattle.media.specs.Flags.{only};
-ghost use Rattle.cmaf_read_trun.specs.Rows.{sample_flags, offsets};
+ghost use Rattle.cmaf_read_trun.specs.Rows.{sample_flags, offsets, is_column};
 ghost use Rattle.cmaf_read_trun.specs.Samples.{column_of, sizes_of};
-ghost use Rattle.cmaf_read_trun.specs.Columns.{all_only, offset_most, FewRows};
+ghost use Rattle.cmaf_read_trun.specs.Columns.{all_by, all_only, offset_most, FewRows};
 
 use crate::rows;
 use crate::rows::Run;
@@ -23,22 +23,31 @@ pub fn plain(flags: u64) -> bool
     SampleFlags(word).is_plain()
 }
 
+// Whether a test holds of all that stands in a column; of a column that doesn't stand it does. No test keeps another from being made, so that the
+// loop has no way out but its end.
+fn column_all<F: Fn(u64) -> bool>(c: &[u8], r: Run, column: u64, test: F) -> bool
+    requires few_rows { FewRows c.now r }
+    requires column_value { is_column column ≡ true }
+    requires callable { (v : ℕ) → v < 2 ^ 32 → F.pre test v }
+    ensures { (holds : ℕ → Bool) → ((v : ℕ) (b : Bool) → v < 2 ^ 32 → F.post test v b → b ≡ holds v) → result ≡ all_by holds (column_of c.now r column) }
+{
+    if !rows::has(r, column) {
+        return true;
+    }
+    let n = r.count as usize;
+    let mut ok = true;
+    for i in 0..n {
+        ok = ok & test(rows::cell(c, r, column, i));
+    }
+    ok
+}
+
 // Every sample's own flags are plain.
 pub fn column_plain(c: &[u8], r: Run) -> bool
     requires { FewRows c.now r }
     ensures { result ≡ all_only (column_of c.now r sample_flags) }
 {
-    if !rows::has(r, rows::FLAGS) {
-        return true;
-    }
-    let n = r.count as usize;
-    let mut ok = true;
-    let mut i = 0;
-    while i < n {
-        ok = ok & plain(rows::cell(c, r, rows::FLAGS, i));
-        i += 1;
-    }
-    ok
+    column_all(c, r, rows::FLAGS, |flags| plain(flags))
 }
 
 // Whether the composition offsets are below 2^31.
@@ -46,17 +55,7 @@ pub fn column_low(c: &[u8], r: Run) -> bool
     requires { FewRows c.now r }
     ensures { result ≡ all_le offset_most (column_of c.now r offsets) }
 {
-    if !rows::has(r, rows::OFFSETS) {
-        return true;
-    }
-    let n = r.count as usize;
-    let mut ok = true;
-    let mut i = 0;
-    while i < n {
-        ok = ok & (rows::cell(c, r, rows::OFFSETS, i) <= OFFSET);
-        i += 1;
-    }
-    ok
+    column_all(c, r, rows::OFFSETS, |offset| offset <= OFFSET)
 }
 
 // The sizes of all samples, added up.
@@ -67,10 +66,8 @@ pub fn sizes_sum(c: &[u8], r: Run, default: u64) -> u64
 {
     let n = r.count as usize;
     let mut sum = 0;
-    let mut i = 0;
-    while i < n {
+    for i in 0..n {
         sum += rows::size_at(c, r, default, i);
-        i += 1;
     }
     sum
 }

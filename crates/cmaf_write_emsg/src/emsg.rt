@@ -98,11 +98,9 @@ pub fn emsgs_length(events: &[u64], k: usize) -> usize
         → result ≡ length (emsg_boxes (events_of o events.now k))) × (result ≤ emsg_most * events_most) }
 {
     let mut sum = 0;
-    let mut i = 0;
-    while i < k {
+    for i in 0..k {
         let from = event_value::WORDS * i;
         sum += emsg_length(&events[from..from + event_value::WORDS]);
-        i += 1;
     }
     sum
 }
@@ -114,11 +112,9 @@ pub fn put_emsgs(o: &[u8], events: &[u64], k: usize, out: &mut [u8], at: usize) 
         out.new result }
 {
     let mut p = at;
-    let mut i = 0;
-    while i < k {
+    for i in 0..k {
         let from = event_value::WORDS * i;
         p = put_emsg(o, &events[from..from + event_value::WORDS], out, p);
-        i += 1;
     }
     p
 }

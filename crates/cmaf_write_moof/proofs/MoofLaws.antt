@@ -22,7 +22,7 @@ use Rattle.boxes.proofs.BoxLaws.{words_long, box-words, length-box, length-full_
 use Rattle.boxes.specs.Box as B
 use Rattle.cmaf_write_moof.proofs.ProtectionLaws.{protection-same}
 use Rattle.effective.specs.Sizes.{size_of, last_size, size_by}
-use Rattle.cmaf_write_moof.specs.Moof.{when_marked, mfhd_box, tfhd_flags, tfhd_box, tfdt_box, offset_field, trun_row, trun_rows, trun_flags, trun_box, plain, moof_box, moof_whole, protection}
+use Rattle.cmaf_write_moof.specs.Moof.{mfhd_box, tfhd_flags, tfhd_box, tfdt_box, offset_field, trun_row, trun_rows, trun_flags, trun_box, plain, moof_box, moof_whole, protection}
 use Rattle.cmaf_write_moof.specs.Lengths.{tfhd_length, row_length, trun_length, plain_length}
 use Rattle.effective.proofs.SizeLaws.{size-by}
 
@@ -32,9 +32,9 @@ pub when-length : (b : Bool) (v : ℕ) → length (when b (be 4 v)) ≡ flag_whe
 when-length true v = length-be 4 v
 when-length false v = refl
 
-pub marked-as : {l m : List ℕ} {at p u v : ℕ} (w : List ℕ) (mark : ℕ) → u ≡ v
-    → Wrote l at (when_marked w mark u) m p → Wrote l at (when_marked w mark v) m p
-marked-as w mark e h = wrote_as (ap (when_marked w mark) e) h
+-- the same by what the number is
+pub when-as : {l m : List ℕ} {at p u v : ℕ} (b : Bool) → u ≡ v → Wrote l at (when b (be 4 u)) m p → Wrote l at (when b (be 4 v)) m p
+when-as b e h = wrote_as (ap (λ (n : ℕ). when b (be 4 n)) e) h
 
 pub flag-low : (b : Bool) (v : ℕ) → flag_when b v ≤ v
 flag-low true v = omega arith

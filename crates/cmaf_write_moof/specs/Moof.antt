@@ -75,9 +75,3 @@ moof_box t sequence w payload offset =
 -- 01: "data offset present and equal to the `moof` size plus 8"; what the offset is doesn't change the size
 unfoldable pub moof_whole : Track → ℕ → List ℕ → ℕ → List ℕ
 moof_whole t sequence w payload = moof_box t sequence w payload (length (moof_box t sequence w payload 0) + 8)
-
--- ==== What only mirrors the code
-
--- a number in four bytes, where the mark at a place of the words stands
-abbrev pub when_marked : List ℕ → ℕ → ℕ → List ℕ
-when_marked w mark v = when (not (eqb (get_or w mark 0) 0)) (be 4 v)

@@ -1,6 +1,6 @@
 // The moof: `mfhd`, and a traf of `tfhd`, `tfdt`, `trun` and the boxes of protected samples.
 // Letters: `t` the track, `w` the words of a set.
-ghost use Rattle.std.specs.Prelude.{◌≡◌, ℕ, ◌+◌, ◌≤◌, ◌<◌, length, get_or};
+ghost use Rattle.std.specs.Prelude.{◌≡◌, ℕ, ◌+◌, ◌≤◌, ◌<◌, length};
 ghost use Rattle.laws.specs.Bytes.{be};
 ghost use Rattle.laws.specs.Writes.{Wrote};
 ghost use Rattle.media.specs.Flags.{wide_of};
@@ -8,7 +8,7 @@ ghost use Rattle.constants.specs.Maxima.{samples_most};
 ghost use Rattle.field_table.specs.Lines.{set_len};
 ghost use Rattle.boxes.specs.Box.{when, flag_when};
 ghost use Rattle.field_set.specs.Lawful.{count_in};
-ghost use Rattle.cmaf_write_moof.specs.Moof.{when_marked, tfhd_flags, tfhd_box, tfdt_box, offset_field, trun_row, trun_rows, trun_flags, trun_box, plain, moof_box, moof_whole};
+ghost use Rattle.cmaf_write_moof.specs.Moof.{tfhd_flags, tfhd_box, tfdt_box, offset_field, trun_row, trun_rows, trun_flags, trun_box, plain, moof_box, moof_whole};
 ghost use Rattle.cmaf_write_moof.specs.Lengths.{tfhd_length, row_length, trun_length, plain_length, trun_most, plain_most, moof_most};
 ghost use Rattle.cmaf_write_senc.specs.Protection.{Protectable};
 ghost use Rattle.effective.specs.Sizes.{Sized};
@@ -45,28 +45,6 @@ fn wide(v: u64) -> u64
     f as u64
 }
 
-// The value at a place of the words, where the mark of its field stands.
-fn put_value(w: &[u64], mark: usize, place: usize, out: &mut [u8], at: usize) -> usize
-    requires mark_in_bounds { (mark < length w.now) × (place < length w.now) }
-    requires place_in_bounds { at + length (when_marked w.now mark (get_or w.now place 0)) ≤ length out.old }
-    ensures { Wrote out.old at
-        (when_marked w.now mark (get_or w.now place 0))
-        out.new result }
-{
-    put_when(w[mark] != 0, w[place], out, at)
-}
-
-// The sample flags at a place of the words, where the mark of their field stands.
-fn put_flags(w: &[u64], mark: usize, place: usize, out: &mut [u8], at: usize) -> usize
-    requires mark_in_bounds { (mark < length w.now) × (place < length w.now) }
-    requires place_in_bounds { at + length (when_marked w.now mark (wide_of (get_or w.now place 0))) ≤ length out.old }
-    ensures { Wrote out.old at
-        (when_marked w.now mark (wide_of (get_or w.now place 0)))
-        out.new result }
-{
-    put_when(w[mark] != 0, wide(w[place]), out, at)
-}
-
 // ---- tfhd
 
 fn tfhd_length(w: &[u64]) -> u64
@@ -94,9 +72,19 @@ fn put_tfhd(t: Track, w: &[u64], out: &mut [u8], at: usize) -> usize
 {
     let head: [u64; 4] = [tfhd_length(w), kinds::TFHD, tfhd_flags(w), t.id as u64];
     let a = put::put_words(out, at, &head);
-    let b = put_value(w, lines::DESCRIPTION, lines::DESCRIPTION + 1, out, a);
-    let c = put_value(w, lines::DURATION, lines::DURATION + 1, out, b);
-    put_flags(w, lines::DEFAULT_FLAGS, lines::DEFAULT_FLAGS + 1, out, c)
+    let b = put_when(
+        w[lines::DESCRIPTION] != 0,
+        w[lines::DESCRIPTION + 1],
+        out,
+        a,
+    );
+    let c = put_when(w[lines::DURATION] != 0, w[lines::DURATION + 1], out, b);
+    put_when(
+        w[lines::DEFAULT_FLAGS] != 0,
+        wide(w[lines::DEFAULT_FLAGS + 1]),
+        out,
+        c,
+    )
 }
 
 // ---- tfdt
@@ -147,27 +135,26 @@ fn offset_field(v: u64) -> u64
     (v % 0x1_0000_0000 + 0x8000_0000) % 0x1_0000_0000
 }
 
-// The composition offset at a place of the words, where the mark of the offsets stands.
-fn put_offset(w: &[u64], mark: usize, place: usize, out: &mut [u8], at: usize) -> usize
-    requires mark_in_bounds { (mark < length w.now) × (place < length w.now) }
-    requires place_in_bounds { at + length (when_marked w.now mark (offset_field (get_or w.now place 0))) ≤ length out.old }
-    ensures { Wrote out.old at
-        (when_marked w.now mark (offset_field (get_or w.now place 0)))
-        out.new result }
-{
-    put_when(w[mark] != 0, offset_field(w[place]), out, at)
-}
-
 // The columns of the sample with the number i.
 fn put_row(w: &[u64], size: u64, i: usize, out: &mut [u8], at: usize) -> usize
     requires w_len { (length w.now ≡ set_len) × (i < samples_most) }
     requires i_in_bounds { at + length (trun_row w.now size i) ≤ length out.old }
     ensures { Wrote out.old at (trun_row w.now size i) out.new result }
 {
-    let a = put_value(w, lines::DURATIONS, lines::DURATIONS + 1 + i, out, at);
+    let a = put_when(
+        w[lines::DURATIONS] != 0,
+        w[lines::DURATIONS + 1 + i],
+        out,
+        at,
+    );
     let b = put::put_u32(out, a, size);
-    let c = put_flags(w, lines::FLAGS, lines::FLAGS + 1 + i, out, b);
-    put_offset(w, lines::OFFSETS, lines::OFFSETS + 1 + i, out, c)
+    let c = put_when(w[lines::FLAGS] != 0, wide(w[lines::FLAGS + 1 + i]), out, b);
+    put_when(
+        w[lines::OFFSETS] != 0,
+        offset_field(w[lines::OFFSETS + 1 + i]),
+        out,
+        c,
+    )
 }
 
 fn put_rows(t: Track, w: &[u64], payload: u64, out: &mut [u8], at: usize) -> usize
@@ -181,11 +168,9 @@ fn put_rows(t: Track, w: &[u64], payload: u64, out: &mut [u8], at: usize) -> usi
     let listed = effective::sizes::listed_sizes(w);
     let last = effective::sizes::last_size(t, w, payload);
     let mut p = at;
-    let mut i = 0;
-    while i < n {
+    for i in 0..n {
         let size = effective::sizes::size_at(w, listed, last, i);
         p = put_row(w, size, i, out, p);
-        i += 1;
     }
     p
 }
@@ -204,7 +189,12 @@ fn put_trun(t: Track, w: &[u64], payload: u64, offset: u64, out: &mut [u8], at: 
         offset,
     ];
     let a = put::put_words(out, at, &head);
-    let b = put_flags(w, lines::FIRST_FLAGS, lines::FIRST_FLAGS + 1, out, a);
+    let b = put_when(
+        w[lines::FIRST_FLAGS] != 0,
+        wide(w[lines::FIRST_FLAGS + 1]),
+        out,
+        a,
+    );
     put_rows(t, w, payload, out, b)
 }
 

@@ -30,12 +30,10 @@ fn all_sized(t: Track, w: &[u64], v: u64) -> bool
     ensures { result ≡ all_sized t w.now v (count_in w.now) 0 }
 {
     let n = w[lines::COUNT] as usize;
-    let mut i = 0;
-    while i < n {
+    for i in 0..n {
         if info_size(t, w, i) != v {
             return false;
         }
-        i += 1;
     }
     true
 }
@@ -49,10 +47,8 @@ fn put_sizes(t: Track, w: &[u64], out: &mut [u8], at: usize) -> usize
 {
     let n = w[lines::COUNT] as usize;
     let mut p = at;
-    let mut i = 0;
-    while i < n {
+    for i in 0..n {
         p = put::put_u8(out, p, info_size(t, w, i));
-        i += 1;
     }
     p
 }

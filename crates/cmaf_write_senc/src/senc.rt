@@ -53,10 +53,8 @@ fn pairs(w: &[u64]) -> usize
 {
     let n = w[lines::COUNT] as usize;
     let mut sum = 0;
-    let mut i = 0;
-    while i < n {
+    for i in 0..n {
         sum += pairs_of(w, i);
-        i += 1;
     }
     sum
 }
@@ -71,10 +69,8 @@ fn put_iv(w: &[u64], k: usize, i: usize, out: &mut [u8], at: usize) -> usize
 {
     let end = i + k;
     let mut p = at;
-    let mut j = i;
-    while j < end {
+    for j in i..end {
         p = put::put_u64(out, p, w[lines::IVS + 1 + j]);
-        j += 1;
     }
     p
 }
@@ -87,11 +83,9 @@ fn put_subsamples(w: &[u64], k: usize, i: usize, out: &mut [u8], at: usize) -> u
 {
     let end = i + k;
     let mut p = at;
-    let mut j = i;
-    while j < end {
+    for j in i..end {
         let a = put::put_u16(out, p, w[lines::CLEAR + 1 + j]);
         p = put::put_u32(out, a, w[lines::PROTECTED + 1 + j]);
-        j += 1;
     }
     p
 }
@@ -121,13 +115,11 @@ fn put_entries(t: Track, w: &[u64], out: &mut [u8], at: usize) -> usize
     let ivs = iv_words(t, w);
     let mut p = at;
     let mut j = 0;
-    let mut i = 0;
-    while i < n {
+    for i in 0..n {
         let k = pairs_of(w, i);
         let a = put_iv(w, ivs, i * ivs, out, p);
         p = put_map(w, k, j, out, a);
         j += k;
-        i += 1;
     }
     p
 }

@@ -11,10 +11,8 @@ pub fn checksum(s: &[u8], n: usize) -> u64
         return 0;
     }
     let mut h = 1;
-    let mut i = 0;
-    while i < n {
+    for i in 0..n {
         h = (h * 65599 + s[i] as u64) % 0x100_0000_0000;
-        i += 1;
     }
     h
 }

@@ -49,14 +49,12 @@ fn all_follow(t: Track, k: usize, c: Counter, last: u64, x: &[u64]) -> bool
         bytes: last,
         j: 0,
     };
-    let mut i = 0;
-    while i < n {
+    for i in 0..n {
         let d = iv_counter::counter_at(x, k, i);
         if !iv_counter::comes(top, v.c, v.bytes, d) {
             return false;
         }
         v = past(t, x, d, i, v.j);
-        i += 1;
     }
     true
 }
@@ -91,12 +89,10 @@ fn put_all(t: Track, k: usize, c: Counter, last: u64, x: &mut [u64]) -> bool
         bytes: last,
         j: 0,
     };
-    let mut i = 0;
-    while i < n {
+    for i in 0..n {
         let d = iv_counter::next(top, v.c, v.bytes);
         iv_counter::put_counter(d, k, i, &mut *x);
         v = past(t, x, d, i, v.j);
-        i += 1;
     }
     v.c.ok
 }

@@ -2,7 +2,7 @@
 -- says. A refusal writes nothing to the output and leaves the slot as that table states." That every call ends, and takes any input, its contract says: none has a
 -- `requires`. All is said of whole tables: of any words, any number of them, and any slot number.
 -- ==== What is shown of the rules
-use Rattle.std.specs.Prelude.{ℕ, ◌+◌, ◌-◌, ◌≤◌, ◌<◌, ◌≡◌, Bool, true, length, drop}
+use Rattle.std.specs.Prelude.{ℕ, ◌+◌, ◌-◌, ◌<◌, ◌≡◌, Bool, true, length, drop}
 use mathlib.Core.List.{List, [], ◌∷◌, ◌++◌, map, Memᴰ}
 use Rattle.laws.specs.Tests.{all_le}
 use Rattle.laws.specs.Ladder.{Rung, Given, Hold}

@@ -3,9 +3,8 @@
 -- demand 2's definition gives, and the whole table at the end is the same."
 -- It is said of any table, and of a fresh one.
 -- ==== What is shown of the rules
-use Rattle.std.specs.Prelude.{ℕ, suc, ◌≡◌, true, get_or, replicate}
+use Rattle.std.specs.Prelude.{ℕ, suc, ◌≡◌, true, get_or, replicate, Some}
 use mathlib.Core.List.{List, [], ◌∷◌, ◌++◌, map, flatten, Permᴰ}
-use Rattle.std.proofs.Math.Option.{some}
 use Rattle.track.specs.declared.Asked.{Asked}
 use Rattle.slots.specs.declared.lawful.Side.TheVariants.{Receiver}
 use Rattle.slots.specs.Table.{Out, itself, on_table}
@@ -129,6 +128,6 @@ pub record DemandThree : Type 0 where
   -- "on a fresh receiver of eight slots"
   pub fresh : (calls : List Call) (ys : List Numbered) → Changed (numbered_from 0 calls) ys → Kept (replicate table_len 0) calls ys
   -- "any property block that splits into whole tuples": every object has such parts whose header id, block length and tuples are read
-  pub parted : (o : List ℕ) (es : List Entry) → header_reads F o ≡ true → block_reads F o ≡ true → tuples F o ≡ some es → Parts F o
+  pub parted : (o : List ℕ) (es : List Entry) → header_reads F o ≡ true → block_reads F o ≡ true → tuples F o ≡ Some es → Parts F o
   -- and in one way only: the bytes say which tuples they are
   pub once : (o : List ℕ) (p q : Parts F o) → (p.header ≡ q.header) × (p.long ≡ q.long) × (p.tuples ≡ q.tuples) × (p.payload ≡ q.payload)

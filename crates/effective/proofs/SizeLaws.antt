@@ -15,30 +15,6 @@ use Rattle.track.specs.declared.Track.{Track}
 use Rattle.field_set.specs.Lawful.{has, values_of, count_in, value_at}
 use Rattle.effective.specs.Sizes.{size_of, last_size, listed_sizes, size_by}
 
--- ---- words taken off a whole, one after another
-
--- what is left of the whole, where the words from i on are still to be taken off
-pub record Off (w : List ℕ) (from to whole left i : ℕ) : Type 0 where
-  pub fits : sum (slice i to w) ≤ left
-  pub same : left - sum (slice i to w) ≡ whole - sum (slice from to w)
-
-module _ (w : List ℕ) (from to whole : ℕ) where
-  pub off-all : sum (slice from to w) ≤ whole → Off w from to whole whole from
-  off-all h = record { fits = h; same = refl }
-
-  module _ (left i : ℕ) (h : Off w from to whole left i) where
-    pub off-fits : i < to → to ≤ length w → get_or w i 0 ≤ left
-    off-fits lt le = omega (arith, sum-next w i to lt le, h.fits)
-
-    pub off_next : i < to → to ≤ length w → Off w from to whole (left - get_or w i 0) (i + 1)
-    off_next lt le = record { fits = omega (arith, sum-next w i to lt le, h.fits); same = omega (arith, sum-next w i to lt le, h.fits, h.same) }
-
-    pub off-end : to ≤ i → left ≡ whole - sum (slice from to w)
-    unfolding sum
-    off-end le =
-        let z : sum (slice i to w) ≡ 0 = ap sum (slice-none i to w le) in
-        omega (arith, h.same)
-
 -- ---- the size of the last sample, and of each by it
 
 module _ (t : Track) (w : List ℕ) (payload : ℕ) where

@@ -2,17 +2,15 @@
 // Letters: `t` the track, `w` the words of a set, `e` what is expected.
 ghost use Rattle.std.specs.Prelude.{◌≡◌, ℕ, ◌+◌, eqb};
 ghost use Rattle.effective.specs.Durations.{Timed};
-ghost use Rattle.effective.specs.Expected.{next_time, expected_by, same};
+ghost use Rattle.effective.specs.Expected.{next_time, expected_by};
 
 use crate::durations::durations;
 use field_table::lines;
 use track::Track;
 
-const U64: u64 = 0xffff_ffff_ffff_ffff;
-
 // As a share keeps it: the sum, or a mark where the sum passes 64 bits. Every number of 64 bits can be a sum, so the mark is a word of its own; and since no BMDT is
 // derived from a sum that passes, nothing more is kept of it.
-#[derive(Clone, Copy)]
+#[derive(Clone, Copy, PartialEq)]
 pub struct Expected {
     pub past: u64,
     pub time: u64,
@@ -22,12 +20,9 @@ pub struct Expected {
 pub fn expected_by(bmdt: u64, durations: u64) -> Expected
     ensures { result ≡ expected_by (bmdt + durations) }
 {
-    if U64 - durations < bmdt {
-        return Expected { past: 1, time: 0 };
-    }
-    Expected {
-        past: 0,
-        time: bmdt + durations,
+    match bmdt.checked_add(durations) {
+        Some(time) => Expected { past: 0, time },
+        None => Expected { past: 1, time: 0 },
     }
 }
 
@@ -37,13 +32,6 @@ pub fn expected_behind(t: Track, w: &[u64]) -> Expected
     ensures { result ≡ expected_by (next_time t w.now) }
 {
     expected_by(w[lines::BMDT], durations(t, w))
-}
-
-// Whether what is kept is what is to be kept.
-pub fn is_same(e: Expected, f: Expected) -> bool
-    ensures { result ≡ same e f }
-{
-    (e.past == f.past) & (e.time == f.time)
 }
 
 // Whether a BMDT is the one that is expected: one after a jump isn't, forwards or back, and none is where the sum passes.

@@ -1,30 +1,14 @@
 // The sizes of the samples. Only id 1 tells samples apart, and it leaves the last one out, which is worked out once.
 // Letters: `t` the track, `w` the words of a set, `i` which one, counted from 0.
-ghost use Rattle.std.specs.Prelude.{◌≡◌, ◌-◌, ◌≤◌, ◌<◌, length};
-ghost use Rattle.std.proofs.Math.Seq.{slice};
-ghost use Rattle.laws.specs.Tests.{sum};
+ghost use Rattle.std.specs.Prelude.{◌≡◌, ◌≤◌, ◌<◌, length};
 ghost use Rattle.constants.specs.Maxima.{samples_most};
 ghost use Rattle.field_table.specs.Lines.{set_len};
 ghost use Rattle.field_set.specs.Lawful.{count_in};
 ghost use Rattle.effective.specs.Sizes.{last_size, listed_sizes, size_by, Sized};
 
 use field_table::lines;
+use told_sizes::sums::add_up;
 use track::Track;
-
-// What is left of the whole once the words from a place up to another are taken off.
-fn left_of(w: &[u64], from: usize, to: usize, whole: u64) -> u64
-    requires to_in_bounds { to ≤ length w.now }
-    requires w_bound { sum (slice from to w.now) ≤ whole }
-    ensures { result ≡ whole - sum (slice from to w.now) }
-{
-    let mut left = whole;
-    let mut i = from;
-    while i < to {
-        left -= w[i];
-        i += 1;
-    }
-    left
-}
 
 // The size of the last sample; of a lone one it is the payload's, whatever trex says.
 pub fn last_size(t: Track, w: &[u64], payload: u64) -> u64
@@ -37,7 +21,7 @@ pub fn last_size(t: Track, w: &[u64], payload: u64) -> u64
         return payload;
     }
     if w[lines::SIZES] != 0 {
-        return left_of(w, lines::SIZES + 1, lines::SIZES + n as usize, payload);
+        return payload - add_up(w, lines::SIZES + 1, lines::SIZES + n as usize);
     }
     if w[lines::SIZE] != 0 {
         return w[lines::SIZE + 1];

@@ -44,12 +44,10 @@ pub fn protected_ok(t: Track, w: &[u64], payload: u64) -> bool
     let last = crate::sizes::last_size(t, w, payload);
     let mut ok = true;
     let mut j = 0;
-    let mut i = 0;
-    while i < n {
+    for i in 0..n {
         let k = w[lines::SUBSAMPLES + 1 + i] as usize;
         ok = ok & (pair_bytes(w, j, k) == crate::sizes::size_at(w, listed, last, i));
         j += k;
-        i += 1;
     }
     ok
 }

@@ -15,7 +15,7 @@ use Rattle.slots.specs.Share.{track_of}
 use Rattle.slots.proofs.ShareLaws.{lent}
 use Rattle.cmaf_read_chunk.specs.declared.read.Chunk.{Chunk}
 use Rattle.cmaf_read_chunk.specs.Accepted.{events}
-use Rattle.locmaf_write_tuples.specs.declared.tuples.Weight.{Weight}
+use Rattle.std.specs.Prelude.{Option}
 use Rattle.locmaf_write_block.specs.declared.cells.Basis.{Basis}
 use Rattle.locmaf_write_tuples.specs.Items.{Items, ◌before◌, bytes_of, pair_most, weight_most, WeighedAs}
 use Rattle.locmaf_write_block.specs.Changes.{basis_of}
@@ -102,10 +102,10 @@ module _ {F : List Row} {t : Track} {s c : List ℕ} {k : Chunk} {ws x : List �
   block-is = rw (same-sets h (field_items F) e, same-sets h (deletion_items F) e, leaves-is h delta y, prft-is h, brands-are h, events-is) refl
 
   -- all were weighed
-  pub block-weighed : {p q r n f a g : Weight} → WeighedAs F set_read set_most p → WeighedAs F times_read (pair_most + pair_most) q
+  pub block-weighed : {p q r n f a g : Option ℕ} → WeighedAs F set_read set_most p → WeighedAs F times_read (pair_most + pair_most) q
       → WeighedAs F version_read pair_most r → WeighedAs F brands_read (pair_most + brand_bytes_most) n → WeighedAs F flags_read pair_most f
       → WeighedAs F events_read (pair_most + event_bytes_most) a → WeighedAs F gone_read gone_most g
-      → (u v w y z o : Weight) → Sum a g u → Sum f u v → Sum n v w → Sum r w y → Sum q y z → Sum p z o
+      → (u v w y z o : Option ℕ) → Sum a g u → Sum f u v → Sum n v w → Sum r w y → Sum q y z → Sum p z o
       → WeighedAs F (block_items F s c delta) weight_most o
   block-weighed p q r n f a g u v w y z o i₁ i₂ i₃ i₄ i₅ i₆ =
       let late = weighed-both r (weighed-both n (weighed-both f (weighed-both a g i₁) i₂) i₃) i₄ in

@@ -5,7 +5,6 @@ use native.Mathlib.Omega.{arith}
 use mathlib.Core.Path.{◌≡◌}
 use mathlib.Core.Bool.{Bool, true, false, cond}
 use mathlib.Core.List.{List, [], ◌∷◌, ◌++◌}
-use mathlib.Core.Option.{none, some}
 use borrow.Author.Tests.{leb-true}
 use lib.Dec.{eqb}
 use lib.ListN.{length, get_or, take, length-append, length-take, length-drop}
@@ -16,14 +15,11 @@ use Rattle.laws.proofs.TestLaws.{left, right}
 use Rattle.wire.specs.declared.form.Row.{Row}
 use Rattle.wire.specs.declared.zigzag.Coding.{Coding}
 use Rattle.wire.specs.declared.zigzag.Coding.TheVariants.{Plain}
-use Rattle.wire.specs.declared.zigzag.Coded.{Coded}
-use Rattle.wire.specs.declared.zigzag.Coded.TheVariants.{Number, TooWide}
+use Rattle.std.specs.Prelude.{Option, Some, None}
 use Rattle.wire.specs.Form.{longest}
 use Rattle.wire.specs.Varint.{encode}
 use Rattle.wire.specs.Zigzag.{code_of}
 use Rattle.wire.proofs.SizeLaws.{encode-size, size-longest}
-use Rattle.runs.specs.declared.Measured.{Measured}
-use Rattle.runs.specs.declared.Measured.TheVariants.{Bytes, TooWide as TooMany}
 use Rattle.runs.specs.Run.{first, run_of, measured}
 use Rattle.block_items.specs.Items.{Item, run, enc_item, enc_block}
 use Rattle.block_items.specs.Events.{Event, enc_text, enc_event, enc_events}
@@ -78,20 +74,20 @@ module _ (F : List Row) (eight : longest F ≤ 8) where
 
   pub before-most : (m n : ℕ) (a b : Items) → Most F m a → Most F n b → Most F (m + n) (a before b)
   unfolding ◌before◌ enc_block
-  before-most m n none b h k = zero-le
-  before-most m n (some xs) none h k = zero-le
-  before-most m n (some xs) (some ys) h k = omega (arith, block-append xs ys)
+  before-most m n None b h k = zero-le
+  before-most m n (Some xs) None h k = zero-le
+  before-most m n (Some xs) (Some ys) h k = omega (arith, block-append xs ys)
 
   if-most : (n : ℕ) (b : Bool) (is : Items) → Most F n is → Most F n (items_if b is)
   unfolding items_if enc_block
   if-most n true is h = h
   if-most n false is h = zero-le
 
-  number-most : (id : ℕ) (c : Coded) → Most F pair_most (number_item id c)
+  number-most : (id : ℕ) (c : Option ℕ) → Most F pair_most (number_item id c)
   unfolding number_item enc_block enc_item
-  number-most id (Number z) =
+  number-most id (Some z) =
       omega (arith, length-append (encode F id ++ encode F z) [], length-append (encode F id) (encode F z), varint-most id, varint-most z)
-  number-most id TooWide = zero-le
+  number-most id None = zero-le
 
   -- of three, by two tests
   either : (n : ℕ) (a b : Bool) (u v w : Items) → Most F n u → Most F n v → Most F n w → Most F n (cond a u (cond b v w))
@@ -102,7 +98,7 @@ module _ (F : List Row) (eight : longest F ≤ 8) where
   wider : (n : ℕ) (is : Items) → Most F pair_most is → Most F (pair_most + n) is
   wider n is h = omega arith
 
-  bytes_most : (n id : ℕ) (bs : List ℕ) → length bs ≤ n → Most F (pair_most + n) (some (run id bs ∷ []))
+  bytes_most : (n id : ℕ) (bs : List ℕ) → length bs ≤ n → Most F (pair_most + n) (Some (run id bs ∷ []))
   unfolding enc_block enc_item
   bytes_most n id bs h =
       omega (
@@ -120,9 +116,9 @@ module _ (F : List Row) (eight : longest F ≤ 8) where
   unfolding run_item enc_block
   run-most coding n id base old new h = go (measured F coding base old new)
     where
-      go : (k : Measured) → Most F (pair_most + 8 * n) (on_measured k (some (run id (run_of F coding base old new) ∷ [])))
-      go (Bytes j) = bytes_most (8 * n) id (run_of F coding base old new) (omega (arith, numbers-most F eight coding base old new))
-      go TooMany = zero-le
+      go : (k : Option ℕ) → Most F (pair_most + 8 * n) (on_measured k (Some (run id (run_of F coding base old new) ∷ [])))
+      go (Some j) = bytes_most (8 * n) id (run_of F coding base old new) (omega (arith, numbers-most F eight coding base old new))
+      go None = zero-le
 
   -- ---- a field
 
@@ -139,7 +135,7 @@ module _ (F : List Row) (eight : longest F ≤ 8) where
     unfolding sent_items
     sent-most l h =
         let n : length (news t delta r x l) ≤ l.room = omega (arith, news-length l) in
-        let coded : Coded =
+        let coded : Option ℕ =
         code_of F (coding_of (coding_for delta) l.absent) (first (absent_value t l.absent) (olds t delta r x l)) (first 0 (news t delta r x l)) in
         either (pair_most + 8 * l.room) (is_ivs l.want) (eqb l.room 1) _ _ _
         (bytes_most (8 * l.room) l.id (wide_bytes (news t delta r x l)) (omega (arith, wide-length (news t delta r x l))))
@@ -285,6 +281,6 @@ module _ (F : List Row) (eight : longest F ≤ 8) where
   events-most n [] h = zero-le
   events-most n (e ∷ es) h = go (times_fit F (e ∷ es))
     where
-      go : (b : Bool) → Most F (pair_most + n) (cond b (some (run 25 (enc_events F (e ∷ es)) ∷ [])) none)
+      go : (b : Bool) → Most F (pair_most + n) (cond b (Some (run 25 (enc_events F (e ∷ es)) ∷ [])) None)
       go true = bytes_most n 25 (enc_events F (e ∷ es)) (omega (arith, list-bytes (e ∷ es)))
       go false = zero-le

@@ -5,7 +5,7 @@ use mathlib.Core.Path.{◌≡◌, refl, sym, ◌∙◌, ap, ap₂}
 use mathlib.Core.Logic.{◌⊎◌, inl, inr}
 use mathlib.Core.Bool.{Bool, true, false, false≢true, ◌||◌}
 use mathlib.Core.List.{List, [], ◌∷◌, ◌++◌}
-use mathlib.Core.Option.{some}
+use Rattle.std.specs.Prelude.{Some}
 use borrow.Author.Tests.{eqb-true, eqb-false, ne_eqb}
 use lib.Dec.{eqb}
 use lib.ListN.{length, take, drop, length-append}
@@ -22,9 +22,8 @@ use Rattle.block_items.specs.Items.{run}
 use Rattle.byte_parts.specs.declared.Part.{Part}
 use Rattle.cmaf_read_shape.specs.Parts.{end_of}
 use Rattle.cmaf_read_chunk.specs.Accepted.{brands_of}
-use Rattle.locmaf_write_tuples.specs.declared.tuples.Weight.{Weight}
 use Rattle.locmaf_write_tuples.specs.Items.{nothing, items_if, bytes_of, pair_most, WeighedAs}
-use Rattle.locmaf_write_tuples.proofs.ItemLaws.{run-parts, block_one, run_length}
+use Rattle.locmaf_write_tuples.proofs.ItemLaws.{run-parts, block_one, run_length, weighed-fit}
 use Rattle.encoder.specs.Object.{brand_items}
 use Rattle.encoder.specs.Planned.{BrandBytes, brands_at}
 
@@ -36,7 +35,7 @@ no_items true names e = refl
 no_items false names (inl e) = absurd (false≢true e)
 no_items false names (inr e) = rw e
 
-some-items : (delta : Bool) (names : List ℕ) → delta ≡ false → (length names ≡ 0 → ⊥) → brand_items delta names ≡ some (run 23 names ∷ [])
+some-items : (delta : Bool) (names : List ℕ) → delta ≡ false → (length names ≡ 0 → ⊥) → brand_items delta names ≡ Some (run 23 names ∷ [])
 unfolding brand_items items_if
 some-items delta names d e = rw (d, ne_eqb _ _ e)
 
@@ -68,20 +67,20 @@ module _ (form : Form) {n : ℕ} (h : BrandBytes n) (names : List ℕ) (are : le
       go (inr z) = no_items delta names (inr (omega (arith, are, z)))
 
   module _ (e : (delta || eqb n 0) ≡ false) where
-    brands-some : brand_items delta names ≡ some (run 23 names ∷ [])
+    brands-some : brand_items delta names ≡ Some (run 23 names ∷ [])
     brands-some = some-items delta names (neither delta n e).0 (λ z. omega (arith, are, brands-long h delta e, z))
 
     -- their weight
-    pub brands-weighed : {m : ℕ} {w : Weight} → (m ≡ size_of (rows form) 23 + (size_of (rows form) (n - 4) + (n - 4))) × (m ≤ 16 + (n - 4))
-        → (w.fits ≡ true) × (w.bytes ≡ m) → WeighedAs (rows form) (brand_items delta names) (pair_most + brand_bytes_most) w
-    brands-weighed {m} {w} f g =
+    pub brands-weighed : {m : ℕ} → (m ≡ size_of (rows form) 23 + (size_of (rows form) (n - 4) + (n - 4))) × (m ≤ 16 + (n - 4))
+        → WeighedAs (rows form) (brand_items delta names) (pair_most + brand_bytes_most) (Some m)
+    brands-weighed {m} f =
         let p : 23 < limit (rows form) = omega (arith, limit-62 form) in
         let q : length names < limit (rows form) = omega (arith, limit-62 form, are, h.few) in
-        let b : length (bytes_of (rows form) (some (run 23 names ∷ []))) ≡ size_of (rows form) 23 + (size_of (rows form) (n - 4) + (n - 4)) =
+        let b : length (bytes_of (rows form) (Some (run 23 names ∷ []))) ≡ size_of (rows form) 23 + (size_of (rows form) (n - 4) + (n - 4)) =
         ap length (block_one (rows form) (run 23 names))
         ∙ run_length (rows form) 23 names p q
         ∙ ap (λ (i : ℕ). size_of (rows form) 23 + (size_of (rows form) i + i)) are in
-        rw brands-some (record { fits = g.0; bytes = λ z. g.1 ∙ f.0 ∙ sym b; small = omega (arith, g.1, f.1, h.few) })
+        rw brands-some (weighed-fit refl (f.0 ∙ sym b) (omega (arith, f.1, h.few)))
 
 -- names in their part of a chunk
 module _ (c : List ℕ) (p : Part) (h : BrandBytes p.len) (i : end_of p ≤ length c) where

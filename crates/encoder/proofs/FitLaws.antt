@@ -4,19 +4,16 @@ use native.Mathlib.Omega.{arith}
 use mathlib.Core.Path.{◌≡◌, refl, sym, ◌∙◌}
 use mathlib.Core.Bool.{Bool, true, false, false≢true, not, cond}
 use mathlib.Core.List.{List, [], ◌∷◌}
-use mathlib.Core.Option.{none, some}
 use lib.Dec.{eqb}
 use lib.ListN.{get_or}
 use Rattle.laws.proofs.TestLaws.{left, right, and_left, and_right}
 use Rattle.wire.specs.declared.form.Row.{Row}
 use Rattle.wire.specs.declared.zigzag.Coding.TheVariants.{Plain}
-use Rattle.wire.specs.declared.zigzag.Coded.{Coded}
-use Rattle.wire.specs.declared.zigzag.Coded.TheVariants.{Number, TooWide}
+use Rattle.std.specs.Prelude.{Option, Some, None}
 use Rattle.wire.specs.Form.{limit}
 use Rattle.wire.specs.Zigzag.{wire_of, code_of}
 use Rattle.wire.proofs.ZigzagLaws.{coded-inv}
-use Rattle.runs.specs.Run.{on_coded}
-use Rattle.laws.specs.Options.{is_some}
+use Rattle.laws.specs.Options.{is_some, on_option}
 use Rattle.block_items.specs.Events.{Event, enc_events}
 use Rattle.block_items.specs.Items.{num, run}
 use Rattle.prft_value.specs.declared.Prft.{Prft}
@@ -35,7 +32,7 @@ unfolding event_items times_fit
 events-fit F [] e = refl
 events-fit F (y ∷ ys) e = by (times_fit F (y ∷ ys)) e
   where
-    by : (b : Bool) → is_some (cond b (some (run 25 (enc_events F (y ∷ ys)) ∷ [])) none) ≡ true → b ≡ true
+    by : (b : Bool) → is_some (cond b (Some (run 25 (enc_events F (y ∷ ys)) ∷ [])) None) ≡ true → b ≡ true
     by true q = refl
     by false q = absurd (false≢true q)
 
@@ -76,9 +73,9 @@ plain_fits : (F : List Row) (id old v : ℕ) → is_some (number_item id (code_o
 unfolding number_item wire_of
 plain_fits F id old v h = go (code_of F Plain old v) refl h
   where
-    go : (c : Coded) → code_of F Plain old v ≡ c → is_some (on_coded c (λ z. some (num id z ∷ [])) none) ≡ true → v < limit F
-    go (Number z) q e = let k = coded-inv F Plain old v q in omega (arith, k.0, k.1)
-    go TooWide q e = absurd (false≢true e)
+    go : (c : Option ℕ) → code_of F Plain old v ≡ c → is_some (on_option c (λ z. Some (num id z ∷ [])) None) ≡ true → v < limit F
+    go (Some z) q e = let k = coded-inv F Plain old v q in omega (arith, k.0, k.1)
+    go None q e = absurd (false≢true e)
 
 -- the times of the `prft` of a full object
 times-small : (F : List Row) (s : List ℕ) (p : Prft) → is_some (times_items F false s p) ≡ true → p.stands ≡ true → (p.ntp.0 < limit F) × (p.media.0 < limit F)

@@ -23,11 +23,13 @@ use Rattle.track.specs.declared.Track.{Track}
 use Rattle.prft_value.specs.declared.Prft.{Prft}
 use Rattle.cmaf_read_chunk.specs.declared.read.Chunk.{Chunk}
 use Rattle.cmaf_read_chunk.specs.Accepted.{bmdt, prft}
-use Rattle.locmaf_write_tuples.specs.declared.tuples.Weight.{Weight}
+use Rattle.std.specs.Prelude.{Option, Some, None}
+use Rattle.std.specs.Option.{unwrap_or}
+use Rattle.locmaf_write_tuples.proofs.ItemLaws.{weighed-fits, weighed-bytes}
 use Rattle.locmaf_write_tuples.specs.Items.{bytes_of, weight_most, WeighedAs}
 use Rattle.encoder.specs.declared.front.Plan.{Plan}
 use Rattle.encoder.specs.Object.{header_of, block_items, object_of, may_delta, gives_delta, fits_ok, front}
-use Rattle.encoder.specs.Planned.{Encodable, Held, front_bytes, Sendable, PlannedAs}
+use Rattle.encoder.specs.Planned.{Encodable, Held, front_bytes, Sendable, Planned, PlannedAs}
 use Rattle.encoder.proofs.GivenLaws.{prft-is}
 
 -- ---- the kind of object
@@ -52,9 +54,9 @@ module _ (F : List Row) (s c : List ℕ) (wish : Bool) where
   unfolding gives_delta ◌and◌
   gives-not-may m = rw m
 
-  pub gives-not-can : {d : Weight} → WeighedAs F (block_items F s c true) weight_most d → d.fits ≡ false → gives_delta F s c wish ≡ false
+  pub gives-not-can : {d : Option ℕ} → WeighedAs F (block_items F s c true) weight_most d → d ≡ None → gives_delta F s c wish ≡ false
   unfolding gives_delta ◌and◌
-  gives-not-can w f = let n : is_some (block_items F s c true) ≡ false = sym w.fits ∙ f in go (may_delta s (prft c) wish) n
+  gives-not-can w f = let n : is_some (block_items F s c true) ≡ false = sym (weighed-fits w) ∙ ap is_some f in go (may_delta s (prft c) wish) n
     where
       go : (m : Bool) → is_some (block_items F s c true) ≡ false → (m and is_some (block_items F s c true)) ≡ false
       go true n = n
@@ -65,30 +67,46 @@ module _ (F : List Row) (s c : List ℕ) (wish : Bool) where
     unfolding fits_ok ◌and◌
     fits-is = rw small
 
+    -- a block of n bytes
+    module _ (delta : Bool) {d : Option ℕ} (w : WeighedAs F (block_items F s c delta) weight_most d) {n : ℕ} (is : d ≡ Some n) where
+      block-fits : is_some (block_items F s c delta) ≡ true
+      block-fits = sym (weighed-fits w) ∙ ap is_some is
+
+      planned : {follow : Bool} → delta ≡ gives_delta F s c wish → Planned F s c wish (record { delta = delta; follow = follow; block = n })
+      planned k =
+          record {
+            kind = k;
+            all-fit = block-fits;
+            block = ap (λ (o : Option ℕ). unwrap_or o 0) (sym is) ∙ weighed-bytes w block-fits;
+            small = let le : unwrap_or d 0 ≤ weight_most = w.small in rw is at le;
+          }
+
     -- the plan for a delta
-    pub planned-delta : {d : Weight} {follow : Bool} → may_delta s (prft c) wish ≡ true → WeighedAs F (block_items F s c true) weight_most d → d.fits ≡ true
-        → PlannedAs F s c wish (record { fits = true; delta = true; follow = follow; block = d.bytes })
-    planned-delta m w f =
-        let e : is_some (block_items F s c true) ≡ true = sym w.fits ∙ f in
-        let g : gives_delta F s c wish ≡ true = gives m e in
+    pub planned-delta : {d : Option ℕ} {n : ℕ} {follow : Bool} → may_delta s (prft c) wish ≡ true → WeighedAs F (block_items F s c true) weight_most d → d ≡ Some n
+        → PlannedAs F s c wish (Some (record { delta = true; follow = follow; block = n }))
+    planned-delta m w is =
+        let g : gives_delta F s c wish ≡ true = gives m (block-fits true w is) in
         record {
           answered = sym (fits-is ∙ ap (λ (b : Bool). b || is_some (block_items F s c false)) g);
-          kind = λ z. sym g;
-          all-fit = λ z. e;
-          block = λ z. w.bytes e;
-          small = omega (arith, w.small);
+          plan = planned true w is (sym g);
         }
 
     -- and for a full object
-    pub planned-full : {d : Weight} {follow : Bool} → gives_delta F s c wish ≡ false → WeighedAs F (block_items F s c false) weight_most d
-        → PlannedAs F s c wish (record { fits = d.fits; delta = false; follow = follow; block = d.bytes })
-    planned-full g w =
+    pub planned-full : {d : Option ℕ} {n : ℕ} {follow : Bool} → gives_delta F s c wish ≡ false → WeighedAs F (block_items F s c false) weight_most d → d ≡ Some n
+        → PlannedAs F s c wish (Some (record { delta = false; follow = follow; block = n }))
+    planned-full g w is =
         record {
-          answered = w.fits ∙ sym (fits-is ∙ ap (λ (b : Bool). b || is_some (block_items F s c false)) g);
-          kind = λ z. sym g;
-          all-fit = λ z. sym w.fits ∙ z;
-          block = λ z. w.bytes (sym w.fits ∙ z);
-          small = omega (arith, w.small);
+          answered = sym (block-fits false w is) ∙ sym (fits-is ∙ ap (λ (b : Bool). b || is_some (block_items F s c false)) g);
+          plan = planned false w is (sym g);
+        }
+
+    -- there is none
+    pub planned-none : {d : Option ℕ} → gives_delta F s c wish ≡ false → WeighedAs F (block_items F s c false) weight_most d → d ≡ None
+        → PlannedAs F s c wish None
+    planned-none g w is =
+        record {
+          answered = ap is_some (sym is) ∙ weighed-fits w ∙ sym (fits-is ∙ ap (λ (b : Bool). b || is_some (block_items F s c false)) g);
+          plan = tt;
         }
 
 -- a delta may be tried only where one is wished for
@@ -127,19 +145,19 @@ module _ {F : List Row} {s c : List ℕ} {a : Plan} (p : Sendable F s c a) where
         length-append (encode F a.block) (bytes_of F (block_items F s c a.delta)),
       )
 
-module _ (form : Form) {s c : List ℕ} {wish : Bool} {a : Plan} (p : PlannedAs (rows form) s c wish a) (f : a.fits ≡ true) where
+module _ (form : Form) {s c : List ℕ} {wish : Bool} {a : Plan} (p : Planned (rows form) s c wish a) where
   abbrev F : List Row
   F = rows form
 
   -- what was planned can be written
   pub planned-sendable : Sendable F s c a
   planned-sendable =
-      record { held = λ d. gives-held F s c wish (sym (p.kind f) ∙ d); all-fit = p.all-fit f; block = p.block f }
+      record { held = λ d. gives-held F s c wish (sym p.kind ∙ d); all-fit = p.all-fit; block = p.block }
 
   -- and is the front
   pub planned-front : object_of F s c a.delta ≡ front F s c wish
   unfolding front
-  planned-front = ap (object_of F s c) (p.kind f)
+  planned-front = ap (object_of F s c) p.kind
 
   -- its length
   pub front_length : front_bytes F a ≡ length (front F s c wish)

@@ -19,6 +19,7 @@ use Rattle.cmaf_read_shape.specs.Parts.{body_of, end_of}
 use Rattle.share_words.specs.Share.{accepted_at}
 use Rattle.slots.specs.Share.{track_of}
 use Rattle.slots.specs.Table.{out}
+use Rattle.std.specs.Prelude.{Some, None}
 use Rattle.answers.specs.Took.{took}
 use Rattle.answers.specs.declared.answer.Answer.{Answer}
 use Rattle.answers.specs.Answered.{answered, AnsweredAs}
@@ -56,42 +57,39 @@ module _ (form : Form) (t : Track) (s c : List ℕ) (k : Chunk) (ws x : List ℕ
 
   -- ---- the returns
 
-  module _ (wish : Bool) (output : List ℕ) (a : Plan) (p : PlannedAs F s c wish a) where
+  module _ (wish : Bool) (output : List ℕ) where
     -- there is no object for it
-    pub unfit : not a.fits ≡ true → refusing output s 9 ≡ on_accepted F wish c output s
+    pub unfit : PlannedAs F s c wish None → refusing output s 9 ≡ on_accepted F wish c output s
     unfolding last_rungs
-    unfit h = broken _ 9 _ _ _ (failed p.answered h)
+    unfit p = broken _ 9 _ _ _ (sym p.answered)
 
-    module _ (h : not a.fits ≡ false) (n : ℕ) (q : n ≡ front_bytes F a) where
-      fit : a.fits ≡ true
-      fit = not-false _ h
-
+    module _ (a : Plan) (p : PlannedAs F s c wish (Some a)) (n : ℕ) (q : n ≡ front_bytes F a) where
       long : n ≡ length (front F s c wish)
-      long = q ∙ front_length form p fit
+      long = q ∙ front_length form p.plan
 
       -- what its length is, is at most as much as there is
       pub room : (m : ℕ) → n ≤ m → length (object_of F s c a.delta) ≤ m
-      room m l = omega (arith, long, ap length (planned-front form p fit))
+      room m l = omega (arith, long, ap length (planned-front form p.plan))
 
       -- there is no room for it
       pub short : length output < n → refusing output s 17 ≡ on_accepted F wish c output s
       unfolding last_rungs
-      short l = passed _ 9 _ _ _ (held p.answered h) (broken _ 17 _ _ _ (lt-leb (length (front F s c wish)) (length output) (omega (arith, long))))
+      short l = passed _ 9 _ _ _ (sym p.answered) (broken _ 17 _ _ _ (lt-leb (length (front F s c wish)) (length output) (omega (arith, long))))
 
       -- there is
       pub done-is : n ≤ length output → {r : Answer} {after words : List ℕ} → WrittenAs F s c a k x output r after words
           → AnsweredAs (on_accepted F wish c output s) c r after words
       unfolding last_rungs kept
       done-is l {r = ans} {after} {words} g =
-          let f = wrote-front (wrote_as (planned-front form p fit) g.written) in
-          let d : a.delta ≡ gives_delta F s c wish = p.kind fit in
+          let f = wrote-front (wrote_as (planned-front form p.plan) g.written) in
+          let d : a.delta ≡ gives_delta F s c wish = p.plan.kind in
           let r : k.prft ≡ prft c = ap (λ (z : Chunk). z.prft) e.accepted.chunk-is in
           let v : x ≡ fields (track_of s) c = e.accepted.set_is ∙ ap (λ (u : Track). fields u c) e.on-share.track-is in
           let y : words ≡ kept F wish c output s = g.kept ∙ (λ i. kept_words (d i) (get_or s accepted_at 0) (r i) (v i) (part_length i) s) in
           record {
             so =
                 ap (λ (z : Answer). answered c z after words) g.answer
-                ∙ passed _ 9 _ _ _ (held p.answered h)
+                ∙ passed _ 9 _ _ _ (sym p.answered)
                 (passed _ 17 _ _ _ (le-leb (length (front F s c wish)) (length output) (omega (arith, long)))
                 ((λ i. out (took 0 (f.0 i) (part_bytes i) (f.1 i)) (y i)) ∙ top _ _));
             inside = subst (λ (z : Answer). end_of z.payload ≤ length c) (sym g.answer) part-in;

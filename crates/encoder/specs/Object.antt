@@ -1,7 +1,6 @@
 -- The object that a chunk becomes. 01, "Full objects", "Delta objects", "Events".
 -- ==== The rules
-use Rattle.std.specs.Prelude.{ℕ, Bool, true, false, cond, not, ◌&&◌, ◌||◌, List, [], ◌∷◌, ◌++◌, eqb, leb, length, get_or, drop}
-use Rattle.std.proofs.Math.Option.{none, some}
+use Rattle.std.specs.Prelude.{ℕ, Bool, true, false, cond, not, ◌&&◌, ◌||◌, List, [], ◌∷◌, ◌++◌, eqb, leb, length, get_or, drop, Some, None}
 use Rattle.laws.specs.Tests.{◌and◌}
 use Rattle.constants.specs.Ids.{full_id, delta_id}
 use Rattle.constants.specs.Maxima.{number_most}
@@ -23,12 +22,12 @@ use Rattle.locmaf_write_prft.specs.Prft.{times_items, version_items, flags_items
 
 -- 01: "Id 23 from `styp`", in a full object; in a delta "Id 23 never" (D61)
 unfoldable pub brand_items : Bool → List ℕ → Items
-brand_items delta names = items_if (not delta && not (eqb (length names) 0)) (some (run 23 names ∷ []))
+brand_items delta names = items_if (not delta && not (eqb (length names) 0)) (Some (run 23 names ∷ []))
 
 -- 01: "25 from `emsg`"; in a delta "25 whole"
 unfoldable pub event_items : List Row → List Event → Items
 event_items F [] = nothing
-event_items F (e ∷ es) = cond (times_fit F (e ∷ es)) (some (run 25 (enc_events F (e ∷ es)) ∷ [])) none
+event_items F (e ∷ es) = cond (times_fit F (e ∷ es)) (Some (run 25 (enc_events F (e ∷ es)) ∷ [])) None
 
 -- 01: "Full objects (23)", "Delta objects (25)"
 unfoldable pub header_of : Bool → ℕ

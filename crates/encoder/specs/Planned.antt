@@ -1,10 +1,11 @@
 -- What the code works out before it writes.
 -- ==== What only mirrors the code
-use Rattle.std.specs.Prelude.{ℕ, ◌+◌, ◌≤◌, ◌≡◌, Bool, true, ◌&&◌, List, length, get_or, drop}
+use Rattle.std.specs.Prelude.{ℕ, ◌+◌, ◌≤◌, ◌≡◌, Bool, true, false, ◌&&◌, Option, List, length, get_or, drop}
+use Rattle.std.specs.Option.{IfSome}
 use Rattle.constants.specs.Maxima.{brand_bytes_most, event_bytes_most}
 use Rattle.wire.specs.declared.form.Row.{Row}
 use Rattle.wire.specs.Varint.{size_of}
-use Rattle.laws.specs.Options.{is_some}
+use Rattle.laws.specs.Options.{is_some, on_option}
 use Rattle.laws.specs.Writes.{Wrote}
 use Rattle.field_table.specs.Lines.{set_len}
 use Rattle.field_set.specs.Lawful.{lawful}
@@ -99,9 +100,19 @@ pub record WrittenAs (F : List Row) (s c : List ℕ) (a : Plan) (k : Chunk) (x o
   pub kept : words ≡ kept_words a.delta (get_or s accepted_at 0) k.prft x k.payload.len s
 
 -- the plan: 0 and the kind of object with its block's length, or 9
-pub record PlannedAs (F : List Row) (s c : List ℕ) (wish : Bool) (a : Plan) : Type 0 where
-  pub answered : a.fits ≡ fits_ok F s c wish
-  pub kind : a.fits ≡ true → a.delta ≡ gives_delta F s c wish
-  pub all-fit : a.fits ≡ true → is_some (block_items F s c a.delta) ≡ true
-  pub block : a.fits ≡ true → a.block ≡ length (bytes_of F (block_items F s c a.delta))
+pub record Planned (F : List Row) (s c : List ℕ) (wish : Bool) (a : Plan) : Type 0 where
+  pub kind : a.delta ≡ gives_delta F s c wish
+  pub all-fit : is_some (block_items F s c a.delta) ≡ true
+  pub block : a.block ≡ length (bytes_of F (block_items F s c a.delta))
   pub small : a.block ≤ weight_most
+
+pub record PlannedAs (F : List Row) (s c : List ℕ) (wish : Bool) (o : Option Plan) : Type 0 where
+  pub answered : is_some o ≡ fits_ok F s c wish
+  pub plan : IfSome o (Planned F s c wish)
+
+-- the kind of object that was weighed last: the planned one, and a full one where none fits
+abbrev pub planned_delta : Option Plan → Bool
+planned_delta o = on_option o (λ a. a.delta) false
+
+abbrev pub planned_follow : Option Plan → Bool
+planned_follow o = on_option o (λ a. a.follow) false

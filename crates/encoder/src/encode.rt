@@ -82,10 +82,9 @@ fn accept(
 {
     let mut kept = [0usize; KEPT];
     let follow = front::follows(t, wish, s, x);
-    let a = front::choose(form, t, wish, follow, s, k, events, x, &mut kept);
-    if !a.fits {
+    let Some(a) = front::choose(form, t, wish, follow, s, k, events, x, &mut kept) else {
         return answer::refused(9);
-    }
+    };
     if output.len() < front::front_length(form, a) {
         return answer::refused(17);
     }

@@ -9,7 +9,7 @@ ghost use Rattle.counters.specs.Follow.{Behind};
 ghost use Rattle.locmaf_write_tuples.specs.Items.{weight_most};
 ghost use Rattle.locmaf_write_block.specs.Fields.{kept_len, Kept};
 ghost use Rattle.encoder.specs.Object.{header_of, may_delta, object_of};
-ghost use Rattle.encoder.specs.Planned.{Encodable, ReadOfOne, OfEach, front_bytes, Sendable, Leaves, PlannedAs};
+ghost use Rattle.encoder.specs.Planned.{Encodable, ReadOfOne, OfEach, front_bytes, Sendable, Leaves, PlannedAs, planned_delta, planned_follow};
 
 use crate::properties;
 use cmaf_read_chunk::read::Chunk;
@@ -20,10 +20,9 @@ use share_words::share;
 use track::Track;
 use wire::form::Form;
 
-// What is to be written: a delta or a full object with a block of so many bytes, if one fits.
+// What is to be written: a delta or a full object with a block of so many bytes.
 #[derive(Clone, Copy)]
 pub struct Plan {
-    pub fits: bool,
     pub delta: bool,
     pub follow: bool,
     pub block: usize,
@@ -62,33 +61,31 @@ pub fn choose(
     ws: &[u64],
     x: &[u64],
     kept: &mut [usize],
-) -> Plan
+) -> Option<Plan>
     requires read_of_one { ReadOfOne (rows form) t s.now k ws.now x.now }
     requires leaves { (wish ≡ true → Leaves t true s.now x.now follow) × (length kept.old ≡ kept_len) }
     ensures { OfEach (rows form) t s.now k ws.now x.now
         (λ c. PlannedAs (rows form) s.now c wish result)
-        × Leaves t result.delta s.now x.now result.follow
-        × Kept (rows form) t result.delta result.follow (drop set_at s.now) x.now kept.new }
+        × Leaves t (planned_delta result) s.now x.now (planned_follow result)
+        × Kept (rows form) t (planned_delta result) (planned_follow result) (drop set_at s.now) x.now kept.new }
 {
     let p = k.prft;
     if may_delta(wish, s, p) {
         let d = properties::block_size(form, t, true, follow, s, k, ws, x, &mut *kept);
-        if d.fits {
-            return Plan {
-                fits: true,
+        if let Some(block) = d {
+            return Some(Plan {
                 delta: true,
                 follow,
-                block: d.bytes,
-            };
+                block,
+            });
         }
     }
-    let f = properties::block_size(form, t, false, false, s, k, ws, x, kept);
-    Plan {
-        fits: f.fits,
+    let block = properties::block_size(form, t, false, false, s, k, ws, x, kept)?;
+    Some(Plan {
         delta: false,
         follow: false,
-        block: f.bytes,
-    }
+        block,
+    })
 }
 
 fn header_of(delta: bool) -> u64

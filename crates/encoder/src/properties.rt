@@ -19,7 +19,6 @@ use field_table::lines;
 use locmaf_write_block::{deletions, set};
 use locmaf_write_prft::prft;
 use locmaf_write_tuples::tuples;
-use locmaf_write_tuples::tuples::Weight;
 use media::clocks::TrackTicks;
 use share_words::share;
 use track::Track;
@@ -28,15 +27,15 @@ use wire::form::Form;
 // ---- id 23: the brands of a styp without its minor version
 
 // What brands of a `styp` with a body of n bytes take, whichever they are.
-fn brands_size(form: Form, delta: bool, n: usize) -> Weight
+fn brands_size(form: Form, delta: bool, n: usize) -> Option<usize>
     requires { BrandBytes n }
     ensures { (names : List ℕ) → length names ≡ n - 4
         → WeighedAs (rows form) (brand_items delta names) (pair_most + brand_bytes_most) result }
 {
     if delta | (n == 0) {
-        return tuples::whole(0);
+        return Some(0);
     }
-    tuples::whole(tuples::body_size(form, ids::BRANDS, n - 4))
+    Some(tuples::body_size(form, ids::BRANDS, n - 4))
 }
 
 fn put_brands(form: Form, delta: bool, c: &[u8], body: Part, out: &mut [u8], at: usize) -> usize
@@ -65,19 +64,19 @@ fn events_size(
     ws: &[u64],
     count: usize,
     list: usize,
-) -> Weight
+) -> Option<usize>
     requires { AllWords ws.now count × (list ≤ event_bytes_most) }
     ensures { (c : List ℕ) → Recorded (rows form) t bmdt.0 c ws.now count list
         → WeighedAs (rows form) (event_items (rows form) (sent_of t bmdt.0 c ws.now count))
         (pair_most + event_bytes_most) result }
 {
     if count == 0 {
-        return tuples::whole(0);
+        return Some(0);
     }
-    Weight {
-        fits: locmaf_write_events::records::times_fit(form, t, bmdt, ws, count),
-        bytes: tuples::body_size(form, ids::EVENTS, list),
+    if !locmaf_write_events::records::times_fit(form, t, bmdt, ws, count) {
+        return None;
     }
+    Some(tuples::body_size(form, ids::EVENTS, list))
 }
 
 fn put_events(
@@ -119,7 +118,7 @@ pub fn block_size(
     ws: &[u64],
     x: &[u64],
     kept: &mut [usize],
-) -> Weight
+) -> Option<usize>
     requires read_of_one { ReadOfOne (rows form) t s.now k ws.now x.now }
     requires held { Held delta s.now × Leaves t delta s.now x.now follow × (length kept.old ≡ kept_len) }
     ensures { OfEach (rows form) t s.now k ws.now x.now
@@ -136,7 +135,7 @@ pub fn block_size(
     let flags = prft::flags_size(form, delta, p, s);
     let happened = events_size(form, t, TrackTicks(x[lines::BMDT]), ws, k.events, k.list);
     let gone = deletions::deletions_size(form, b, r, x);
-    kept[set::GONE] = gone.bytes;
+    kept[set::GONE] = gone.unwrap_or(0);
     let last = tuples::both(flags, tuples::both(happened, gone));
     tuples::both(
         fields,

@@ -1,7 +1,7 @@
 -- What the checker computes of the example: no rule refuses it, its numbers fit a full object, its payload and its time. Assumes nothing.
 use Prim.Native.Nat.{ℕ, ◌-◌, ◌^◌}
 use mathlib.Core.Path.{◌≡◌, refl}
-use mathlib.Core.Bool.{Bool, true, false, ◌||◌}
+use mathlib.Core.Bool.{Bool, true, false, or-true}
 use mathlib.Core.List.{List, [], ◌∷◌, ◌++◌}
 use lib.Dec.{leb}
 use Rattle.laws.specs.ByLength.{within, by_length}
@@ -102,8 +102,4 @@ late = computed.1
 -- a chunk that fits a full object fits whatever the wish
 pub fits : {y time : ℕ} → Computed y time → (wish : Bool) (x : ℕ) (rest : List ℕ) → fits_ok F (with rest) (example y x) wish ≡ true
 unfolding fits_ok
-fits {y} q wish x rest = both _ _ (q.small x) (rw (q.full x rest) (by (gives_delta F (with rest) (example y x) wish)))
-  where
-    by : (d : Bool) → (d || true) ≡ true
-    by true = refl
-    by false = refl
+fits {y} q wish x rest = both _ _ (q.small x) (rw (q.full x rest) (or-true (gives_delta F (with rest) (example y x) wish)))

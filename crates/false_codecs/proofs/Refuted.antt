@@ -5,9 +5,9 @@ use native.Mathlib.Omega.{arith}
 use mathlib.Core.Path.{◌≡◌, refl, sym, ◌∙◌, ap, subst}
 use mathlib.Core.Bool.{Bool, true, false, cond}
 use mathlib.Core.List.{List, [], ◌∷◌, ◌++◌}
-use lib.ListN.{length, get_or, drop, length-append}
-use lib.Seq.{drop_at}
+use lib.ListN.{length, get_or, length-append}
 use Rattle.laws.specs.Tests.{all_le}
+use Rattle.laws.proofs.ListLaws.{fronts-same}
 use Rattle.share_words.specs.Share.{held_at}
 use Rattle.slots.specs.Share.{track_of}
 use Rattle.slots.specs.Table.{Out}
@@ -51,7 +51,7 @@ refuses-later-fails k m = let e : suc k ≡ 0 = (later-becomes (refuses_all k) m
 ends : (xs ys ps qs : List ℕ) → xs ++ ps ≡ ys ++ qs → length ps ≡ length qs → ps ≡ qs
 ends xs ys ps qs e l =
     let n : length xs ≡ length ys = omega (arith, ap length e, length-append xs ps, length-append ys qs, l) in
-    sym (drop_at xs ps (length xs) refl) ∙ ap (drop (length xs)) e ∙ drop_at ys qs (length xs) (sym n)
+    (fronts-same xs ys ps qs e n).1
 
 -- no object is that of two payloads
 two-objects : {y time : ℕ} → Computed y time → (s : List ℕ) → object (call y 1 s) s ≡ object (call y 5 s) s → ⊥

@@ -5,7 +5,7 @@ use native.Mathlib.Omega.{arith}
 use mathlib.Core.Path.{◌≡◌, refl, sym, ◌∙◌, ap}
 use mathlib.Core.Bool.{Bool, true, false, cond, not}
 use mathlib.Core.List.{List, [], ◌∷◌, ◌++◌, map, append_assoc, append-nil}
-use mathlib.Core.Option.{none, some}
+use Rattle.std.specs.Prelude.{Some, None}
 use borrow.Author.Tests.{eqb-true, le-leb}
 use lib.Dec.{eqb, leb}
 use lib.ListN.{length, get_or, set, drop, replicate, length-append, length-replicate, replicate-append-replicate, get_or-append}
@@ -27,8 +27,8 @@ use Rattle.field_rules.specs.Words.{region_of, regions_of, set_words, no_fields,
 
 -- a field's values have room in its region
 abbrev pub Fits : Line → Held → Type 0
-Fits l none = Unit {0}
-Fits l (some vs) = length vs ≤ l.room
+Fits l None = Unit {0}
+Fits l (Some vs) = length vs ≤ l.room
 
 -- and so have those of every field of the table
 abbrev pub AllFit : (Line → Held) → Type 0
@@ -65,8 +65,8 @@ zeros-drop k n m e = drop-replicate k n 0 ∙ ap (λ (i : ℕ). replicate i 0) e
 -- a region has a word for the mark and its room
 region-length : (l : Line) (h : Held) → Fits l h → length (region_of l h) ≡ 1 + l.room
 unfolding region_of
-region-length l none h = length-replicate {A = ℕ} (1 + l.room) 0
-region-length l (some vs) h = omega (arith, length-append vs (replicate (l.room - length vs) 0), length-replicate {A = ℕ} (l.room - length vs) 0, h)
+region-length l None h = length-replicate {A = ℕ} (1 + l.room) 0
+region-length l (Some vs) h = omega (arith, length-append vs (replicate (l.room - length vs) 0), length-replicate {A = ℕ} (l.room - length vs) 0, h)
 
 -- regions that follow one another fill what they tile
 regions-length : (f : Line → Held) (at : ℕ) (ls : List Line) (end : ℕ) → tiles at ls end ≡ true → RunFits f ls → at + length (regions_of f ls) ≡ end
@@ -133,23 +133,23 @@ words-length b n f h = omega (arith, regions-length f 2 lines set_len tiled (tab
 -- a field stored into an empty region
 store-zeros : (l : Line) (h : Held) → Fits l h → sets (replicate (1 + l.room) 0) 0 (words_of h) ≡ region_of l h
 unfolding region_of
-store-zeros l none h = refl
-store-zeros l (some vs) h =
+store-zeros l None h = refl
+store-zeros l (Some vs) h =
     let k : 0 + length (1 ∷ vs) ≤ length {A = ℕ} (replicate (1 + l.room) 0) = omega (arith, length-replicate {A = ℕ} (1 + l.room) 0) in
     rw (sets-eq (1 ∷ vs) (replicate (1 + l.room) 0) 0 k, zeros-drop (0 + suc (length vs)) (1 + l.room) (l.room - length vs) (omega arith))
 
 -- its words and its values have room
 pub words-fit : (l : Line) (h : Held) → Fits l h → length (words_of h) ≤ 1 + l.room
-words-fit l none h = omega arith
-words-fit l (some vs) h = omega arith
+words-fit l None h = omega arith
+words-fit l (Some vs) h = omega arith
 
 numbers_fit : (l : Line) (h : Held) → Fits l h → length (numbers h) ≤ l.room
-numbers_fit l none h = omega arith
-numbers_fit l (some vs) h = h
+numbers_fit l None h = omega arith
+numbers_fit l (Some vs) h = h
 
 -- among other words
 store-here : (pre : List ℕ) (l : Line) (h : Held) (post : List ℕ) → length pre ≡ l.place → Fits l h
-    → sets (pre ++ (region_of l none ++ post)) l.place (words_of h) ≡ pre ++ (region_of l h ++ post)
+    → sets (pre ++ (region_of l None ++ post)) l.place (words_of h) ≡ pre ++ (region_of l h ++ post)
 unfolding region_of
 store-here pre l h post e fit =
     let n : length pre + 0 ≡ l.place = omega arith in
@@ -169,7 +169,7 @@ store-run f pre (l ∷ ls) post end t h =
     let r : List ℕ = region_of l (f l) in
     let n : length pre + 1 + l.room ≡ length (pre ++ r) = omega (arith, length-append pre r, region-length l (f l) fit) in
     let t' : tiles (length (pre ++ r)) ls end ≡ true = rw n at (right _ _ t) in
-    ap (λ (z : List ℕ). store_all f ls (sets (pre ++ z) l.place (words_of (f l)))) (append_assoc (region_of l none) (regions_of no_fields ls) post)
+    ap (λ (z : List ℕ). store_all f ls (sets (pre ++ z) l.place (words_of (f l)))) (append_assoc (region_of l None) (regions_of no_fields ls) post)
     ∙ ap (store_all f ls) (store-here pre l (f l) (regions_of no_fields ls ++ post) e fit ∙ sym (append_assoc pre r (regions_of no_fields ls ++ post)))
     ∙ store-run f (pre ++ r) ls post end t' (run_fits f l ls h)
     ∙ append_assoc pre r (regions_of f ls ++ post)
@@ -283,16 +283,16 @@ mark_of h = cond (is_some h) 1 0
 -- a region in one form, whether its field stands or not
 region-is : (l : Line) (h : Held) → region_of l h ≡ mark_of h ∷ (numbers h ++ replicate (l.room - length (numbers h)) 0)
 unfolding region_of
-region-is l none =
+region-is l None =
     let e : 1 + l.room ≡ suc l.room = omega arith in
     let z : l.room - 0 ≡ l.room = omega arith in
     rw (e, z)
-region-is l (some vs) = refl
+region-is l (Some vs) = refl
 
 -- what is in use of a region
-pub in-use-is : (h : Held) (k : ℕ) → ((vs : List ℕ) → h ≡ some vs → length vs ≡ k) → in_use (mark_of h) k ≡ length (numbers h)
-in-use-is none k e = sym (unused 0 k refl)
-in-use-is (some vs) k e = sym (used 1 k (λ z. omega arith)) ∙ sym (e vs refl)
+pub in-use-is : (h : Held) (k : ℕ) → ((vs : List ℕ) → h ≡ Some vs → length vs ≡ k) → in_use (mark_of h) k ≡ length (numbers h)
+in-use-is None k e = sym (unused 0 k refl)
+in-use-is (Some vs) k e = sym (used 1 k (λ z. omega arith)) ∙ sym (e vs refl)
 
 -- what a region says: the mark, the values, and zeros behind them
 module _ (l : Line) (h : Held) (w : List ℕ) (o : Around l h w) where
@@ -325,7 +325,7 @@ module _ (l : Line) (h : Held) (w : List ℕ) (o : Around l h w) where
       (ap all_zero (slice-between pre zeros o.post) ∙ all_zero-zeros (l.room - length (numbers h)))
 
 -- the values of an id, by the region of its line
-pub around-id : (id k : ℕ) (l : Line) (h : Held) (w : List ℕ) → line_for id lines ≡ l → Around l h w → ((vs : List ℕ) → h ≡ some vs → length vs ≡ k)
+pub around-id : (id k : ℕ) (l : Line) (h : Held) (w : List ℕ) → line_for id lines ≡ l → Around l h w → ((vs : List ℕ) → h ≡ Some vs → length vs ≡ k)
     → values_of id k w ≡ numbers h
 unfolding values_of
 around-id id k l h w e o q = rw (e, around-mark l h w o, in-use-is h k q) (around-values l h w o)
@@ -376,12 +376,12 @@ module _ (f : Line → Held) (fit : Fits (get_or lines subsamples_line spare) (f
   eleven-mark =
       ap (λ (p : ℕ). get_or (store_all f (slice subsamples_line (subsamples_line + 1) lines) (set_words 0 n no_fields)) p 0) (sym eleven-place) ∙ around-mark _ _ _ eleven-around
 
-  pub eleven-values : ((vs : List ℕ) → f (get_or lines subsamples_line spare) ≡ some vs → length vs ≡ n)
+  pub eleven-values : ((vs : List ℕ) → f (get_or lines subsamples_line spare) ≡ Some vs → length vs ≡ n)
       → values_of 11 n (store_all f (slice subsamples_line (subsamples_line + 1) lines) (set_words 0 n no_fields)) ≡ numbers (f (get_or lines subsamples_line spare))
   eleven-values e = around-id 11 n _ _ _ eleven-for eleven-around e
 
 -- where all fields have room
-pub eleven-words : (f : Line → Held) → AllFit f → (n : ℕ) → ((vs : List ℕ) → f (get_or lines subsamples_line spare) ≡ some vs → length vs ≡ n)
+pub eleven-words : (f : Line → Held) → AllFit f → (n : ℕ) → ((vs : List ℕ) → f (get_or lines subsamples_line spare) ≡ Some vs → length vs ≡ n)
     → values_of 11 n (store_all f (slice subsamples_line (subsamples_line + 1) lines) (set_words 0 n no_fields)) ≡ numbers (f (get_or lines subsamples_line spare))
 eleven-words f h n e = eleven-values f (h 9 (omega arith)) n e
 
@@ -395,28 +395,28 @@ pub record Within (m : Measure) (l : Line) (vs : List ℕ) : Type 0 where
 
 -- or does not stand
 abbrev pub Keeps : Measure → Line → Held → Type 0
-Keeps m l none = Unit {0}
-Keeps m l (some vs) = Within m l vs
+Keeps m l None = Unit {0}
+Keeps m l (Some vs) = Within m l vs
 
 -- and so has room
 pub keeps-fits : (m : Measure) (l : Line) (h : Held) → Keeps m l h → Fits l h
-keeps-fits m l none k = tt
-keeps-fits m l (some vs) k = omega (arith, k.long, k.room)
+keeps-fits m l None k = tt
+keeps-fits m l (Some vs) k = omega (arith, k.long, k.room)
 
 -- is as long as is wanted
-keeps-long : (m : Measure) (l : Line) (h : Held) → Keeps m l h → (vs : List ℕ) → h ≡ some vs → length vs ≡ wanted l.want m
+keeps-long : (m : Measure) (l : Line) (h : Held) → Keeps m l h → (vs : List ℕ) → h ≡ Some vs → length vs ≡ wanted l.want m
 keeps-long m l h k vs e = let q : Within m l vs = rw e at k in q.long
 
 -- and is within its bound
 keeps_bound : (m : Measure) (l : Line) (h : Held) → Keeps m l h → all_le l.bound (numbers h) ≡ true
 unfolding all_le
-keeps_bound m l none k = refl
-keeps_bound m l (some vs) k = k.bound
+keeps_bound m l None k = refl
+keeps_bound m l (Some vs) k = k.bound
 
 -- a mark is 0 or 1
 mark-le : (h : Held) → leb (mark_of h) 1 ≡ true
-mark-le none = refl
-mark-le (some vs) = refl
+mark-le None = refl
+mark-le (Some vs) = refl
 
 -- its region is lawful
 pub around-region : (m : Measure) (l : Line) (h : Held) (w : List ℕ) → Around l h w → Keeps m l h → region_ok m l w ≡ true
@@ -476,19 +476,19 @@ line-of-id i lt =
 
 -- a mark says whether a field stands
 mark-has : (h : Held) → not (eqb (mark_of h) 0) ≡ is_some h
-mark-has none = refl
-mark-has (some vs) = refl
+mark-has None = refl
+mark-has (Some vs) = refl
 
 -- by what a field is known to be
-around-some : (l : Line) (h : Held) (w : List ℕ) → Around l h w → (vs : List ℕ) → h ≡ some vs → slice (l.place + 1) (l.place + 1 + length vs) w ≡ vs
-around-some l h w o vs e = around-values l (some vs) w (rw e at o)
+around-some : (l : Line) (h : Held) (w : List ℕ) → Around l h w → (vs : List ℕ) → h ≡ Some vs → slice (l.place + 1) (l.place + 1 + length vs) w ≡ vs
+around-some l h w o vs e = around-values l (Some vs) w (rw e at o)
 
-around-some-rest : (l : Line) (h : Held) (w : List ℕ) → Around l h w → Fits l h → (vs : List ℕ) → h ≡ some vs
+around-some-rest : (l : Line) (h : Held) (w : List ℕ) → Around l h w → Fits l h → (vs : List ℕ) → h ≡ Some vs
     → all_zero (slice (l.place + 1 + length vs) (l.place + 1 + l.room) w) ≡ true
-around-some-rest l h w o fit vs e = around-rest l (some vs) w (rw e at o) (rw e at fit)
+around-some-rest l h w o fit vs e = around-rest l (Some vs) w (rw e at o) (rw e at fit)
 
-around-none : (l : Line) (h : Held) (w : List ℕ) → Around l h w → h ≡ none → all_zero (slice (l.place + 1) (l.place + 1 + l.room) w) ≡ true
-around-none l h w o e = rw add-zero at (around-rest l none w (rw e at o) tt)
+around-none : (l : Line) (h : Held) (w : List ℕ) → Around l h w → h ≡ None → all_zero (slice (l.place + 1) (l.place + 1 + l.room) w) ≡ true
+around-none l h w o e = rw add-zero at (around-rest l None w (rw e at o) tt)
 
 module _ (b n : ℕ) (f : Line → Held) (h : AllFit f) where
   -- of a line of the table
@@ -496,15 +496,15 @@ module _ (b n : ℕ) (f : Line → Held) (h : AllFit f) where
     pub word-mark : get_or (set_words b n f) (get_or lines i spare).place 0 ≡ cond (is_some (f (get_or lines i spare))) 1 0
     word-mark = around-mark _ _ _ (words-around b n f h i lt)
 
-    pub word-values : (vs : List ℕ) → f (get_or lines i spare) ≡ some vs
+    pub word-values : (vs : List ℕ) → f (get_or lines i spare) ≡ Some vs
         → slice ((get_or lines i spare).place + 1) ((get_or lines i spare).place + 1 + length vs) (set_words b n f) ≡ vs
     word-values vs e = around-some _ _ _ (words-around b n f h i lt) vs e
 
-    pub word-rest : (vs : List ℕ) → f (get_or lines i spare) ≡ some vs
+    pub word-rest : (vs : List ℕ) → f (get_or lines i spare) ≡ Some vs
         → all_zero (slice ((get_or lines i spare).place + 1 + length vs) ((get_or lines i spare).place + 1 + (get_or lines i spare).room) (set_words b n f)) ≡ true
     word-rest vs e = around-some-rest _ _ _ (words-around b n f h i lt) (h i lt) vs e
 
-    pub word_none : f (get_or lines i spare) ≡ none
+    pub word_none : f (get_or lines i spare) ≡ None
         → all_zero (slice ((get_or lines i spare).place + 1) ((get_or lines i spare).place + 1 + (get_or lines i spare).room) (set_words b n f)) ≡ true
     word_none e = around-none _ _ _ (words-around b n f h i lt) e
 
@@ -525,7 +525,7 @@ module _ (b n : ℕ) (f : Line → Held) (h : AllFit f) where
     unfolding has
     words-has = rw (around-mark _ _ _ words-for) (mark-has (f (line_for id lines)))
 
-    pub words-values : (c : ℕ) → ((vs : List ℕ) → f (line_for id lines) ≡ some vs → length vs ≡ c)
+    pub words-values : (c : ℕ) → ((vs : List ℕ) → f (line_for id lines) ≡ Some vs → length vs ≡ c)
         → values_of id c (set_words b n f) ≡ numbers (f (line_for id lines))
     words-values c e = around-id id c _ _ _ refl words-for e
 

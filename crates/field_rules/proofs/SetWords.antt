@@ -6,7 +6,7 @@ use native.Mathlib.Omega.{arith}
 use mathlib.Core.Path.{◌≡◌, refl, sym, ◌∙◌, ap, ap₂}
 use mathlib.Core.Bool.{Bool, true, false, not, cond}
 use mathlib.Core.List.{List, [], ◌∷◌, ◌++◌}
-use mathlib.Core.Option.{none, some}
+use Rattle.std.specs.Prelude.{Some, None}
 use borrow.Author.Tests.{eqb-true, eqb-false}
 use lib.Dec.{eqb}
 use lib.ListN.{length, get_or, drop, replicate}
@@ -25,7 +25,7 @@ use Rattle.field_rules.specs.Words.{region_of, regions_of, set_words}
 
 -- the field of a line in the words x
 abbrev pub field_in : Track → List ℕ → Line → Held
-field_in t x l = cond (not (eqb (get_or x l.place 0) 0)) (some (slice (l.place + 1) (l.place + 1 + wanted l.want (measure_of t x)) x)) none
+field_in t x l = cond (not (eqb (get_or x l.place 0) 0)) (Some (slice (l.place + 1) (l.place + 1 + wanted l.want (measure_of t x)) x)) None
 
 module _ (t : Track) (x : List ℕ) where
   -- a region is the words of its field
@@ -57,7 +57,7 @@ module _ (t : Track) (x : List ℕ) where
           (zeros-are _ (rw (← q) at f.rest) ∙ ap (λ (m : ℕ). replicate m 0) n))
 
       by : (b : Bool) → eqb mark 0 ≡ b
-          → region_of l (cond (not b) (some (slice (l.place + 1) (l.place + 1 + k) x)) none) ≡ slice l.place (l.place + 1 + l.room) x
+          → region_of l (cond (not b) (Some (slice (l.place + 1) (l.place + 1 + k) x)) None) ≡ slice l.place (l.place + 1 + l.room) x
       by true q =
           let z : mark ≡ 0 = eqb-true _ _ q in
           let one : 1 + l.room ≡ suc (l.room - 0) = omega arith in
@@ -102,7 +102,7 @@ pub held-values : (t : Track) (x : List ℕ) → numbers (field_in t x (get_or l
 unfolding values_of in_use lines line_for wanted
 held-values t x = by (eqb (get_or x subsamples_at 0) 0)
   where
-    by : (b : Bool) → numbers (cond (not b) (some (slice (subsamples_at + 1) ((subsamples_at + 1) + get_or x count_at 0) x)) none) ≡ slice (subsamples_at + 1) ((subsamples_at + 1) + cond b 0 (get_or x count_at 0)) x
+    by : (b : Bool) → numbers (cond (not b) (Some (slice (subsamples_at + 1) ((subsamples_at + 1) + get_or x count_at 0) x)) None) ≡ slice (subsamples_at + 1) ((subsamples_at + 1) + cond b 0 (get_or x count_at 0)) x
     by true = sym (slice_empty (subsamples_at + 1) x)
     by false = refl
 

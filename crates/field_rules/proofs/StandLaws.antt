@@ -5,7 +5,7 @@ use native.Mathlib.Omega.{arith}
 use mathlib.Core.Path.{◌≡◌, sym, ◌∙◌, ap}
 use mathlib.Core.Bool.{true}
 use mathlib.Core.List.{List, [], ◌∷◌, ◌++◌, append_assoc}
-use mathlib.Core.Option.{some}
+use Rattle.std.specs.Prelude.{Some}
 use borrow.Author.Tests.{eqb-false, not-true}
 use lib.ListN.{length, get_or, take, drop, replicate, length-append, get_or-append}
 use lib.Seq.{slice, get_or-drop, drop-drop, drop_at, take-append_seam, drop-append_seam, append_snoc}
@@ -26,7 +26,7 @@ pub record Stand (id : ℕ) (w : List ℕ) (j : ℕ) (vs : List ℕ) : Type 0 wh
   pub is : drop (first_of id + j) w ≡ vs ++ rest
 
 -- those of a field's region
-pub stand-around : {id : ℕ} {vs w : List ℕ} → Around (line_for id lines) (some vs) w → Stand id w 0 vs
+pub stand-around : {id : ℕ} {vs w : List ℕ} → Around (line_for id lines) (Some vs) w → Stand id w 0 vs
 unfolding region_of
 stand-around {id} {vs} {w} o =
     let zeros : List ℕ = replicate ((line_for id lines).room - length vs) 0 in

@@ -1,6 +1,5 @@
 -- A field of the set by its values: what its numbers go by, and what an old one was.
-use Rattle.std.specs.Prelude.{ℕ, zero, suc, ◌+◌, Bool, true, false, cond, not, ◌&&◌, List, [], ◌∷◌, eqb, get_or, take, drop}
-use Rattle.std.proofs.Math.Option.{Option, none, some}
+use Rattle.std.specs.Prelude.{ℕ, zero, suc, ◌+◌, Bool, true, false, cond, not, ◌&&◌, List, [], ◌∷◌, eqb, get_or, take, drop, Option, Some, None}
 use Rattle.std.proofs.Math.Seq.{slice}
 use Rattle.laws.specs.Bytes.{de}
 use Rattle.wire.specs.declared.zigzag.Coding.{Coding}
@@ -19,8 +18,8 @@ abbrev pub Held : Type 0
 Held = Option (List ℕ)
 
 abbrev pub numbers : Option (List ℕ) → List ℕ
-numbers (some zs) = zs
-numbers none = []
+numbers (Some zs) = zs
+numbers None = []
 
 -- the values of a full object stand as they are, those of a delta as distances
 abbrev pub coding_for : Bool → Coding
@@ -61,5 +60,5 @@ old_values held r was l = cond (stood held r l) (slice (l.place + 1) (l.place + 
 
 -- the words of a field: its mark and its values
 abbrev pub words_of : Held → List ℕ
-words_of none = []
-words_of (some vs) = 1 ∷ vs
+words_of None = []
+words_of (Some vs) = 1 ∷ vs

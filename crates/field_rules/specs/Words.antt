@@ -1,6 +1,5 @@
 -- The words of a set of moof fields, by its fields.
-use Rattle.std.specs.Prelude.{ℕ, ◌+◌, ◌-◌, ◌/◌, Bool, cond, List, [], ◌∷◌, ◌++◌, length, replicate}
-use Rattle.std.proofs.Math.Option.{none, some}
+use Rattle.std.specs.Prelude.{ℕ, ◌+◌, ◌-◌, ◌/◌, Bool, cond, List, [], ◌∷◌, ◌++◌, length, replicate, Some, None}
 use Rattle.std.proofs.lemmas.List.Edits.{sets}
 use Rattle.track.specs.declared.Track.{Track}
 use Rattle.field_table.specs.declared.lines.Line.{Line}
@@ -13,8 +12,8 @@ use Rattle.field_rules.specs.Fields.{Held, words_of}
 
 -- a field's region: its mark, its values, and zeros up to its room
 unfoldable pub region_of : Line → Held → List ℕ
-region_of l none = replicate (1 + l.room) 0
-region_of l (some vs) = 1 ∷ (vs ++ replicate (l.room - length vs) 0)
+region_of l None = replicate (1 + l.room) 0
+region_of l (Some vs) = 1 ∷ (vs ++ replicate (l.room - length vs) 0)
 
 unfoldable pub regions_of : (Line → Held) → List Line → List ℕ
 regions_of f [] = []
@@ -38,7 +37,7 @@ was_of t delta r = cond delta (measure_of t r) (record { count = 0; ivs = 0; sum
 
 -- no field stands
 abbrev pub no_fields : Line → Held
-no_fields l = none
+no_fields l = None
 
 -- the words x with each field of a run of lines stored at its place
 unfoldable pub store_all : (Line → Held) → List Line → List ℕ → List ℕ

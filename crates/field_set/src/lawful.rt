@@ -37,12 +37,10 @@ fn tallied(w: &[u64], from: usize, to: usize, most: u64) -> Tally
 {
     let mut ok = true;
     let mut sum = 0;
-    let mut i = from;
-    while i < to {
+    for i in from..to {
         let v = w[i];
         ok = ok & (v <= most);
         sum += (v % 64) as usize;
-        i += 1;
     }
     Tally { ok, sum }
 }
@@ -99,8 +97,7 @@ fn regions_ok(w: &[u64], m: Measure) -> Tested
     let mut ok = d.bits <= U32;
     let mut rest = 0;
     let mut free = lines::SIZES;
-    let mut i = 0;
-    while i < lines::LINES {
+    for i in 0..lines::LINES {
         let mark = w[lines::place_at(i)];
         if mark != 0 {
             let l = lines::line_at(i);
@@ -114,7 +111,6 @@ fn regions_ok(w: &[u64], m: Measure) -> Tested
             free = place + 1 + used;
             ok = ok & ((mark == 1) & within(i, w, place + 1, free, l.bound));
         }
-        i += 1;
     }
     Tested {
         ok: ok & ((rest | scan::bits(w, free, lines::SET)) == 0),

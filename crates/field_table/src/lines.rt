@@ -211,12 +211,10 @@ pub fn length_of(want: Want, m: Measure) -> usize
 pub fn number_of(id: u64) -> usize
     ensures { result ≡ line_number id lines }
 {
-    let mut i = 0;
-    while i < LINES {
+    for i in 0..LINES {
         if line_at(i).id == id {
             return i;
         }
-        i += 1;
     }
     LINES
 }

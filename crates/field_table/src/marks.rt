@@ -34,10 +34,8 @@ pub fn none_stands(w: &[u64]) -> bool
     ensures { result ≡ all_zero (marks_of w.now) }
 {
     let mut all = 0;
-    let mut i = 0;
-    while i < lines::LINES {
+    for i in 0..lines::LINES {
         all = all | w[lines::place_at(i)];
-        i += 1;
     }
     all == 0
 }

@@ -172,10 +172,8 @@ pub fn word_at<R: Env>(rt: &R, i: usize, word: &mut [u8]) -> usize
 fn take_all<R: Env, E: Print>(rt: &R, err: &E, before: Options) -> Options {
     let mut o = before;
     let n = how_many(rt);
-    let mut i = 1;
-    while i < n {
+    for i in 1..n {
         o = take_at(rt, err, o, i);
-        i += 1;
     }
     o
 }

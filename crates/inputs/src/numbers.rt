@@ -109,15 +109,13 @@ pub fn next_line(b: &[u8], p: usize) -> usize
 // The eight numbers of a text that has just these, into the words; false if it has others.
 pub fn eight(b: &[u8], words: &mut [u64; 8]) -> bool {
     let mut p = 0;
-    let mut k = 0;
-    while k < 8 {
+    for k in 0..8 {
         let n = number_at(b, skip_blanks(b, p));
         if !n.stands {
             return false;
         }
         words[k] = n.value;
         p = n.next;
-        k += 1;
     }
     skip_blanks(b, p) == b.len()
 }

@@ -4,19 +4,17 @@ use native.Mathlib.Omega.{arith}
 use mathlib.Core.Path.{◌≡◌, refl}
 use mathlib.Core.Bool.{Bool, true, false, cond, ◌&&◌}
 use mathlib.Core.List.{List, [], ◌∷◌, map}
-use mathlib.Core.Option.{Option, none, some}
 use borrow.Author.Tests.{leb-true}
 use lib.Dec.{eqb, leb}
 use lib.ListN.{length}
+use Rattle.std.specs.Prelude.{Option, Some, None}
+use Rattle.laws.specs.Options.{on_option}
 use Rattle.laws.proofs.SliceLaws.{slice-few}
 use Rattle.laws.proofs.TestLaws.{left, and_left, and_right}
 use Rattle.wire.specs.declared.form.Row.{Row}
 use Rattle.constants.specs.Maxima.{brand_bytes_most, events_most, event_bytes_most, payload_most, number_most}
 use Rattle.track.specs.declared.Track.{Track}
 use Rattle.media.specs.declared.clocks.TrackTicks.{TrackTicks}
-use Rattle.media.specs.declared.clocks.TrackTime.{TrackTime}
-use Rattle.media.specs.declared.clocks.TrackTime.TheVariants.{At, Outside}
-use Rattle.media.specs.Clocks.{on_track}
 use Rattle.locmaf_read_block.specs.declared.records.Record.{Record}
 use Rattle.locmaf_read_block.specs.Records.{records_f}
 use Rattle.block_items.specs.Events.{Event}
@@ -34,12 +32,12 @@ module _ (t : Track) (b : ℕ) where
   unfolding boxed
   boxed-short e h = by (eqb e.timescale 0) (from_bmdt b e.time)
     where
-      by : (own : Bool) (x : TrackTime)
+      by : (own : Bool) (x : Option TrackTicks)
           → Short
-          (cond own (on_track x (λ (time : TrackTicks). with_time e t.timescale time.0) (with_time e e.timescale e.time))
+          (cond own (on_option x (λ (time : TrackTicks). with_time e t.timescale time.0) (with_time e e.timescale e.time))
           (with_time e e.timescale e.time))
-      by true (At x) = h _ _
-      by true Outside = h _ _
+      by true (Some x) = h _ _
+      by true None = h _ _
       by false x = h _ _
 
   all_short : (bs : List ℕ) (rs : List Record) → length bs ≤ event_bytes_most → AllShort (boxes t b (map (event_of bs) rs))
@@ -58,12 +56,12 @@ module _ (t : Track) (b : ℕ) where
 
   listed-short : (F : List Row) (said : Option (List ℕ)) → length (numbers said) ≤ event_bytes_most → AllShort (boxes t b (listed F said))
   unfolding listed events_f
-  listed-short F none h = tt
-  listed-short F (some bs) h = by (records_f F 0 bs) refl
+  listed-short F None h = tt
+  listed-short F (Some bs) h = by (records_f F 0 bs) refl
     where
-      by : (x : Option (List Record)) → records_f F 0 bs ≡ x → AllShort (boxes t b (listed F (some bs)))
-      by none e = rw e tt
-      by (some rs) e = rw e (all_short bs rs h)
+      by : (x : Option (List Record)) → records_f F 0 bs ≡ x → AllShort (boxes t b (listed F (Some bs)))
+      by None e = rw e tt
+      by (Some rs) e = rw e (all_short bs rs h)
 
 -- of an object whose values are right
 module _ (F : List Row) (o s : List ℕ) (h : values_ok F o s ≡ true) where

@@ -2,9 +2,9 @@
 use Prim.Native.Nat.{ℕ, ◌+◌, ◌-◌, ◌%◌, ◌^◌, ◌≤◌}
 use native.Mathlib.Omega.{arith}
 use mathlib.Core.Path.{◌≡◌, refl, sym, ◌∙◌, ap, subst}
-use mathlib.Core.Bool.{Bool, true, false, cond, not, ◌&&◌, false≢true}
+use mathlib.Core.Bool.{Bool, true, false, cond, not, false≢true, not-not}
 use mathlib.Core.List.{List, [], ◌∷◌, ◌++◌}
-use lib.Dec.{eqb, leb}
+use lib.Dec.{eqb}
 use lib.ListN.{length, drop, replicate}
 use lib.Seq.{slice, take-append_seam, drop-append_seam}
 use Rattle.laws.specs.Ladder.{Rung, ◌else◌, ladder, Hold}
@@ -168,14 +168,7 @@ module _ (a : Asked) (d n m : ℕ) (r : List ℕ) (small : m ≤ u32) (apart : n
         Answers (opening Receiver asks (made a n r))
         (ladder ((b else 18) ∷ (not (is_open (made a m r)) else 3) ∷ (lawful_track asks else 4) ∷ []) (λ k. out k (made a m r)) (out 0 (opened asks))))
         lawful-same
-        (ladder-near (open_rungs Receiver asks (made a n r)) (out 0 (opened asks)) (out 0 (opened asks)) (λ h. absurd (false≢true (sym e ∙ not-not h.1.0))))
-      where
-        not-not : not (not (eqb a.track 0)) ≡ true → eqb a.track 0 ≡ true
-        not-not h = by (eqb a.track 0) h
-          where
-            by : (b : Bool) → not (not b) ≡ true → b ≡ true
-            by true q = refl
-            by false q = q
+        (ladder-near (open_rungs Receiver asks (made a n r)) (out 0 (opened asks)) (out 0 (opened asks)) (λ h. absurd (false≢true (sym e ∙ sym (not-not _) ∙ h.1.0))))
 
     -- the start of a group
     pub group-near : Answers (grouping Receiver (made a n r)) (grouping Receiver (made a m r))

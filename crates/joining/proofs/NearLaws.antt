@@ -4,10 +4,10 @@ use native.Mathlib.Omega.{arith}
 use mathlib.Core.Path.{◌≡◌, refl, sym, ◌∙◌, ap}
 use mathlib.Core.Bool.{Bool, true, false, ◌&&◌}
 use mathlib.Core.List.{List, [], ◌∷◌, ◌++◌}
-use mathlib.Core.Option.{Option, none, some}
 use borrow.Author.Tests.{le-leb}
 use lib.Dec.{eqb, leb}
 use lib.ListN.{length, get_or, drop}
+use Rattle.std.specs.Prelude.{Option, Some, None}
 use Rattle.laws.specs.Tests.{◌and◌}
 use Rattle.laws.specs.Ladder.{◌else◌}
 use Rattle.constants.specs.Maxima.{brand_bytes_most, events_most, event_bytes_most, payload_most, number_most}
@@ -58,8 +58,8 @@ unfolding times_of
 prft-near delta says a n m r = go (says 18) refl
   where
     go : (x : Option (List ℕ)) → says 18 ≡ x → prft_of delta says (made a n r) ≡ prft_of delta says (made a m r)
-    go none e = sym (prft-none delta says (made a n r) e) ∙ prft-none delta says (made a m r) e
-    go (some zs) e = prft-some delta says (made a n r) zs e ∙ sym (prft-some delta says (made a m r) zs e)
+    go None e = sym (prft-none delta says (made a n r) e) ∙ prft-none delta says (made a m r) e
+    go (Some zs) e = prft-some delta says (made a n r) zs e ∙ sym (prft-some delta says (made a m r) zs e)
 
 module _ (F : List Row) (o : List ℕ) (a : Asked) (n m : ℕ) (r : List ℕ) where
   abbrev s : List ℕ

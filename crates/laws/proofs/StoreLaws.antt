@@ -6,7 +6,7 @@ use native.Mathlib.Numerals.{add-one}
 use mathlib.Core.Path.{◌≡◌, refl, sym, ◌∙◌, ap}
 use mathlib.Core.List.{List, [], ◌∷◌, ◌++◌, append_assoc}
 use lib.ListN.{length, get_or, set, take, drop, replicate, take-append-drop, length-set}
-use lib.Seq.{sets, set_comm, set-append_left, length-take-le, take-suc-set, drop-set-lt, get_or-set_other}
+use lib.Seq.{sets, sets-eq, drop-drop, set_comm, set-append_left, length-take-le, take-suc-set, drop-set-lt, get_or-set_other}
 use borrow.Rule.Slice.PartMut.{put_mid, mid_of, post_of, mid_len}
 
 -- a run after a run
@@ -61,6 +61,14 @@ put-sets a e xs vs h g l =
     let run : sets (A ++ (M ++ P)) (length A + 0) vs ≡ A ++ (sets M 0 vs ++ P) =
     sets-after vs A (M ++ P) 0 ∙ ap (λ (z : List ℕ). A ++ z) (sets-before vs M P 0 lm) in
     sym (ap (λ (z : List ℕ). sets z a vs) (sym whole) ∙ ap (λ (n : ℕ). sets (A ++ (M ++ P)) n vs) (sym la) ∙ run)
+
+-- where all of the part was written
+pub put-whole : (a k : ℕ) (xs vs : List ℕ) → k ≡ length vs → a + length vs ≤ length xs → put_mid a k xs vs ≡ sets xs a vs
+put-whole a k xs vs e h =
+    rw e
+    (ap (λ (z : List ℕ). take a xs ++ (vs ++ z)) (drop-drop (length vs) a xs)
+    ∙ sym (append_assoc (take a xs) vs (drop (a + length vs) xs))
+    ∙ sym (sets-eq vs xs a h))
 
 -- the list s with 0 from the place i up to the place to
 abbrev pub cleared : List ℕ → ℕ → ℕ → List ℕ

@@ -3,8 +3,7 @@ use Prim.Native.Nat.{ℕ, ◌+◌, ◌≤◌}
 use native.Mathlib.Omega.{arith}
 use mathlib.Core.Path.{◌≡◌, refl, sym, ◌∙◌, ap, subst}
 use mathlib.Core.List.{List, [], ◌∷◌, map}
-use mathlib.Core.Option
-use mathlib.Core.Option.{Option, none, some}
+use Rattle.std.specs.Prelude.{Option, Some, None, option_map}
 use lib.ListN.{length}
 use lib.Seq.{slice, length-slice}
 use Rattle.wire.specs.declared.form.Row.{Row}
@@ -27,20 +26,20 @@ module _ (s : List ℕ) (base n : ℕ) (h : base + n ≤ length s) where
 
 -- the records that were read in a block hold the events of their list
 pub events-at : (F : List Row) (s : List ℕ) (base n : ℕ) (rs : List Record) → base + n ≤ length s
-    → records_f F base (slice base (base + n) s) ≡ some rs → events_f F (slice base (base + n) s) ≡ some (map (event_of s) rs)
+    → records_f F base (slice base (base + n) s) ≡ Some rs → events_f F (slice base (base + n) s) ≡ Some (map (event_of s) rs)
 unfolding events_f
 events-at F s base n rs h e = go (records_f F 0 bs) refl (sym (records-moved F base bs) ∙ e)
   where
     bs : List ℕ
     bs = slice base (base + n) s
 
-    inside : (us : List Record) → records_f F 0 bs ≡ some us → AllOf (Lies 0 n) us
+    inside : (us : List Record) → records_f F 0 bs ≡ Some us → AllOf (Lies 0 n) us
     inside us q =
         let l : 0 + length bs ≡ n = omega (arith, length-slice base (base + n) s h) in
         subst (λ (m : ℕ). AllOf (Lies 0 m) us) l (records-lie F 0 bs us q)
 
-    go : (o : Option (List Record)) → records_f F 0 bs ≡ o → Option.map (map (moved base)) o ≡ some rs → Option.map (map (event_of bs)) o ≡ some (map (event_of s) rs)
-    go (some us) q d =
+    go : (o : Option (List Record)) → records_f F 0 bs ≡ o → option_map (map (moved base)) o ≡ Some rs → option_map (map (event_of bs)) o ≡ Some (map (event_of s) rs)
+    go (Some us) q d =
         let x : map (moved base) us ≡ rs = cc in
-        ap some (sym (events-moved s base n h us (inside us q)) ∙ ap (map (event_of s)) x)
-    go none q d = let z : ◌≡◌ {A = ℕ} 0 1 = cc in absurd (omega arith)
+        ap Some (sym (events-moved s base n h us (inside us q)) ∙ ap (map (event_of s)) x)
+    go None q d = cc

@@ -4,7 +4,6 @@ use native.Mathlib.Omega.{arith}
 use mathlib.Core.Path.{◌≡◌, refl, sym, ◌∙◌, ap}
 use mathlib.Core.Bool.{true}
 use mathlib.Core.List.{List, [], ◌∷◌, ◌++◌, map, append_assoc, append-nil}
-use mathlib.Core.Option.{some}
 use borrow.Author.Tests.{le-leb}
 use lib.ListN.{length, drop, length-append, length-drop}
 use lib.Seq.{slice, drop-drop, drop-append_seam}
@@ -15,10 +14,8 @@ use Rattle.wire.specs.Varint.{encode, size_of}
 use Rattle.wire.proofs.FormLaws.{Lawful}
 use Rattle.wire.proofs.VarintLaws.{length-encode, read-encode, drop-encode}
 use Rattle.locmaf_read_block.specs.declared.records.Record.{Record}
-use Rattle.locmaf_read_block.specs.declared.records.Recorded.TheVariants.{One}
-use Rattle.locmaf_read_block.specs.declared.records.Text.TheVariants.{At}
+use Rattle.std.specs.Prelude.{Some}
 use Rattle.locmaf_read_block.specs.declared.records.Marks.{Marks}
-use Rattle.locmaf_read_block.specs.declared.records.Marked.TheVariants.{At as MarkedAt}
 use Rattle.locmaf_read_block.specs.Front.{series, before, wholly}
 use Rattle.locmaf_read_block.specs.Tuples.{part, bytes_of}
 use Rattle.locmaf_read_block.specs.Records.{number, text_at, marks_at, record_of, record_f, records_run, records_f}
@@ -49,7 +46,7 @@ module _ (F : List Row) (w : Lawful 0 F) (s : List ℕ) where
       ap (λ (m : ℕ). drop m s) (sym n) ∙ sym (drop-drop (length bs) (q + size_of F (length bs)) s) ∙ ap (drop (length bs)) b ∙ drop-append_seam bs rest
 
   text-at : (base q : ℕ) (bs rest : List ℕ) → length bs < limit F → drop q s ≡ enc_text F bs ++ rest
-      → text_at F base q s ≡ At (part (base + (q + size_of F (length bs))) (length bs)) (q + size_text F bs)
+      → text_at F base q s ≡ Some (part (base + (q + size_of F (length bs))) (length bs), q + size_text F bs)
   unfolding text_at enc_text
   text-at base q bs rest h e =
       let m : ℕ = length bs in
@@ -63,7 +60,7 @@ module _ (F : List Row) (w : Lawful 0 F) (s : List ℕ) where
   marks-at : (q : ℕ) (m : Marks) (rest : List ℕ) → m.timescale < limit F → m.time < limit F → m.duration < limit F → m.id < limit F
       → drop q s ≡ encode F m.timescale ++ (encode F m.time ++ (encode F m.duration ++ (encode F m.id ++ rest)))
       → let n = q + size_of F m.timescale + size_of F m.time + size_of F m.duration + size_of F m.id in
-      (marks_at F q s ≡ MarkedAt m n) × (drop n s ≡ rest)
+      (marks_at F q s ≡ Some (m, n)) × (drop n s ≡ rest)
   unfolding marks_at
   marks-at q m rest h₁ h₂ h₃ h₄ e₁ =
       let e₂ = behind q m.timescale (encode F m.time ++ (encode F m.duration ++ (encode F m.id ++ rest))) h₁ e₁ in
@@ -104,7 +101,7 @@ module _ (F : List Row) (e : Event) where
 module _ (F : List Row) (w : Lawful 0 F) where
   -- the event that was written is read, with anything after it
   event-read : (base : ℕ) (e : Event) (rest : List ℕ) → Sayable F e
-      → record_f F base (enc_event F e ++ rest) ≡ One (placed F e base) (size F e)
+      → record_f F base (enc_event F e ++ rest) ≡ Some (placed F e base, size F e)
   unfolding record_f enc_event
   event-read base e rest h =
       let s : List ℕ = enc_event F e ++ rest in
@@ -236,12 +233,12 @@ held-written F pre post (e ∷ es) h =
     λ j. first-is F pre post e es h.0 j ∷ others-are F pre post e es (held-written F (pre ++ enc_event F e) post es h.1) j
 
 -- a list that was written is read as the events that were written
-pub events-written : (F : List Row) → Lawful 0 F → (es : List Event) → AllSayable F es → events_f F (enc_events F es) ≡ some es
+pub events-written : (F : List Row) → Lawful 0 F → (es : List Event) → AllSayable F es → events_f F (enc_events F es) ≡ Some es
 unfolding events_f records_f wholly
 events-written F w es h =
-    rw (run-written F w 0 es h) (ap some (rw append-nil at (held-written F [] [] es h)))
+    rw (run-written F w 0 es h) (ap Some (rw append-nil at (held-written F [] [] es h)))
 
 -- and it says its bytes
-pub body-events : (F : List Row) → Lawful 0 F → (es : List Event) → AllSayable F es → body F 25 (enc_events F es) ≡ some (enc_events F es)
+pub body-events : (F : List Row) → Lawful 0 F → (es : List Event) → AllSayable F es → body F 25 (enc_events F es) ≡ Some (enc_events F es)
 unfolding body records_f wholly
 body-events F w es h = rw (run-written F w 0 es h)

@@ -13,10 +13,8 @@ use Rattle.constants.specs.Maxima.{events_most}
 use Rattle.event_value.specs.Events.{event_time, event_words}
 use Rattle.laws.proofs.StoreLaws.{sets-append}
 use Rattle.wire.specs.declared.form.Row.{Row}
-use Rattle.locmaf_read_block.specs.declared.numbers.Counted.{Counted}
-use Rattle.locmaf_read_block.specs.declared.numbers.Counted.TheVariants.{Whole, Cut as Short}
+use Rattle.std.specs.Prelude.{Option, Some, None}
 use Rattle.locmaf_read_block.specs.declared.records.Record.{Record}
-use Rattle.locmaf_read_block.specs.declared.records.Recorded.TheVariants.{One, Cut}
 use Rattle.locmaf_read_block.specs.Front.{Series, series, before}
 use Rattle.locmaf_read_block.specs.Numbers.{counted}
 use Rattle.locmaf_read_block.specs.Records.{record_f, record_front, records_run, record_words, words_of, kept, ListedAs}
@@ -52,11 +50,11 @@ module _ (F : List Row) (base : ℕ) (s : List ℕ) where
   unfolding records_run
   records-none e = taken_none (record_front F) base s e
 
-  pub records-cut : 0 < length s → record_f F base s ≡ Cut → records_run F base s ≡ series [] false
+  pub records-cut : 0 < length s → record_f F base s ≡ None → records_run F base s ≡ series [] false
   unfolding records_run record_front
   records-cut h e = taken-cut (record_front F) base s h (rw e)
 
-  pub records-one : (r : Record) (k : ℕ) → record_f F base s ≡ One r k → records_run F base s ≡ before r (records_run F (base + k) (drop k s))
+  pub records-one : (r : Record) (k : ℕ) → record_f F base s ≡ Some (r, k) → records_run F base s ≡ before r (records_run F (base + k) (drop k s))
   unfolding records_run record_front
   records-one r k e =
       let z = record-spans F base s r k e in
@@ -83,15 +81,15 @@ kept_more out n r rs = go (ltb n events_most) refl
         rw (e, f)
 
 module _ (F : List Row) (base n : ℕ) (s out : List ℕ) where
-  pub list-none : length s ≡ 0 → ListedAs (records_run F base s) n out (Whole n) out
+  pub list-none : length s ≡ 0 → ListedAs (records_run F base s) n out (Some n) out
   unfolding counted words_of
   list-none e = rw (records-none F base s e) (record { answered = rw add-zero; stored = rw (take-nil (events_most - n)) })
 
-  pub list-cut : (length s ≡ 0 → ⊥) → record_f F base s ≡ Cut → ListedAs (records_run F base s) n out Short out
+  pub list-cut : (length s ≡ 0 → ⊥) → record_f F base s ≡ None → ListedAs (records_run F base s) n out None out
   unfolding counted words_of
   list-cut h e = rw (records-cut F base s (omega arith) e) (record { answered = refl; stored = rw (take-nil (events_most - n)) })
 
-  pub list-more : (r : Record) (k : ℕ) (a : Counted) (after : List ℕ) → record_f F base s ≡ One r k
+  pub list-more : (r : Record) (k : ℕ) (a : Option ℕ) (after : List ℕ) → record_f F base s ≡ Some (r, k)
       → ListedAs (records_run F (base + k) (drop k s)) (n + 1) (kept out n r) a after → ListedAs (records_run F base s) n out a after
   list-more r k a after e h =
       let others : Series Record = records_run F (base + k) (drop k s) in

@@ -5,27 +5,19 @@ use native.Mathlib.Omega.{arith}
 use mathlib.Core.Path.{◌≡◌, refl, sym, ◌∙◌, ap}
 use mathlib.Core.Bool.{Bool, true, false, cond}
 use mathlib.Core.List.{List, [], ◌∷◌, map}
-use mathlib.Core.Option
-use mathlib.Core.Option.{none, some}
 use lib.Dec.{leb}
 use lib.ListN.{length, drop}
 use lib.Seq.{slice}
 use Rattle.laws.proofs.SliceLaws.{take-slice, drop-slice}
 use Rattle.wire.specs.declared.form.Row.{Row}
-use Rattle.wire.specs.declared.varint.Got.{Got}
-use Rattle.wire.specs.declared.varint.Got.TheVariants.{Value, Cut as Ends}
+use Rattle.locmaf_read_block.specs.declared.records.Record.{Record}
+use Rattle.std.specs.Prelude.{Option, Some, None, option_map}
 use Rattle.wire.specs.Varint.{read_f, on_got}
 use Rattle.byte_parts.specs.declared.Part.{Part}
-use Rattle.locmaf_read_block.specs.declared.records.Recorded.{Recorded}
-use Rattle.locmaf_read_block.specs.declared.records.Recorded.TheVariants.{One, Cut}
-use Rattle.locmaf_read_block.specs.declared.records.Text.{Text}
-use Rattle.locmaf_read_block.specs.declared.records.Text.TheVariants.{At, Cut as NoText}
 use Rattle.locmaf_read_block.specs.declared.records.Marks.{Marks}
-use Rattle.locmaf_read_block.specs.declared.records.Marked.{Marked}
-use Rattle.locmaf_read_block.specs.declared.records.Marked.TheVariants.{At as MarkedAt, Cut as NoMarks}
-use Rattle.locmaf_read_block.specs.Front.{Front, off, cut, on_front, Series, series, before, taken, wholly}
+use Rattle.locmaf_read_block.specs.Front.{Front, off, cut, on_front, Series, series, before, taken, wholly, on_read}
 use Rattle.locmaf_read_block.specs.Tuples.{part, bytes_of}
-use Rattle.locmaf_read_block.specs.Records.{on_text, on_marked, on_recorded, number, text_at, marks_at, record_of, record_f, record_front, records_run, records_f, moved_part, moved}
+use Rattle.locmaf_read_block.specs.Records.{number, text_at, marks_at, record_of, record_f, record_front, records_run, records_f, moved_part, moved}
 
 -- ---- over any front
 
@@ -50,62 +42,68 @@ module _ {A B : Type 0} (f : A → B) (d : ℕ) (a : ℕ → List ℕ → Front 
 -- ---- records
 
 module _ (F : List Row) (d base : ℕ) where
-  text-moved : (q : ℕ) (s : List ℕ) → text_at F (d + base) q s ≡ on_text (text_at F base q s) (λ p next. At (moved_part d p) next) NoText
+  text-moved : (q : ℕ) (s : List ℕ) → text_at F (d + base) q s ≡ on_read (text_at F base q s) (λ p next. Some (moved_part d p, next)) None
   unfolding text_at number
   text-moved q s = go (read_f F (drop q s))
     where
       one : (n k : ℕ) (b : Bool)
-          → cond b (At (part (d + base + (q + k)) n) (q + k + n)) NoText
-          ≡ on_text (cond b (At (part (base + (q + k)) n) (q + k + n)) NoText) (λ p next. At (moved_part d p) next) NoText
-      one n k true = ap (λ (m : ℕ). At (part m n) (q + k + n)) (add_assoc d base (q + k))
+          → ◌≡◌ {A = Option (Part × ℕ)}
+          (cond b (Some (part (d + base + (q + k)) n, q + k + n)) None)
+          (on_read (cond b (Some (part (base + (q + k)) n, q + k + n)) None) (λ p next. Some (moved_part d p, next)) None)
+      one n k true = rw (add_assoc d base (q + k))
       one n k false = refl
 
-      go : (g : Got)
-          → on_got g (λ n k. cond (leb n (length s - (q + k))) (At (part (d + base + (q + k)) n) (q + k + n)) NoText) NoText
-          ≡ on_text (on_got g (λ n k. cond (leb n (length s - (q + k))) (At (part (base + (q + k)) n) (q + k + n)) NoText) NoText) (λ p next. At (moved_part d p) next) NoText
-      go (Value n k) = one n k (leb n (length s - (q + k)))
-      go Ends = refl
+      go : (g : Option (ℕ × ℕ))
+          → ◌≡◌ {A = Option (Part × ℕ)}
+          (on_got g (λ n k. cond (leb n (length s - (q + k))) (Some (part (d + base + (q + k)) n, q + k + n)) None) None)
+          (on_read (on_got g (λ n k. cond (leb n (length s - (q + k))) (Some (part (base + (q + k)) n, q + k + n)) None) None) (λ p next. Some (moved_part d p, next)) None)
+      go (Some (n, k)) = one n k (leb n (length s - (q + k)))
+      go None = refl
 
-  record-moved : (s : List ℕ) → record_f F (d + base) s ≡ on_recorded (record_f F base s) (λ r k. One (moved d r) k) Cut
+  record-moved : (s : List ℕ) → record_f F (d + base) s ≡ on_read (record_f F base s) (λ r k. Some (moved d r, k)) None
   unfolding record_f moved
   record-moved s = rw (text-moved 0 s) (first (text_at F base 0 s))
     where
-      fourth : (p v : Part) (m : Marks) (t : Text)
-          → on_text (on_text t (λ u next. At (moved_part d u) next) NoText) (λ u k. One (record_of (moved_part d p) (moved_part d v) m u) k) Cut
-          ≡ on_recorded (on_text t (λ u k. One (record_of p v m u) k) Cut) (λ r k. One (moved d r) k) Cut
-      fourth p v m (At u k) = refl
-      fourth p v m NoText = refl
+      fourth : (p v : Part) (m : Marks) (t : Option (Part × ℕ))
+          → ◌≡◌ {A = Option (Record × ℕ)}
+          (on_read (on_read t (λ u next. Some (moved_part d u, next)) None) (λ u k. Some (record_of (moved_part d p) (moved_part d v) m u, k)) None)
+          (on_read (on_read t (λ u k. Some (record_of p v m u, k)) None) (λ r k. Some (moved d r, k)) None)
+      fourth p v m (Some (u, k)) = refl
+      fourth p v m None = refl
 
-      third : (p v : Part) (t : Marked)
-          → on_marked t (λ m c. on_text (text_at F (d + base) c s) (λ u k. One (record_of (moved_part d p) (moved_part d v) m u) k) Cut) Cut
-          ≡ on_recorded (on_marked t (λ m c. on_text (text_at F base c s) (λ u k. One (record_of p v m u) k) Cut) Cut) (λ r k. One (moved d r) k) Cut
-      third p v (MarkedAt m c) = rw (text-moved c s) (fourth p v m (text_at F base c s))
-      third p v NoMarks = refl
+      third : (p v : Part) (t : Option (Marks × ℕ))
+          → ◌≡◌ {A = Option (Record × ℕ)}
+          (on_read t (λ m c. on_read (text_at F (d + base) c s) (λ u k. Some (record_of (moved_part d p) (moved_part d v) m u, k)) None) None)
+          (on_read (on_read t (λ m c. on_read (text_at F base c s) (λ u k. Some (record_of p v m u, k)) None) None) (λ r k. Some (moved d r, k)) None)
+      third p v (Some (m, c)) = rw (text-moved c s) (fourth p v m (text_at F base c s))
+      third p v None = refl
 
-      second : (p : Part) (t : Text)
-          → on_text (on_text t (λ v next. At (moved_part d v) next) NoText)
-          (λ v b. on_marked (marks_at F b s) (λ m c. on_text (text_at F (d + base) c s) (λ u k. One (record_of (moved_part d p) v m u) k) Cut) Cut)
-          Cut
-          ≡ on_recorded (on_text t (λ v b. on_marked (marks_at F b s) (λ m c. on_text (text_at F base c s) (λ u k. One (record_of p v m u) k) Cut) Cut) Cut) (λ r k. One (moved d r) k) Cut
-      second p (At v b) = third p v (marks_at F b s)
-      second p NoText = refl
+      second : (p : Part) (t : Option (Part × ℕ))
+          → ◌≡◌ {A = Option (Record × ℕ)}
+          (on_read (on_read t (λ v next. Some (moved_part d v, next)) None)
+          (λ v b. on_read (marks_at F b s) (λ m c. on_read (text_at F (d + base) c s) (λ u k. Some (record_of (moved_part d p) v m u, k)) None) None)
+          None)
+          (on_read (on_read t (λ v b. on_read (marks_at F b s) (λ m c. on_read (text_at F base c s) (λ u k. Some (record_of p v m u, k)) None) None) None) (λ r k. Some (moved d r, k)) None)
+      second p (Some (v, b)) = third p v (marks_at F b s)
+      second p None = refl
 
-      first : (t : Text)
-          → on_text (on_text t (λ p next. At (moved_part d p) next) NoText)
-          (λ p a. on_text (text_at F (d + base) a s) (λ v b. on_marked (marks_at F b s) (λ m c. on_text (text_at F (d + base) c s) (λ u k. One (record_of p v m u) k) Cut) Cut) Cut)
-          Cut
-          ≡ on_recorded (on_text t (λ p a. on_text (text_at F base a s) (λ v b. on_marked (marks_at F b s) (λ m c. on_text (text_at F base c s) (λ u k. One (record_of p v m u) k) Cut) Cut) Cut) Cut) (λ r k. One (moved d r) k) Cut
-      first (At p a) = rw (text-moved a s) (second p (text_at F base a s))
-      first NoText = refl
+      first : (t : Option (Part × ℕ))
+          → ◌≡◌ {A = Option (Record × ℕ)}
+          (on_read (on_read t (λ p next. Some (moved_part d p, next)) None)
+          (λ p a. on_read (text_at F (d + base) a s) (λ v b. on_read (marks_at F b s) (λ m c. on_read (text_at F (d + base) c s) (λ u k. Some (record_of p v m u, k)) None) None) None)
+          None)
+          (on_read (on_read t (λ p a. on_read (text_at F base a s) (λ v b. on_read (marks_at F b s) (λ m c. on_read (text_at F base c s) (λ u k. Some (record_of p v m u, k)) None) None) None) None) (λ r k. Some (moved d r, k)) None)
+      first (Some (p, a)) = rw (text-moved a s) (second p (text_at F base a s))
+      first None = refl
 
   front-moved : (s : List ℕ) → record_front F (d + base) s ≡ on_front (record_front F base s) (λ r k. off (moved d r) k) cut
   unfolding record_front
   front-moved s = rw (record-moved s) (go (record_f F base s))
     where
-      go : (t : Recorded)
-          → on_recorded (on_recorded t (λ r k. One (moved d r) k) Cut) off cut ≡ on_front (on_recorded t off cut) (λ r k. off (moved d r) k) cut
-      go (One r k) = refl
-      go Cut = refl
+      go : (t : Option (Record × ℕ))
+          → on_read (on_read t (λ r k. Some (moved d r, k)) None) off cut ≡ on_front (on_read t off cut) (λ r k. off (moved d r) k) cut
+      go (Some (r, k)) = refl
+      go None = refl
 
 module _ (F : List Row) (base : ℕ) (s : List ℕ) where
   pub run_moved : records_run F base s ≡ map_series (moved base) (records_run F 0 s)
@@ -114,12 +112,12 @@ module _ (F : List Row) (base : ℕ) (s : List ℕ) where
       ap (λ (n : ℕ). taken (record_front F) 0 n s) (sym (add-zero base))
       ∙ taken-moved (moved base) base (record_front F) (record_front F) (λ at r. front-moved F base at r) 0 0 s
 
-  pub records-moved : records_f F base s ≡ Option.map (map (moved base)) (records_f F 0 s)
+  pub records-moved : records_f F base s ≡ option_map (map (moved base)) (records_f F 0 s)
   unfolding records_f wholly
   records-moved = rw run_moved (go (records_run F 0 s).whole)
     where
       go : (w : Bool)
-          → cond w (some (map (moved base) (records_run F 0 s).items)) none ≡ Option.map (map (moved base)) (cond w (some (records_run F 0 s).items) none)
+          → cond w (Some (map (moved base) (records_run F 0 s).items)) None ≡ option_map (map (moved base)) (cond w (Some (records_run F 0 s).items) None)
       go true = refl
       go false = refl
 

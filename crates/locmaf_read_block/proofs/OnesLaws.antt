@@ -15,23 +15,24 @@ use Rattle.wire.specs.declared.form.Row.{Row}
 use Rattle.wire.specs.Form.{ones}
 use Rattle.wire.proofs.FormLaws.{Lawful}
 use Rattle.wire.proofs.ShortLaws.{front-one}
-use Rattle.locmaf_read_block.specs.declared.numbers.Counted.TheVariants.{Whole}
-use Rattle.locmaf_read_block.specs.Numbers.{numbers_run, counted, count_at, plus, all_ones}
+use Rattle.std.specs.Prelude.{Some}
+use Rattle.locmaf_read_block.specs.Numbers.{numbers_run, counted, count_at, all_ones}
 use Rattle.locmaf_read_block.proofs.NumberLaws.{numbers-none, numbers-one, plus-zero, counted-before, count-inside}
+use Rattle.runs.specs.Run.{plus}
 
 module _ (F : List Row) where
   -- each byte is a number
-  counted-ones : Lawful 0 F → (s : List ℕ) → all_ones F s ≡ true → counted (numbers_run F s) ≡ Whole (length s)
+  counted-ones : Lawful 0 F → (s : List ℕ) → all_ones F s ≡ true → counted (numbers_run F s) ≡ Some (length s)
   unfolding all_ones counted
   counted-ones w [] e = rw (numbers-none F [] refl)
   counted-ones w (b ∷ s) e =
       let h = both_of (ltb b (ones F)) (all_ones F s) e in
       let one = numbers-one F (b ∷ s) b 1 (front-one F w b s (ltb-true b (ones F) h.0)) in
       let more : 1 + length s ≡ suc (length s) = omega arith in
-      ap counted one ∙ sym (plus-zero _) ∙ counted-before 0 b (numbers_run F s) ∙ ap (plus 1) (counted-ones w s h.1) ∙ ap Whole more
+      ap counted one ∙ sym (plus-zero _) ∙ counted-before 0 b (numbers_run F s) ∙ ap (plus 1) (counted-ones w s h.1) ∙ ap Some more
 
-  pub count_ones : Lawful 0 F → (s : List ℕ) (at end : ℕ) → end ≤ length s → all_ones F (slice at end s) ≡ true → Whole (end - at) ≡ count_at F s at end
-  count_ones w s at end h e = sym (count-inside F s at end h ∙ counted-ones w (slice at end s) e ∙ ap Whole (length-slice at end s h))
+  pub count_ones : Lawful 0 F → (s : List ℕ) (at end : ℕ) → end ≤ length s → all_ones F (slice at end s) ≡ true → Some (end - at) ≡ count_at F s at end
+  count_ones w s at end h e = sym (count-inside F s at end h ∙ counted-ones w (slice at end s) e ∙ ap Some (length-slice at end s h))
 
   ones-append : (xs ys : List ℕ) → all_ones F (xs ++ ys) ≡ (all_ones F xs && all_ones F ys)
   unfolding all_ones

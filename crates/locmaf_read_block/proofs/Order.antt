@@ -1,10 +1,9 @@
 -- What is asked of a block's entries, and what they say, doesn't depend on the order in which they stand. Assumes nothing.
 use Prim.Native.Nat.{ℕ}
-use native.Mathlib.Omega.{arith}
 use mathlib.Core.Path.{◌≡◌, refl, sym, ◌∙◌, ap}
 use mathlib.Core.Bool.{Bool, true, false, cond, not, ◌||◌}
 use mathlib.Core.List.{List, Permᴰ}
-use mathlib.Core.Option.{none, some}
+use Rattle.std.specs.Prelude.{Some, None}
 use borrow.Author.Tests.{eqb-true, eqb-false, ne_eqb, eq-eqb}
 use lib.Dec.{eqb}
 use Rattle.laws.specs.Tests.{◌and◌}
@@ -86,17 +85,17 @@ entry-perm : (id : ℕ) {es us : List Entry} → Permᴰ es us → lawful es ≡
 unfolding entry lawful member
 entry-perm id Permᴰ.nil h = refl
 entry-perm id (Permᴰ.cons e d) h =
-    λ j. cond (eqb (e j).id id) (some (e j).bytes) (entry-perm id d (right _ _ (right _ _ h)) j)
+    λ j. cond (eqb (e j).id id) (Some (e j).bytes) (entry-perm id d (right _ _ (right _ _ h)) j)
 entry-perm id (Permᴰ.swap {a} {b} {a'} {b'} {l} e f) h =
     go (apart (eqb b.id a.id) (member a.id l) (left _ _ (right _ _ h))) (eqb a.id id) refl (eqb b.id id) refl
-    ∙ (λ j. cond (eqb (f j).id id) (some (f j).bytes) (cond (eqb (e j).id id) (some (e j).bytes) (entry id l)))
+    ∙ (λ j. cond (eqb (f j).id id) (Some (f j).bytes) (cond (eqb (e j).id id) (Some (e j).bytes) (entry id l)))
   where
     apart : (x y : Bool) → not (x || y) ≡ true → x ≡ false
-    apart true y q = let z : ◌≡◌ {A = ℕ} 0 1 = cc in absurd (omega arith)
+    apart true y q = cc
     apart false y q = refl
 
     go : eqb b.id a.id ≡ false → (x : Bool) → eqb a.id id ≡ x → (y : Bool) → eqb b.id id ≡ y
-        → cond x (some a.bytes) (cond y (some b.bytes) (entry id l)) ≡ cond y (some b.bytes) (cond x (some a.bytes) (entry id l))
+        → cond x (Some a.bytes) (cond y (Some b.bytes) (entry id l)) ≡ cond y (Some b.bytes) (cond x (Some a.bytes) (entry id l))
     go n true p true q = absurd (eqb-false b.id a.id n (eqb-true b.id id q ∙ sym (eqb-true a.id id p)))
     go n true p false q = refl
     go n false p true q = refl
@@ -106,4 +105,4 @@ entry-perm id (Permᴰ.trans d d') h = entry-perm id d h ∙ entry-perm id d' (s
 -- they say the same of every id
 pub says-perm : (F : List Row) {es us : List Entry} → Permᴰ es us → lawful es ≡ true → says F es ≡ says F us
 unfolding says
-says-perm F d h = λ j id. on_option (entry-perm id d h j) (body F id) none
+says-perm F d h = λ j id. on_option (entry-perm id d h j) (body F id) None

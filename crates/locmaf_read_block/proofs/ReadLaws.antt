@@ -9,7 +9,7 @@ use lib.Dec.{leb}
 use lib.ListN.{length}
 use lib.Seq.{slice, length-slice}
 use Rattle.wire.specs.declared.form.Row.{Row}
-use Rattle.wire.specs.declared.varint.Got.TheVariants.{Value, Cut}
+use Rattle.std.specs.Prelude.{Some, None}
 use Rattle.wire.specs.Varint.{read_f, read_at, shift}
 use Rattle.wire.proofs.VarintLaws.{read-size}
 use Rattle.wire.proofs.Reading.{value-inv}
@@ -18,12 +18,12 @@ use Rattle.wire.proofs.Reading.{value-inv}
 pub record Found (F : List Row) (s : List ℕ) (at end v next : ℕ) : Type 0 where
   pub inside : end ≤ length s
   pub size : ℕ
-  pub read : read_f F (slice at end s) ≡ Value v size
+  pub read : read_f F (slice at end s) ≡ Some (v, size)
   pub place : next ≡ at + size
   pub some : at < next
   pub within : next ≤ end
 
-pub found : (F : List Row) (s : List ℕ) (at end v next : ℕ) → Value v next ≡ read_at F s at end → Found F s at end v next
+pub found : (F : List Row) (s : List ℕ) (at end v next : ℕ) → Some (v, next) ≡ read_at F s at end → Found F s at end v next
 unfolding read_at
 found F s at end v next e = go (leb end (length s)) refl e
   where
@@ -41,6 +41,6 @@ found F s at end v next e = go (leb end (length s)) refl e
           within = omega (arith, z.0, z.1, i.2);
         }
 
-    go : (b : Bool) → leb end (length s) ≡ b → Value v next ≡ cond b (shift at (read_f F (slice at end s))) Cut → Found F s at end v next
+    go : (b : Bool) → leb end (length s) ≡ b → Some (v, next) ≡ cond b (shift at (read_f F (slice at end s))) None → Found F s at end v next
     go true q d = here (leb-true _ _ q)
-    go false q d = let z : ◌≡◌ {A = ℕ} 0 1 = cc in absurd (omega arith)
+    go false q d = cc

@@ -7,69 +7,66 @@ use borrow.Author.Tests.{le-leb, lt-leb}
 use lib.ListN.{length, drop}
 use Rattle.laws.proofs.SliceLaws.{slice-to-end}
 use Rattle.wire.specs.declared.form.Row.{Row}
-use Rattle.wire.specs.declared.varint.Got.TheVariants.{Value, Cut as Ends}
+use Rattle.locmaf_read_block.specs.declared.records.Record.{Record}
+use Rattle.std.specs.Prelude.{Option, Some, None}
 use Rattle.wire.specs.Varint.{read_f, read_at}
 use Rattle.wire.proofs.Reading.{cut-inv}
 use Rattle.byte_parts.specs.declared.Part.{Part}
-use Rattle.locmaf_read_block.specs.declared.records.Recorded.{Recorded}
-use Rattle.locmaf_read_block.specs.declared.records.Recorded.TheVariants.{One, Cut}
-use Rattle.locmaf_read_block.specs.declared.records.Text.{Text}
-use Rattle.locmaf_read_block.specs.declared.records.Text.TheVariants.{At, Cut as NoText}
-use Rattle.locmaf_read_block.specs.declared.records.Names.TheVariants.{At as NamesAt, Cut as NoNames}
 use Rattle.locmaf_read_block.specs.Tuples.{part}
-use Rattle.locmaf_read_block.specs.Records.{on_text, on_marked, on_names, number, text_at, names_at, marks_at, record_of, record_f}
+use Rattle.locmaf_read_block.specs.Records.{on_names, number, text_at, names_at, marks_at, record_of, record_f}
 use Rattle.locmaf_read_block.proofs.ReadLaws.{Found}
+use Rattle.locmaf_read_block.specs.Front.{on_read}
 
 module _ (F : List Row) (s : List ℕ) (q : ℕ) where
   -- there is no varint
-  pub number-none : {A : Type 0} (f : ℕ → ℕ → A) (z : A) → Ends ≡ read_at F s q (length s) → z ≡ number F q s f z
+  pub number-none : {A : Type 0} (f : ℕ → ℕ → A) (z : A) → None ≡ read_at F s q (length s) → z ≡ number F q s f z
   unfolding number
   number-none f z e =
-      let r : read_f F (drop q s) ≡ Ends = rw (slice-to-end q (length s) s refl) at (cut-inv F s q (length s) (omega arith) e) in
+      let r : read_f F (drop q s) ≡ None = rw (slice-to-end q (length s) s refl) at (cut-inv F s q (length s) (omega arith) e) in
       rw r
 
   -- there is one
   pub number_is : {A : Type 0} {v p : ℕ} (f : ℕ → ℕ → A) (z : A) {o : A} → Found F s q (length s) v p → o ≡ f v p → o ≡ number F q s f z
   unfolding number
   number_is {A} {v} {p} f z {o} i h =
-      let r : read_f F (drop q s) ≡ Value v i.size = rw (slice-to-end q (length s) s refl) at i.read in
+      let r : read_f F (drop q s) ≡ Some (v, i.size) = rw (slice-to-end q (length s) s refl) at i.read in
       rw (r, ← i.place) h
 
 module _ (F : List Row) (base q : ℕ) (s : List ℕ) where
-  pub text-none : Ends ≡ read_at F s q (length s) → NoText ≡ text_at F base q s
+  pub text-none : None ≡ read_at F s q (length s) → None ≡ text_at F base q s
   unfolding text_at
-  text-none e = number-none F s q _ NoText e
+  text-none e = number-none F s q _ None e
 
   module _ (n p : ℕ) (i : Found F s q (length s) n p) where
     -- a length past the end
-    pub text-long : length s - p < n → NoText ≡ text_at F base q s
+    pub text-long : length s - p < n → None ≡ text_at F base q s
     unfolding text_at
-    text-long h = number_is F s q _ NoText i (rw (lt-leb _ _ h))
+    text-long h = number_is F s q _ None i (rw (lt-leb _ _ h))
 
     -- a length and its bytes
-    pub text-is : n ≤ length s - p → At (part (base + p) n) (p + n) ≡ text_at F base q s
+    pub text-is : n ≤ length s - p → Some (part (base + p) n, p + n) ≡ text_at F base q s
     unfolding text_at
-    text-is h = number_is F s q _ NoText i (rw (le-leb _ _ h))
+    text-is h = number_is F s q _ None i (rw (le-leb _ _ h))
 
 module _ (F : List Row) (base : ℕ) (s : List ℕ) where
   -- what follows the two names
-  abbrev pub behind : Part → Part → ℕ → Recorded
+  abbrev pub behind : Part → Part → ℕ → Option (Record × ℕ)
   behind scheme value b =
-      on_marked (marks_at F b s)
-      (λ m c. on_text (text_at F base c s) (λ message d. One (record_of scheme value m message) d) Cut)
-      Cut
+      on_read (marks_at F b s)
+      (λ m c. on_read (text_at F base c s) (λ message d. Some (record_of scheme value m message, d)) None)
+      None
 
-  pub record-named : record_f F base s ≡ on_names (names_at F base s) behind Cut
+  pub record-named : record_f F base s ≡ on_names (names_at F base s) behind None
   unfolding record_f names_at
   record-named = first (text_at F base 0 s)
     where
-      second : (scheme : Part) (t : Text)
-          → on_text t (λ value b. behind scheme value b) Cut ≡ on_names (on_text t (λ value b. NamesAt scheme value b) NoNames) behind Cut
-      second scheme (At value b) = refl
-      second scheme NoText = refl
+      second : (scheme : Part) (t : Option (Part × ℕ))
+          → on_read t (λ value b. behind scheme value b) None ≡ on_names (on_read t (λ value b. Some (scheme, value, b)) None) behind None
+      second scheme (Some (value, b)) = refl
+      second scheme None = refl
 
-      first : (t : Text)
-          → on_text t (λ scheme a. on_text (text_at F base a s) (λ value b. behind scheme value b) Cut) Cut
-          ≡ on_names (on_text t (λ scheme a. on_text (text_at F base a s) (λ value b. NamesAt scheme value b) NoNames) NoNames) behind Cut
-      first (At scheme a) = second scheme (text_at F base a s)
-      first NoText = refl
+      first : (t : Option (Part × ℕ))
+          → on_read t (λ scheme a. on_read (text_at F base a s) (λ value b. behind scheme value b) None) None
+          ≡ on_names (on_read t (λ scheme a. on_read (text_at F base a s) (λ value b. Some (scheme, value, b)) None) None) behind None
+      first (Some (scheme, a)) = second scheme (text_at F base a s)
+      first None = refl

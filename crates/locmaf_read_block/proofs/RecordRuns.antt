@@ -6,14 +6,12 @@ use mathlib.Core.Bool.{Bool, true, false}
 use mathlib.Core.List.{List, [], ◌∷◌, ◌++◌}
 use borrow.Author.Tests.{eqb-true, eqb-false}
 use lib.Dec.{eqb}
-use mathlib.Core.Option.{some}
 use lib.ListN.{length, drop, length-append, length-drop}
 use lib.Seq.{drop-append-add, drop-nil}
 use Rattle.event_value.specs.Events.{event_words}
 use Rattle.wire.specs.declared.form.Row.{Row}
 use Rattle.locmaf_read_block.specs.declared.records.Record.{Record}
-use Rattle.locmaf_read_block.specs.declared.records.Recorded.{Recorded}
-use Rattle.locmaf_read_block.specs.declared.records.Recorded.TheVariants.{One, Cut}
+use Rattle.std.specs.Prelude.{Option, Some, None}
 use Rattle.locmaf_read_block.specs.Records.{record_f, records_run, records_f, record_words, words_of}
 use Rattle.laws.specs.Each.{AllOf}
 use Rattle.locmaf_read_block.proofs.NumberLaws.{wholly-inv}
@@ -46,15 +44,15 @@ module _ (F : List Row) (from to : ℕ) where
   lie-within zero base s h f t = rw (records-none F base s (omega arith)) tt
   lie-within (suc n) base s h f t = go (record_f F base s) refl (λ k u v w. lie-within n (base + k) (drop k s) u v w)
     where
-      none : (b : Bool) → eqb (length s) 0 ≡ b → record_f F base s ≡ Cut → AllOf (Lies from to) (records_run F base s).items
+      none : (b : Bool) → eqb (length s) 0 ≡ b → record_f F base s ≡ None → AllOf (Lies from to) (records_run F base s).items
       none true q e = rw (records-none F base s (eqb-true _ _ q)) tt
       none false q e = let z : length s ≡ 0 → ⊥ = eqb-false (length s) 0 q in rw (records-cut F base s (omega arith) e) tt
 
-      go : (g : Recorded) → record_f F base s ≡ g
+      go : (g : Option (Record × ℕ)) → record_f F base s ≡ g
           → ((k : ℕ) → length (drop k s) ≤ n → from ≤ base + k → base + k + length (drop k s) ≤ to
           → AllOf (Lies from to) (records_run F (base + k) (drop k s)).items)
           → AllOf (Lies from to) (records_run F base s).items
-      go (One r k) q ih =
+      go (Some (r, k)) q ih =
           let z = record-spans F base s r k q in
           let l = length-drop k s in
           rw (records-one F base s r k q) (
@@ -65,12 +63,12 @@ module _ (F : List Row) (from to : ℕ) where
             },
             ih k (omega (arith, z.seven, l)) (omega arith) (omega (arith, z.within, l)),
           )
-      go Cut q ih = none (eqb (length s) 0) refl q
+      go None q ih = none (eqb (length s) 0) refl q
 
 -- every record of a list lies inside it
 all_lie : (F : List Row) (base : ℕ) (s : List ℕ) → AllOf (Lies base (base + length s)) (records_run F base s).items
 all_lie F base s = lie-within F base (base + length s) (length s) base s (omega arith) (omega arith) (omega arith)
 
-pub records-lie : (F : List Row) (base : ℕ) (s : List ℕ) (rs : List Record) → records_f F base s ≡ some rs → AllOf (Lies base (base + length s)) rs
+pub records-lie : (F : List Row) (base : ℕ) (s : List ℕ) (rs : List Record) → records_f F base s ≡ Some rs → AllOf (Lies base (base + length s)) rs
 unfolding records_f
 records-lie F base s rs e = subst (AllOf (Lies base (base + length s))) (wholly-inv (records_run F base s) rs e).1 (all_lie F base s)

@@ -4,15 +4,13 @@ use native.Mathlib.Omega.{arith}
 use mathlib.Core.Path.{◌≡◌, refl, sym, ◌∙◌, ap}
 use mathlib.Core.Bool.{true, false≢true}
 use mathlib.Core.List.{List, [], ◌∷◌, ◌++◌, flatten}
-use mathlib.Core.Option.{some}
 use lib.ListN.{length, take, drop, length-append, length-drop, take-append-drop}
 use lib.Seq.{length-take-le}
 use Rattle.laws.proofs.ListLaws.{fronts-same}
 use Rattle.wire.specs.declared.form.Row.{Row}
 use Rattle.locmaf_read_block.specs.declared.tuples.Tuple.{Tuple}
-use Rattle.locmaf_read_block.specs.declared.tuples.Taken.{Taken}
-use Rattle.locmaf_read_block.specs.declared.tuples.Taken.TheVariants.{One, Cut}
-use Rattle.locmaf_read_block.specs.Tuples.{tuple_f, on_taken, tuple_front, tuples_run, tuples_f}
+use Rattle.std.specs.Prelude.{Option, Some, None}
+use Rattle.locmaf_read_block.specs.Tuples.{tuple_f, tuple_front, tuples_run, tuples_f}
 use Rattle.locmaf_read_block.specs.Whole.{WholeTuple}
 use Rattle.laws.specs.Each.{AllOf}
 use Rattle.locmaf_read_block.proofs.FrontLaws.{taken-cut}
@@ -21,6 +19,7 @@ use Rattle.locmaf_read_block.proofs.TupleLaws.{spans}
 use Rattle.locmaf_read_block.proofs.TupleRuns.{tuples-off}
 use Rattle.locmaf_read_block.proofs.OwnBytes.{tuple-own}
 use Rattle.locmaf_read_block.proofs.WholeTuples.{whole-own, own-whole}
+use Rattle.locmaf_read_block.specs.Front.{on_read}
 
 module _ (F : List Row) where
   -- ---- a block that splits
@@ -29,7 +28,7 @@ module _ (F : List Row) where
   WholeTuples s = (ts : List (List ℕ)) × (flatten ts ≡ s) × AllOf (WholeTuple F) ts
 
   -- the bytes of a tuple that was read are one whole tuple
-  whole-front : (at : ℕ) (s : List ℕ) (t : Tuple) (next : ℕ) → tuple_f F at s ≡ One t next → WholeTuple F (take (next - at) s)
+  whole-front : (at : ℕ) (s : List ℕ) (t : Tuple) (next : ℕ) → tuple_f F at s ≡ Some (t, next) → WholeTuple F (take (next - at) s)
   whole-front at s t next e =
       let z = spans F at s t next e in
       let m : ℕ = next - at in
@@ -38,7 +37,7 @@ module _ (F : List Row) where
       own-whole F (tuple-own F at (take m s) (drop m s) t (rw (take-append-drop m s, n) e))
 
   -- where the first is cut, the bytes are no whole tuples
-  cut-front : (at : ℕ) (b : ℕ) (s : List ℕ) → tuple_f F at (b ∷ s) ≡ Cut → (tuples_run F at (b ∷ s)).whole ≡ true → ⊥
+  cut-front : (at : ℕ) (b : ℕ) (s : List ℕ) → tuple_f F at (b ∷ s) ≡ None → (tuples_run F at (b ∷ s)).whole ≡ true → ⊥
   unfolding tuples_run tuple_front
   cut-front at b s e w = false≢true (rw (taken-cut (tuple_front F) at (b ∷ s) (omega arith) (rw e)) at w)
 
@@ -48,19 +47,19 @@ module _ (F : List Row) where
   split_step at [] w ih = ([], refl, tt)
   split_step at (b ∷ s) w ih = go (tuple_f F at (b ∷ s)) refl
     where
-      go : (g : Taken) → tuple_f F at (b ∷ s) ≡ g → WholeTuples (b ∷ s)
-      go (One t next) q =
+      go : (g : Option (Tuple × ℕ)) → tuple_f F at (b ∷ s) ≡ g → WholeTuples (b ∷ s)
+      go (Some (t, next)) q =
           let z = spans F at (b ∷ s) t next q in
           let m : ℕ = next - at in
           let r = ih next (drop m (b ∷ s)) (omega (arith, z.two, length-drop m (b ∷ s))) (rw (tuples-off F at (b ∷ s) t next q) at w) in
           (take m (b ∷ s) ∷ r.0, ap (λ (l : List ℕ). take m (b ∷ s) ++ l) r.1 ∙ take-append-drop m (b ∷ s), (whole-front at (b ∷ s) t next q, r.2))
-      go Cut q = absurd (cut-front at b s q w)
+      go None q = absurd (cut-front at b s q w)
 
   split-within : (n at : ℕ) (s : List ℕ) → length s ≤ n → (tuples_run F at s).whole ≡ true → WholeTuples s
   split-within zero at s h w = split_step at s w (λ p r l. absurd (omega arith))
   split-within (suc n) at s h w = split_step at s w (λ p r l. split-within n p r (omega arith))
 
-  pub split-whole : (at : ℕ) (s : List ℕ) (us : List Tuple) → tuples_f F at s ≡ some us → WholeTuples s
+  pub split-whole : (at : ℕ) (s : List ℕ) (us : List Tuple) → tuples_f F at s ≡ Some us → WholeTuples s
   unfolding tuples_f
   split-whole at s us e = split-within (length s) at s (omega arith) (wholly-inv (tuples_run F at s) us e).0
 
@@ -70,7 +69,7 @@ module _ (F : List Row) where
   fronts-long : (bs us x y : List ℕ) → WholeTuple F bs → WholeTuple F us → bs ++ x ≡ us ++ y → length bs ≡ length us
   fronts-long bs us x y h k e =
       let n : 0 + length bs ≡ 0 + length us =
-      ap (λ (t : Taken). on_taken t (λ u next. next) 0) (sym ((whole-own F bs h).again 0 x) ∙ ap (tuple_f F 0) e ∙ (whole-own F us k).again 0 y) in
+      ap (λ (t : Option (Tuple × ℕ)). on_read t (λ u next. next) 0) (sym ((whole-own F bs h).again 0 x) ∙ ap (tuple_f F 0) e ∙ (whole-own F us k).again 0 y) in
       omega arith
 
   -- a tuple has bytes

@@ -5,14 +5,14 @@ use native.Mathlib.Omega.{arith}
 use mathlib.Core.Path.{◌≡◌, refl, ◌∙◌, ap}
 use mathlib.Core.Bool.{true}
 use mathlib.Core.List.{List, [], ◌∷◌, ◌++◌, map, flatten, append_assoc, append-nil}
-use mathlib.Core.Option.{some}
+use Rattle.std.specs.Prelude.{Some}
 use lib.ListN.{length, length-append}
 use lib.Seq.{drop-append_seam}
 use Rattle.laws.proofs.SliceLaws.{slice-between, slice-within}
 use Rattle.wire.specs.declared.form.Row.{Row}
 use Rattle.locmaf_read_block.specs.declared.tuples.Tuple.{Tuple}
-use Rattle.locmaf_read_block.specs.Front.{series, before, wholly}
-use Rattle.locmaf_read_block.specs.Tuples.{part, tuple, tuple_f, on_taken, tuples_run, tuples_f}
+use Rattle.locmaf_read_block.specs.Front.{series, before, wholly, on_read}
+use Rattle.locmaf_read_block.specs.Tuples.{part, tuple, tuple_f, tuples_run, tuples_f}
 use Rattle.locmaf_read_block.specs.Entries.{Entry, content, contents, entries_at}
 use Rattle.locmaf_read_block.specs.Whole.{WholeTuple}
 use Rattle.laws.specs.Each.{AllOf}
@@ -30,7 +30,7 @@ module _ (F : List Row) where
 
   -- what its bytes say: its id, and the bytes of its number, its list or its records
   unfoldable pub entry_in : List ℕ → Entry
-  entry_in bs = on_taken (tuple_f F 0 bs) (λ t next. content bs t) (record { id = 0; bytes = [] })
+  entry_in bs = on_read (tuple_f F 0 bs) (λ t next. content bs t) (record { id = 0; bytes = [] })
 
   -- the tuple, where its bytes stand at the place at, and all of them from there on
   abbrev placed : ℕ → (bs : List ℕ) → WholeTuple F bs → Tuple
@@ -71,7 +71,7 @@ module _ (F : List Row) where
 
   -- a block of whole tuples, anywhere in a list, has their entries, in their order
   pub entries-joined : (pre post : List ℕ) (ts : List (List ℕ)) → AllOf (WholeTuple F) ts
-      → entries_at F (pre ++ (flatten ts ++ post)) (length pre) (length pre + length (flatten ts)) ≡ some (map entry_in ts)
+      → entries_at F (pre ++ (flatten ts ++ post)) (length pre) (length pre + length (flatten ts)) ≡ Some (map entry_in ts)
   unfolding entries_at tuples_f wholly
   entries-joined pre post ts h =
-      rw (slice-between pre (flatten ts) post, run-joined (length pre) ts h) (ap some (contents-joined _ _ pre post ts h refl refl))
+      rw (slice-between pre (flatten ts) post, run-joined (length pre) ts h) (ap Some (contents-joined _ _ pre post ts h refl refl))

@@ -14,8 +14,7 @@ use Rattle.wire.specs.declared.zigzag.Coding.TheVariants.{Plain}
 use Rattle.wire.specs.Varint.{encode}
 use Rattle.wire.specs.Zigzag.{wire_of}
 use Rattle.wire.proofs.ZigzagLaws.{coded-inv, back}
-use Rattle.runs.specs.declared.Measured.TheVariants.{Bytes}
-use Rattle.runs.specs.declared.Outcome.TheVariants.{Done}
+use Rattle.std.specs.Prelude.{Some, Ok}
 use Rattle.runs.specs.Run.{first, rest, run_of, measured}
 use Rattle.runs.proofs.RunLaws.{counted}
 use Rattle.locmaf_read_block.specs.Numbers.{steps_f}
@@ -35,7 +34,7 @@ module _ (coding : Coding) (base : ℕ) where
   wires-length old (v ∷ vs) = ap suc (wires-length (rest old) vs)
 
   -- a run that was measured is the varints of what stands on the wire, and each of them fits
-  pub run_is : (F : List Row) (old vs : List ℕ) (n : ℕ) → measured F coding base old vs ≡ Bytes n
+  pub run_is : (F : List Row) (old vs : List ℕ) (n : ℕ) → measured F coding base old vs ≡ Some n
       → (run_of F coding base old vs ≡ varints F (wires coding base old vs)) × AllFit F (wires coding base old vs)
   unfolding run_of varints wires
   run_is F old [] n e = (refl, tt)
@@ -47,7 +46,7 @@ module _ (coding : Coding) (base : ℕ) where
 
   -- the numbers lead back to the values
   pub steps_back : (bound : ℕ) (old vs : List ℕ) → all_le bound vs ≡ true
-      → steps_f coding base bound old (wires coding base old vs) ≡ record { answer = Done; values = vs }
+      → steps_f coding base bound old (wires coding base old vs) ≡ record { answer = Ok tt; values = vs }
   unfolding wires steps_f all_le
   steps_back bound old [] e = refl
   steps_back bound old (v ∷ vs) e = rw (back coding (first base old) v bound (leb-true _ _ (left _ _ e)), steps_back bound (rest old) vs (right _ _ e))

@@ -5,7 +5,6 @@ use native.Mathlib.Omega.{arith}
 use mathlib.Core.Path.{◌≡◌, refl, sym, ◌∙◌, ap}
 use mathlib.Core.Bool.{true, false, ◌||◌}
 use mathlib.Core.List.{List, [], ◌∷◌, ◌++◌, map, append_assoc, append-nil}
-use mathlib.Core.Option.{some}
 use borrow.Author.Tests.{le-leb, eq-eqb, ne_eqb}
 use lib.Dec.{eqb}
 use lib.ListN.{length, length-append}
@@ -16,7 +15,7 @@ use Rattle.wire.specs.Form.{limit}
 use Rattle.wire.specs.Varint.{encode, size_of}
 use Rattle.wire.proofs.FormLaws.{Lawful}
 use Rattle.wire.proofs.VarintLaws.{length-encode, read-encode, drop-encode}
-use Rattle.locmaf_read_block.specs.declared.tuples.Taken.TheVariants.{One}
+use Rattle.std.specs.Prelude.{Some}
 use Rattle.locmaf_read_block.specs.Front.{series, before, wholly}
 use Rattle.locmaf_read_block.specs.Tuples.{part, tuple, body_f, tuple_f, tuples_run, tuples_f}
 use Rattle.locmaf_read_block.specs.Numbers.{numbers_f}
@@ -29,7 +28,7 @@ use Rattle.locmaf_read_block.proofs.TupleRuns.{tuples-off, tuples-none}
 
 module _ (F : List Row) (w : Lawful 0 F) where
   -- reading the tuple that was written, with anything after it
-  pub tuple-item : (at : ℕ) (i : Item) (rest : List ℕ) → Writable F i → tuple_f F at (enc_item F i ++ rest) ≡ One (placed F at i) (at + length (enc_item F i))
+  pub tuple-item : (at : ℕ) (i : Item) (rest : List ℕ) → Writable F i → tuple_f F at (enc_item F i ++ rest) ≡ Some (placed F at i, at + length (enc_item F i))
   unfolding tuple_f body_f enc_item placed
   tuple-item at (num id v) rest h =
       let l : at + length (encode F id ++ encode F v) ≡ at + size_of F id + size_of F v =
@@ -69,12 +68,12 @@ module _ (F : List Row) (w : Lawful 0 F) where
       tuples-off F at (enc_item F i ++ enc_block F is) (placed F at i) (at + n) (tuple-item at i (enc_block F is) h.0)
       ∙ ap (before (placed F at i)) (rw (add-sub_cancel_left at n, drop-append_seam) (run-written (at + n) is h.1))
 
-  pub tuples-written : (at : ℕ) (is : List Item) → AllWritable F is → tuples_f F at (enc_block F is) ≡ some (place_all F at is)
+  pub tuples-written : (at : ℕ) (is : List Item) → AllWritable F is → tuples_f F at (enc_block F is) ≡ Some (place_all F at is)
   unfolding tuples_f wholly
   tuples-written at is h = rw (run-written at is h)
 
   -- a list's numbers
-  pub numbers-written : (vs : List ℕ) → AllFit F vs → numbers_f F (varints F vs) ≡ some vs
+  pub numbers-written : (vs : List ℕ) → AllFit F vs → numbers_f F (varints F vs) ≡ Some vs
   unfolding varints
   numbers-written [] h = numbers-nil F
   numbers-written (v ∷ vs) h =
@@ -131,16 +130,16 @@ module _ (F : List Row) where
 
 -- a block that was written, anywhere in a list, has the entries of its items, in their order
 pub entries-written : (F : List Row) → Lawful 0 F → (pre post : List ℕ) (is : List Item) → AllWritable F is
-    → entries_at F (pre ++ (enc_block F is ++ post)) (length pre) (length pre + length (enc_block F is)) ≡ some (map (entry_of F) is)
+    → entries_at F (pre ++ (enc_block F is ++ post)) (length pre) (length pre + length (enc_block F is)) ≡ Some (map (entry_of F) is)
 unfolding entries_at
 entries-written F w pre post is h =
-    rw (slice-between pre (enc_block F is) post, tuples-written F w (length pre) is h) (ap some (contents-written F pre post is h))
+    rw (slice-between pre (enc_block F is) post, tuples-written F w (length pre) is h) (ap Some (contents-written F pre post is h))
 
 -- ---- what the entries of written items say
 
 module _ (F : List Row) (w : Lawful 0 F) where
   -- a scalar its number
-  pub body-num : (id v : ℕ) → id % 2 ≡ 0 → v < limit F → body F id (encode F v) ≡ some (v ∷ [])
+  pub body-num : (id v : ℕ) → id % 2 ≡ 0 → v < limit F → body F id (encode F v) ≡ Some (v ∷ [])
   unfolding body
   body-num id v e h =
       let r : List ℕ = encode F v in
@@ -150,11 +149,11 @@ module _ (F : List Row) (w : Lawful 0 F) where
 
   -- a list its numbers
   pub body-list : (id : ℕ) (vs : List ℕ) → (id % 2 ≡ 0 → ⊥) → eqb id 25 ≡ false → eqb id 9 || eqb id 23 ≡ false → AllFit F vs
-      → body F id (varints F vs) ≡ some vs
+      → body F id (varints F vs) ≡ Some vs
   unfolding body
   body-list id vs e f g h = rw (ne_eqb _ _ e, f, g) (numbers-written F w vs h)
 
   -- raw bytes themselves
-  pub body-raw : (id : ℕ) (bs : List ℕ) → (id % 2 ≡ 0 → ⊥) → eqb id 25 ≡ false → eqb id 9 || eqb id 23 ≡ true → body F id bs ≡ some bs
+  pub body-raw : (id : ℕ) (bs : List ℕ) → (id % 2 ≡ 0 → ⊥) → eqb id 25 ≡ false → eqb id 9 || eqb id 23 ≡ true → body F id bs ≡ Some bs
   unfolding body
   body-raw id bs e f g = rw (ne_eqb _ _ e, f, g)

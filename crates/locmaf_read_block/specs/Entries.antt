@@ -1,7 +1,5 @@
 -- What the tuples of a block hold, apart from where they stand: everything that is decided once a block has been read is a function of it.
-use Rattle.std.specs.Prelude.{ℕ, ◌%◌, Bool, true, false, cond, not, ◌&&◌, ◌||◌, List, [], ◌∷◌, map, eqb, leb}
-use Rattle.std.proofs.Math.Option
-use Rattle.std.proofs.Math.Option.{Option, none, some}
+use Rattle.std.specs.Prelude.{ℕ, ◌%◌, Bool, true, false, cond, not, ◌&&◌, ◌||◌, List, [], ◌∷◌, map, eqb, leb, Option, Some, None, option_map}
 use Rattle.std.proofs.Math.Seq.{slice}
 use Rattle.laws.specs.Tests.{◌and◌}
 use Rattle.wire.specs.declared.form.Row.{Row}
@@ -26,14 +24,14 @@ contents s ts = map (content s) ts
 
 -- the entries of the block that stands in s from the place at to the place end, none where a tuple is cut
 unfoldable pub entries_at : List Row → List ℕ → ℕ → ℕ → Option (List Entry)
-entries_at F s at end = Option.map (contents s) (tuples_f F at (slice at end s))
+entries_at F s at end = option_map (contents s) (tuples_f F at (slice at end s))
 
 -- the numbers of an id: a scalar's one, a list's varints; of raw bytes and records the bytes; none where something is cut
 unfoldable pub body : List Row → ℕ → List ℕ → Option (List ℕ)
 body F id bs =
     cond (eqb (id % 2) 0) (numbers_f F bs)
-    (cond (eqb id 25) (on_option (records_f F 0 bs) (λ _. some bs) none)
-    (cond (eqb id 9 || eqb id 23) (some bs)
+    (cond (eqb id 25) (on_option (records_f F 0 bs) (λ _. Some bs) None)
+    (cond (eqb id 9 || eqb id 23) (Some bs)
     (numbers_f F bs)))
 
 -- 12: "object unreadable" where an entry isn't
@@ -56,9 +54,9 @@ lawful (e ∷ es) = known e.id and not (member e.id es) and lawful es
 
 -- the first entry of an id
 unfoldable pub entry : ℕ → List Entry → Option (List ℕ)
-entry id [] = none
-entry id (e ∷ es) = cond (eqb e.id id) (some e.bytes) (entry id es)
+entry id [] = None
+entry id (e ∷ es) = cond (eqb e.id id) (Some e.bytes) (entry id es)
 
 -- what a block's entries say of an id: its numbers
 unfoldable pub says : List Row → List Entry → ℕ → Option (List ℕ)
-says F es id = on_option (entry id es) (body F id) none
+says F es id = on_option (entry id es) (body F id) None

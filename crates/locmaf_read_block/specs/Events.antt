@@ -1,7 +1,5 @@
 -- What the records of an emsg list hold, apart from where they stand.
-use Rattle.std.specs.Prelude.{ℕ, List, map}
-use Rattle.std.proofs.Math.Option
-use Rattle.std.proofs.Math.Option.{Option}
+use Rattle.std.specs.Prelude.{ℕ, List, map, Option, option_map}
 use Rattle.wire.specs.declared.form.Row.{Row}
 use Rattle.locmaf_read_block.specs.declared.records.Record.{Record}
 use Rattle.locmaf_read_block.specs.Records.{records_f}
@@ -25,4 +23,4 @@ event_of s r =
 
 -- the events of a list, none where a record is cut: a function of id 25's bytes alone
 unfoldable pub events_f : List Row → List ℕ → Option (List Event)
-events_f F bs = Option.map (map (event_of bs)) (records_f F 0 bs)
+events_f F bs = option_map (map (event_of bs)) (records_f F 0 bs)

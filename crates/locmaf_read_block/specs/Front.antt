@@ -1,8 +1,7 @@
 -- Things that stand one behind the other in a list, each taken off the front: varints, tuples and records alike.
 -- 01: "Records are taken off the front until no bytes remain."
 -- ==== The rules
-use Rattle.std.specs.Prelude.{ℕ, zero, suc, ◌-◌, Bool, true, false, cond, List, [], ◌∷◌}
-use Rattle.std.proofs.Math.Option.{Option, none, some}
+use Rattle.std.specs.Prelude.{ℕ, zero, suc, ◌-◌, Bool, true, false, cond, List, [], ◌∷◌, Option, Some, None}
 
 -- what stands at the front and how many elements it takes, or that the list ends too early for it
 pub data Front (A : Type 0) : Type 0 where
@@ -12,6 +11,11 @@ pub data Front (A : Type 0) : Type 0 where
 abbrev pub on_front : {A B : Type 0} → Front A → (A → ℕ → B) → B → B
 on_front (off x k) f z = f x k
 on_front cut f z = z
+
+-- what was read and the place after it, or else
+abbrev pub on_read : {A B : Type 0} → Option (A × ℕ) → (A → ℕ → B) → B → B
+on_read (Some (x, next)) f z = f x next
+on_read None f z = z
 
 -- the things that were taken off, and whether nothing remains behind them
 pub record Series (A : Type 0) : Type 0 where
@@ -34,4 +38,4 @@ module _ {A : Type 0} (front : ℕ → List ℕ → Front A) where
 
 -- all the things, where nothing remains behind them
 unfoldable pub wholly : {A : Type 0} → Series A → Option (List A)
-wholly r = cond r.whole (some r.items) none
+wholly r = cond r.whole (Some r.items) None

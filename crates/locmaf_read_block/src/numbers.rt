@@ -6,14 +6,6 @@ ghost use Rattle.wire.specs.Form.{rows, ones};
 ghost use Rattle.locmaf_read_block.specs.Numbers.{all_ones, count_at};
 
 use wire::form::Form;
-use wire::varint::Got;
-
-// How many fill the bytes, or that the last is cut.
-#[derive(Clone, Copy)]
-pub enum Counted {
-    Whole(usize),
-    Cut,
-}
 
 // Whether the byte at a place is a varint by itself.
 fn one_at(form: Form, s: &[u8], p: usize) -> bool
@@ -60,27 +52,24 @@ fn all_ones(form: Form, s: &[u8], at: usize, end: usize) -> bool
 }
 
 // How many varints fill the bytes from the place at to the place end. A run of varints of one byte has as many as it has bytes.
-pub fn count(form: Form, s: &[u8], at: usize, end: usize) -> Counted
+pub fn count(form: Form, s: &[u8], at: usize, end: usize) -> Option<usize>
     ensures { result ≡ count_at (rows form) s.now at end }
 {
     if s.len() < end {
-        return Counted::Cut;
+        return None;
     }
     if end <= at {
-        return Counted::Whole(0);
+        return Some(0);
     }
     if all_ones(form, s, at, end) {
-        return Counted::Whole(end - at);
+        return Some(end - at);
     }
     let mut n = 0;
     let mut p = at;
     while p < end {
-        let g = wire::varint::read(form, s, p, end);
-        let Got::Value(_, next) = g else {
-            return Counted::Cut;
-        };
+        let (_, next) = wire::varint::read(form, s, p, end)?;
         p = next;
         n += 1;
     }
-    Counted::Whole(n)
+    Some(n)
 }

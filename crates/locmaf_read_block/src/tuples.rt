@@ -7,7 +7,6 @@ ghost use Rattle.locmaf_read_block.specs.Tuples.{kind_of, tuple_at};
 use byte_parts::Part;
 use constants::ids;
 use wire::form::Form;
-use wire::varint::Got;
 
 // What a tuple holds: one varint, a list of varints, bytes as they are, or records of events.
 #[derive(Clone, Copy)]
@@ -26,13 +25,6 @@ pub struct Tuple {
     pub kind: Kind,
 }
 
-// The tuple and the place after it, or that the bytes end too early.
-#[derive(Clone, Copy)]
-pub enum Taken {
-    One(Tuple, usize),
-    Cut,
-}
-
 fn kind_of(id: u64, part: Part) -> Kind
     ensures { result ≡ kind_of id part }
 {
@@ -49,39 +41,33 @@ fn kind_of(id: u64, part: Part) -> Kind
 }
 
 // The tuple from the place at, that ends before the place end.
-pub fn tuple_at(form: Form, s: &[u8], at: usize, end: usize) -> Taken
+pub fn tuple_at(form: Form, s: &[u8], at: usize, end: usize) -> Option<(Tuple, usize)>
     ensures { result ≡ tuple_at (rows form) s.now at end }
 {
-    let g = wire::varint::read(form, s, at, end);
-    let Got::Value(id, p) = g else {
-        return Taken::Cut;
-    };
-    let h = wire::varint::read(form, s, p, end);
-    let Got::Value(n, q) = h else {
-        return Taken::Cut;
-    };
+    let (id, p) = wire::varint::read(form, s, at, end)?;
+    let (n, q) = wire::varint::read(form, s, p, end)?;
     if id % 2 == 0 {
         let scalar = kind_of(id, Part { at: p, len: q - p });
-        return Taken::One(
+        return Some((
             Tuple {
                 id,
                 number: n,
                 kind: scalar,
             },
             q,
-        );
+        ));
     }
     if ((end - q) as u64) < n {
-        return Taken::Cut;
+        return None;
     }
     let len = n as usize;
     let held = kind_of(id, Part { at: q, len });
-    Taken::One(
+    Some((
         Tuple {
             id,
             number: n,
             kind: held,
         },
         q + len,
-    )
+    ))
 }

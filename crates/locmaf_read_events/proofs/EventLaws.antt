@@ -18,11 +18,10 @@ use Rattle.laws.proofs.TestLaws.{and-next, and-end}
 use Rattle.track.specs.declared.Track.{Track}
 use Rattle.track.specs.Track.{u32}
 use Rattle.media.specs.declared.clocks.TrackTicks.{TrackTicks}
-use Rattle.media.specs.declared.clocks.TrackTime.{TrackTime}
-use Rattle.media.specs.declared.clocks.TrackTime.TheVariants.{At, Outside}
-use Rattle.media.specs.Clocks.{on_track}
+use Rattle.std.specs.Prelude.{Option, Some, None}
 use Rattle.event_value.specs.Events.{part, Inside, EventFits, EventsFit, event_words, events_len, event_scheme, event_scheme_len, event_value, event_value_len, event_timescale, event_time, event_duration, event_id, event_message, event_message_len}
 use Rattle.locmaf_read_events.specs.Events.{from_bmdt, on_clock, rebuilt, timed, event_ok, events_ok, all_rebuilt, EventRead, EventsRead}
+use Rattle.laws.specs.Options.{on_option}
 
 -- ---- bytes that are not 0
 
@@ -57,12 +56,12 @@ module _ (t : Track) (bmdt : ℕ) (e : List ℕ) where
 
   module _ (zero : get_or e event_timescale 0 ≡ 0) where
     -- its time is below 0
-    pub time-outside : Outside ≡ from_bmdt bmdt (get_or e event_time 0) → (false ≡ timed bmdt e) × (e ≡ rebuilt t bmdt e)
+    pub time-outside : None ≡ from_bmdt bmdt (get_or e event_time 0) → (false ≡ timed bmdt e) × (e ≡ rebuilt t bmdt e)
     unfolding timed rebuilt on_clock
     time-outside q = (rw (eq-eqb _ _ zero, ← q), rw (eq-eqb _ _ zero, ← q))
 
     -- its time is on the track's clock
-    pub time-at : (x : TrackTicks) → At x ≡ from_bmdt bmdt (get_or e event_time 0)
+    pub time-at : (x : TrackTicks) → Some x ≡ from_bmdt bmdt (get_or e event_time 0)
         → (true ≡ timed bmdt e) × (set (set e event_timescale t.timescale) event_time x.0 ≡ rebuilt t bmdt e)
     unfolding timed rebuilt on_clock
     time-at x q = (rw (eq-eqb _ _ zero, ← q), rw (eq-eqb _ _ zero, ← q))
@@ -82,13 +81,13 @@ module _ (t : Track) (bmdt : ℕ) (ws : List ℕ) (p : ℕ) where
   unfolding rebuilt on_clock
   kept h j a b = go (eqb (get_or (drop p ws) 4 0) 0) (from_bmdt bmdt (get_or (drop p ws) 5 0))
     where
-      go : (c : Bool) (x : TrackTime)
-          → get_or (take p ws ++ cond c (on_track x (λ time. sets (drop p ws) 4 (t.timescale ∷ time.0 ∷ [])) (drop p ws)) (drop p ws)) j 0 ≡ get_or ws j 0
-      go true (At x) =
+      go : (c : Bool) (x : Option TrackTicks)
+          → get_or (take p ws ++ cond c (on_option x (λ time. sets (drop p ws) 4 (t.timescale ∷ time.0 ∷ [])) (drop p ws)) (drop p ws)) j 0 ≡ get_or ws j 0
+      go true (Some x) =
           let d : j ≡ suc (p + 4) → ⊥ = λ e. b (omega arith) in
           rw (← put-at (t.timescale ∷ x.0 ∷ []) h)
           (get_or-set_other (set ws (p + 4) t.timescale) (suc (p + 4)) j x.0 0 d ∙ get_or-set_other ws (p + 4) j t.timescale 0 a)
-      go true Outside = rw (take-append-drop p ws)
+      go true None = rw (take-append-drop p ws)
       go false x = rw (take-append-drop p ws)
 
 -- a string, as it is looked at
@@ -121,9 +120,9 @@ module _ (bmdt n : ℕ) (e : List ℕ) (h : 8 ≤ n) where
     unfolding rebuilt on_clock
     length-rebuilt = go (eqb (get_or e event_timescale 0) 0) (from_bmdt bmdt (get_or e event_time 0))
       where
-        go : (c : Bool) (x : TrackTime) → length (cond c (on_track x (λ time. sets e event_timescale (t.timescale ∷ time.0 ∷ [])) e) e) ≡ length e
-        go true (At x) = length-sets e event_timescale (t.timescale ∷ x.0 ∷ [])
-        go true Outside = refl
+        go : (c : Bool) (x : Option TrackTicks) → length (cond c (on_option x (λ time. sets e event_timescale (t.timescale ∷ time.0 ∷ [])) e) e) ≡ length e
+        go true (Some x) = length-sets e event_timescale (t.timescale ∷ x.0 ∷ [])
+        go true None = refl
         go false x = refl
 
     cut-rebuilt : n ≤ length e → rebuilt t bmdt e ≡ rebuilt t bmdt (take n e) ++ drop n e
@@ -135,11 +134,11 @@ module _ (bmdt n : ℕ) (e : List ℕ) (h : 8 ≤ n) where
             let r : event_timescale + length vs ≤ length (take n e) = omega (arith, length-take-le n e l) in
             ap (λ (z : List ℕ). sets z event_timescale vs) (sym (take-append-drop n e)) ∙ sets-before vs (take n e) (drop n e) event_timescale r
 
-        go : (c : Bool) (x : TrackTime)
-            → cond c (on_track x (λ time. sets e event_timescale (t.timescale ∷ time.0 ∷ [])) e) e
-            ≡ cond c (on_track x (λ time. sets (take n e) event_timescale (t.timescale ∷ time.0 ∷ [])) (take n e)) (take n e) ++ drop n e
-        go true (At x) = front (t.timescale ∷ x.0 ∷ []) refl
-        go true Outside = sym (take-append-drop n e)
+        go : (c : Bool) (x : Option TrackTicks)
+            → cond c (on_option x (λ time. sets e event_timescale (t.timescale ∷ time.0 ∷ [])) e) e
+            ≡ cond c (on_option x (λ time. sets (take n e) event_timescale (t.timescale ∷ time.0 ∷ [])) (take n e)) (take n e) ++ drop n e
+        go true (Some x) = front (t.timescale ∷ x.0 ∷ []) refl
+        go true None = sym (take-append-drop n e)
         go false x = sym (take-append-drop n e)
 
 -- ---- one event after another

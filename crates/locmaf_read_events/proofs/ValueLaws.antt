@@ -5,7 +5,6 @@ use native.Mathlib.Omega.{arith}
 use mathlib.Core.Path.{◌≡◌, refl, sym, ◌∙◌, ap}
 use mathlib.Core.Bool.{Bool, true, false, cond}
 use mathlib.Core.List.{List, [], ◌∷◌, ◌++◌, map}
-use mathlib.Core.Option.{Option, none, some}
 use lib.Dec.{eqb}
 use lib.ListN.{length, get_or, take, drop, length-append, length-map}
 use lib.Seq.{slice, length-slice, sets, sets-eq, take_all, take-nil, get_or-append-add}
@@ -14,9 +13,8 @@ use Rattle.locmaf_read_index.specs.Places.{number_at, many_at}
 use Rattle.laws.specs.Tests.{◌and◌}
 use Rattle.wire.specs.declared.form.Row.{Row}
 use Rattle.track.specs.declared.Track.{Track}
-use Rattle.media.specs.declared.clocks.TrackTime.{TrackTime}
-use Rattle.media.specs.declared.clocks.TrackTime.TheVariants.{At, Outside}
-use Rattle.media.specs.Clocks.{on_track}
+use Rattle.media.specs.declared.clocks.TrackTicks.{TrackTicks}
+use Rattle.std.specs.Prelude.{Option, Some, None}
 use Rattle.byte_parts.specs.declared.Part.{Part}
 use Rattle.locmaf_read_block.specs.declared.records.Record.{Record}
 use Rattle.locmaf_read_block.specs.Tuples.{bytes_of}
@@ -74,13 +72,13 @@ module _ (t : Track) (bmdt : ℕ) (o : List ℕ) (r : Record) where
           ≡ box scale time (bytes_of o r.scheme) (bytes_of o r.value) (bytes_of o r.message)
       same scale time = λ j. box scale time (part-is o r.scheme j) (part-is o r.value j) (part-is o r.message j)
 
-      go : (c : Bool) (x : TrackTime)
-          → event_at o (cond c (on_track x (λ time. sets (record_words r) 4 (t.timescale ∷ time.0 ∷ [])) (record_words r)) (record_words r) ++ ws) 0
+      go : (c : Bool) (x : Option TrackTicks)
+          → event_at o (cond c (on_option x (λ time. sets (record_words r) 4 (t.timescale ∷ time.0 ∷ [])) (record_words r)) (record_words r) ++ ws) 0
           ≡ cond c
-          (on_track x (λ time. with_time (event_of o r) t.timescale time.0) (with_time (event_of o r) r.timescale r.time))
+          (on_option x (λ time. with_time (event_of o r) t.timescale time.0) (with_time (event_of o r) r.timescale r.time))
           (with_time (event_of o r) r.timescale r.time)
-      go true (At x) = same t.timescale x.0
-      go true Outside = same r.timescale r.time
+      go true (Some x) = same t.timescale x.0
+      go true None = same r.timescale r.time
       go false x = same r.timescale r.time
 
 -- ---- behind the words of one event
@@ -159,7 +157,7 @@ module _ (o rest : List ℕ) where
       fits-past (record_words r) (words_of rs ++ rest) refl o i (all-inside from to h k rs a.1 i (omega arith))
 
   -- the parts of the records of a list that stands in the object lie in it
-  pub words_inside : (F : List Row) (place n : ℕ) (rs : List Record) → records_f F place (slice place (place + n) o) ≡ some rs
+  pub words_inside : (F : List Row) (place n : ℕ) (rs : List Record) → records_f F place (slice place (place + n) o) ≡ Some rs
       → place + n ≤ length o → n ≤ block_most → length rs ≤ events_most → EventsFit o (words_of rs ++ rest) (length rs)
   words_inside F place n rs e h m few =
       let bs : List ℕ = slice place (place + n) o in
@@ -191,22 +189,22 @@ pub record EventsTold (F : List Row) (t : Track) (bmdt : ℕ) (o events : List �
   pub size : on_option said length 0 ≡ n
 
 -- what is said of id 25 is its bytes
-list-is : (F : List Row) (bs zs : List ℕ) → body F 25 bs ≡ some zs → bs ≡ zs
+list-is : (F : List Row) (bs zs : List ℕ) → body F 25 bs ≡ Some zs → bs ≡ zs
 unfolding body
 list-is F bs zs e = go (records_f F 0 bs) e
   where
-    go : (x : Option (List Record)) → on_option x (λ _. some bs) none ≡ some zs → bs ≡ zs
-    go (some rs) d = cc
-    go none d = let z : ◌≡◌ {A = ℕ} 0 1 = cc in absurd (omega arith)
+    go : (x : Option (List Record)) → on_option x (λ _. Some bs) None ≡ Some zs → bs ≡ zs
+    go (Some rs) d = cc
+    go None d = cc
 
-listed-is : (F : List Row) (zs : List ℕ) (es : List Event) → events_f F zs ≡ some es → listed F (some zs) ≡ es
+listed-is : (F : List Row) (zs : List ℕ) (es : List Event) → events_f F zs ≡ Some es → listed F (Some zs) ≡ es
 unfolding listed
 listed-is F zs es e = rw e
 
 -- the records of a list that stands in the object, by their words
 records-told : (F : List Row) (t : Track) (bmdt : ℕ) (o : List ℕ) (place n : ℕ) (rs : List Record) (rest events zs : List ℕ)
-    → records_f F place (slice place (place + n) o) ≡ some rs → place + n ≤ length o → n ≤ block_most → length rs ≤ events_most
-    → events ≡ words_of rs ++ rest → listed F (some zs) ≡ map (event_of o) rs → length zs ≡ n → EventsTold F t bmdt o events (length rs) n (some zs)
+    → records_f F place (slice place (place + n) o) ≡ Some rs → place + n ≤ length o → n ≤ block_most → length rs ≤ events_most
+    → events ≡ words_of rs ++ rest → listed F (Some zs) ≡ map (event_of o) rs → length zs ≡ n → EventsTold F t bmdt o events (length rs) n (Some zs)
 records-told F t bmdt o place n rs rest events zs q h m few w l size =
     record {
       inside = rw w (words_inside o rest F place n rs q h m few);
@@ -229,14 +227,14 @@ module _ (F : List Row) (o : List ℕ) (end : ℕ) (words before events zs : Lis
   bytes : slice h.place (h.place + get_or words (number_at 25) 0) o ≡ zs
   bytes = list-is F (slice h.place (h.place + get_or words (number_at 25) 0) o) zs (h.bytes odd)
 
-  list : listed F (some zs) ≡ map (event_of o) records
+  list : listed F (Some zs) ≡ map (event_of o) records
   list = listed-is F zs (map (event_of o) records) (rw bytes at (events-at F o h.place (get_or words (number_at 25) 0) records within (h.records refl).1))
 
   how-many : get_or words (many_at 25) 0 ≡ length records
   how-many = (h.records refl).2
 
   -- as many as the index says, however many
-  pub events-count : length (listed F (some zs)) ≡ get_or words (many_at 25) 0
+  pub events-count : length (listed F (Some zs)) ≡ get_or words (many_at 25) 0
   events-count = ap length list ∙ length-map records (event_of o) ∙ sym how-many
 
   -- in as many bytes
@@ -245,7 +243,7 @@ module _ (F : List Row) (o : List ℕ) (end : ℕ) (words before events zs : Lis
 
   -- at most 16, in at most 4,096 bytes
   pub events-told : (t : Track) (bmdt : ℕ) → length before ≡ events_len → get_or words (many_at 25) 0 ≤ events_most → get_or words (number_at 25) 0 ≤ event_bytes_most
-      → EventsTold F t bmdt o events (get_or words (many_at 25) 0) (get_or words (number_at 25) 0) (some zs)
+      → EventsTold F t bmdt o events (get_or words (many_at 25) 0) (get_or words (number_at 25) 0) (Some zs)
   events-told t bmdt l few small =
       let k : length records ≤ events_most = omega (arith, how-many) in
       let w : events ≡ words_of records ++ drop (event_words * length records) before = (h.records refl).3 ∙ words-stored before records k l in
@@ -254,7 +252,7 @@ module _ (F : List Row) (o : List ℕ) (end : ℕ) (words before events zs : Lis
       (records-told F t bmdt o h.place (get_or words (number_at 25) 0) records (drop (event_words * length records) before) events zs q within (omega arith) k w list events-size)
 
 -- where nothing is said of them there are none
-pub events-none : (F : List Row) (t : Track) (bmdt : ℕ) (o events : List ℕ) → EventsTold F t bmdt o events 0 0 none
+pub events-none : (F : List Row) (t : Track) (bmdt : ℕ) (o events : List ℕ) → EventsTold F t bmdt o events 0 0 None
 unfolding events_ok all_fit all_rebuilt events_from listed
 events-none F t bmdt o events =
     record {
@@ -270,18 +268,18 @@ events-none F t bmdt o events =
 module _ (F : List Row) (o : List ℕ) (end : ℕ) (words before events : List ℕ) (e : end ≤ length o) where
   pub said-count : (said : Option (List ℕ)) → Tells F o end words before events 25 said → length (listed F said) ≡ get_or words (many_at 25) 0
   unfolding listed
-  said-count none h = sym (h 2 (omega arith))
-  said-count (some zs) h = events-count F o end words before events zs h e
+  said-count None h = sym (h 2 (omega arith))
+  said-count (Some zs) h = events-count F o end words before events zs h e
 
   pub said-size : (said : Option (List ℕ)) → Tells F o end words before events 25 said → on_option said length 0 ≡ get_or words (number_at 25) 0
-  said-size none h = sym (h 1 (omega arith))
-  said-size (some zs) h = events-size F o end words before events zs h e
+  said-size None h = sym (h 1 (omega arith))
+  said-size (Some zs) h = events-size F o end words before events zs h e
 
   pub said-told : (said : Option (List ℕ)) → Tells F o end words before events 25 said → (t : Track) (bmdt : ℕ)
       → length before ≡ events_len → get_or words (many_at 25) 0 ≤ events_most → get_or words (number_at 25) 0 ≤ event_bytes_most
       → EventsTold F t bmdt o events (get_or words (many_at 25) 0) (get_or words (number_at 25) 0) said
-  said-told none h t bmdt l few small =
+  said-told None h t bmdt l few small =
       let k : get_or words (many_at 25) 0 ≡ 0 = h 2 (omega arith) in
       let n : get_or words (number_at 25) 0 ≡ 0 = h 1 (omega arith) in
       rw (k, n) (events-none F t bmdt o events)
-  said-told (some zs) h t bmdt l few small = events-told F o end words before events zs h e t bmdt l few small
+  said-told (Some zs) h t bmdt l few small = events-told F o end words before events zs h e t bmdt l few small

@@ -8,14 +8,15 @@ use Rattle.track.specs.declared.Track.{Track}
 use Rattle.track.specs.Track.{u32}
 use Rattle.wire.specs.declared.zigzag.Coding.TheVariants.{Delta}
 use Rattle.media.specs.declared.clocks.TrackTicks.{TrackTicks}
-use Rattle.media.specs.declared.clocks.TrackTime.{TrackTime}
-use Rattle.media.specs.Clocks.{on_track, track_at}
+use Rattle.std.specs.Prelude.{Option}
+use Rattle.media.specs.Clocks.{track_at}
 use Rattle.event_value.specs.Events.{part, event_words, event_scheme, event_scheme_len, event_value, event_value_len, event_timescale, event_time, event_duration, event_id, EventsFit}
+use Rattle.laws.specs.Options.{on_option}
 
 -- ==== The rules
 
 -- the time at a distance from BMDT; the box field has 64 bits
-abbrev pub from_bmdt : ℕ → ℕ → TrackTime
+abbrev pub from_bmdt : ℕ → ℕ → Option TrackTicks
 from_bmdt bmdt z = track_at Delta bmdt (2 ^ 64 - 1) z
 
 -- ==== What only mirrors the code
@@ -23,7 +24,7 @@ from_bmdt bmdt z = track_at Delta bmdt (2 ^ 64 - 1) z
 -- 01: "Timescale 0 means the track's .. Then the time is a zigzag distance from BMDT in track ticks; otherwise an absolute count on the
 -- event's own clock."
 unfoldable pub on_clock : {A : Type 0} → ℕ → List ℕ → (TrackTicks → A) → A → A → A
-on_clock bmdt e track outside own = cond (eqb (get_or e event_timescale 0) 0) (on_track (from_bmdt bmdt (get_or e event_time 0)) track outside) own
+on_clock bmdt e track outside own = cond (eqb (get_or e event_timescale 0) 0) (on_option (from_bmdt bmdt (get_or e event_time 0)) track outside) own
 
 -- the words of an event with the timescale and time of its box
 unfoldable pub rebuilt : Track → ℕ → List ℕ → List ℕ

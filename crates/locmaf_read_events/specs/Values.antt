@@ -1,30 +1,29 @@
 -- The events of an object as it says them, and as the boxes of its chunk have them.
 -- ==== The rules
-use Rattle.std.specs.Prelude.{ℕ, Bool, true, false, cond, List, [], ◌∷◌, map, eqb, leb}
-use Rattle.std.proofs.Math.Option.{Option, none, some}
+use Rattle.std.specs.Prelude.{ℕ, Bool, true, false, cond, List, [], ◌∷◌, map, eqb, leb, Option, Some, None}
 use Rattle.laws.specs.Tests.{◌and◌, no_zero}
 use Rattle.wire.specs.declared.form.Row.{Row}
 use Rattle.track.specs.declared.Track.{Track}
 use Rattle.track.specs.Track.{u32}
-use Rattle.media.specs.Clocks.{on_track}
 use Rattle.block_items.specs.Events.{Event}
 use Rattle.locmaf_read_block.specs.Events.{events_f}
 use Rattle.event_value.specs.Events.{Event as Box}
 use Rattle.locmaf_read_events.specs.Events.{from_bmdt}
+use Rattle.laws.specs.Options.{on_option}
 
 -- the events that id 25 lists (D88)
 unfoldable pub listed : List Row → Option (List ℕ) → List Event
-listed F none = []
-listed F (some bs) = on_events (events_f F bs)
+listed F None = []
+listed F (Some bs) = on_events (events_f F bs)
   where
     on_events : Option (List Event) → List Event
-    on_events none = []
-    on_events (some es) = es
+    on_events None = []
+    on_events (Some es) = es
 
 -- 01: "Timescale 0 means the track's .. Then the time is a zigzag distance from BMDT in track ticks; otherwise an absolute count on the
 -- event's own clock." (D111, D112)
 abbrev pub on_time : {A : Type 0} → Track → ℕ → Event → (ℕ → ℕ → A) → A → A
-on_time t bmdt e f outside = cond (eqb e.timescale 0) (on_track (from_bmdt bmdt e.time) (λ time. f t.timescale time.0) outside) (f e.timescale e.time)
+on_time t bmdt e f outside = cond (eqb e.timescale 0) (on_option (from_bmdt bmdt e.time) (λ time. f t.timescale time.0) outside) (f e.timescale e.time)
 
 -- 01: "A rebuilt time below 0: 15. Strings hold no zero byte (15)"; timescale, duration and id have 32 bits (D113)
 unfoldable pub fits : Track → ℕ → Event → Bool

@@ -5,7 +5,7 @@ ghost use Rattle.std.proofs.Math.Seq.{slice};
 ghost use Rattle.event_value.specs.Events.{event_words, events_len, event_scheme, event_scheme_len, event_value, event_value_len, Inside, EventsFit};
 ghost use Rattle.locmaf_read_events.specs.Events.{rebuilt, timed, no_zero, EventRead, EventsRead};
 
-use media::clocks::{TrackTicks, TrackTime};
+use media::clocks::TrackTicks;
 use track::Track;
 use wire::zigzag::Coding;
 
@@ -19,10 +19,8 @@ fn no_zero(o: &[u8], from: usize, to: usize) -> bool
     ensures { result ≡ no_zero (slice from to o.now) }
 {
     let mut ok = true;
-    let mut i = from;
-    while i < to {
+    for i in from..to {
         ok = ok & (o[i] != 0);
-        i += 1;
     }
     ok
 }
@@ -37,8 +35,7 @@ fn rebuild(t: Track, bmdt: TrackTicks, event: &mut [u64]) -> bool
     if event[event_value::TIMESCALE] != 0 {
         return true;
     }
-    let at = bmdt.reach(Coding::Delta, U64, event[event_value::TIME]);
-    let TrackTime::At(time) = at else {
+    let Some(time) = bmdt.reach(Coding::Delta, U64, event[event_value::TIME]) else {
         return false;
     };
     event[event_value::TIMESCALE] = t.timescale as u64;
@@ -69,11 +66,9 @@ pub fn events_ok(t: Track, bmdt: TrackTicks, o: &[u8], events: &mut [u64], k: us
     ensures { EventsRead t bmdt.0 o.now events.old k result events.new }
 {
     let mut ok = true;
-    let mut i = 0;
-    while i < k {
+    for i in 0..k {
         let p = event_value::WORDS * i;
         ok = ok & event_ok(t, bmdt, o, &mut events[p..p + event_value::WORDS]);
-        i += 1;
     }
     ok
 }

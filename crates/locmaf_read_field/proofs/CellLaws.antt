@@ -11,10 +11,10 @@ use lib.ListN.{length, get_or, set, replicate, length-set}
 use lib.Seq.{slice, sets, length-sets, length-slice, get_or-set_other, set-get_or}
 use Rattle.wire.specs.declared.form.Row.{Row}
 use Rattle.wire.specs.declared.zigzag.Coding.{Coding}
-use Rattle.wire.specs.declared.zigzag.Reached.TheVariants.{To, Outside as Beyond}
+use Rattle.runs.specs.declared.Misread.{Misread}
+use Rattle.runs.specs.declared.Misread.TheVariants.{Misfit, Outside}
+use Rattle.std.specs.Prelude.{Some, None, Result, Ok, Err}
 use Rattle.wire.specs.Zigzag.{reached}
-use Rattle.runs.specs.declared.Outcome.{Outcome}
-use Rattle.runs.specs.declared.Outcome.TheVariants.{Done, Misfit, Outside}
 use Rattle.runs.specs.Run.{FilledAs, filled_at}
 use Rattle.runs.proofs.RunLaws.{filled-inside}
 use Rattle.locmaf_read_block.specs.Numbers.{steps_f}
@@ -57,11 +57,11 @@ taken-always h = record { answered = h.answered; taken = λ _. h; long = h.long 
 
 -- ---- a single value
 module _ (coding : Coding) (old bound z place : ℕ) (x : List ℕ) {c : Cell} where
-  pub one_outside : reached coding old bound z ≡ Beyond → c ≡ out_of_range → TakenAs (sent_one coding old bound z) place x c x
+  pub one_outside : reached coding old bound z ≡ None → c ≡ out_of_range → TakenAs (sent_one coding old bound z) place x c x
   unfolding sent_one
   one_outside e q = rw e (refused q refl refl)
 
-  pub one-to : (v : ℕ) → reached coding old bound z ≡ To v → c ≡ right
+  pub one-to : (v : ℕ) → reached coding old bound z ≡ Some v → c ≡ right
       → TakenAs (sent_one coding old bound z) place x c (set (set x place 1) (place + 1) v)
   unfolding sent_one
   one-to v e q =
@@ -150,7 +150,7 @@ module _ (F : List Row) (o : List ℕ) (want : Want) (s : Span) (coding : Coding
         rw (filled-inside F coding base bound k olds o s.at (s.at + s.number) h.inside, e)
         (filled-numbers F coding base bound (list_in F o want s) olds (slice s.at (s.at + s.number) o) (h.whole i))
 
-    pub list-filled : {c : Cell} → s.count ≡ k → (a : Outcome) → c ≡ (filled_as a []).cell → (olds after : List ℕ)
+    pub list-filled : {c : Cell} → s.count ≡ k → (a : Result (Unit {0}) Misread) → c ≡ (filled_as a []).cell → (olds after : List ℕ)
         → FilledAs (filled_at F coding base bound k olds o s.at (s.at + s.number)) (set x place 1) (place + 1) a after
         → TakenAs (sent_list coding base bound want k olds (list_in F o want s)) place x c after
     unfolding sent_list
@@ -159,10 +159,10 @@ module _ (F : List Row) (o : List ℕ) (want : Want) (s : Span) (coding : Coding
         rw (i, ← h.many i, eq-eqb s.count k n, ← z.answered)
         (go a q (steps_f coding base bound olds (list_in F o want s)).values z.stored)
       where
-        go : (a : Outcome) → c ≡ (filled_as a []).cell → (vs : List ℕ) → after ≡ sets (set x place 1) (place + 1) vs → TakenAs (filled_as a vs) place x c after
-        go Done q vs e = record { answered = q; stored = λ _ _ _. e ∙ rw add-one; long = ap length e ∙ simp (length-sets, length-set) }
-        go Misfit q vs e = refused q refl (ap length e ∙ simp (length-sets, length-set))
-        go Outside q vs e = refused q refl (ap length e ∙ simp (length-sets, length-set))
+        go : (a : Result (Unit {0}) Misread) → c ≡ (filled_as a []).cell → (vs : List ℕ) → after ≡ sets (set x place 1) (place + 1) vs → TakenAs (filled_as a vs) place x c after
+        go (Ok tt) q vs e = record { answered = q; stored = λ _ _ _. e ∙ rw add-one; long = ap length e ∙ simp (length-sets, length-set) }
+        go (Err Misfit) q vs e = refused q refl (ap length e ∙ simp (length-sets, length-set))
+        go (Err Outside) q vs e = refused q refl (ap length e ∙ simp (length-sets, length-set))
 
 pub misfit-early : (w : Want) → (w ≡ Sum → ⊥) → told false true true ≡ misfit_of w
 misfit-early One n = refl

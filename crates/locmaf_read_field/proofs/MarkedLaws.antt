@@ -4,7 +4,7 @@ use native.Mathlib.Omega.{arith}
 use mathlib.Core.Path.{◌≡◌, refl, sym, ◌∙◌, ap}
 use mathlib.Core.Bool.{Bool, true, false, cond, not, ◌||◌, beq, false≢true}
 use mathlib.Core.List.{List, [], ◌∷◌}
-use mathlib.Core.Option.{some}
+use Rattle.std.specs.Prelude.{Some}
 use borrow.Author.Tests.{eqb-true, eqb-false, ne_eqb, ltb-true, not-true}
 use lib.Dec.{eqb, ltb}
 use lib.ListN.{length, get_or}
@@ -55,13 +55,13 @@ module _ (F : List Row) (o : List ℕ) (end : ℕ) (index before events : List �
   there = span h.place (get_or index (number_at l.id) 0) (get_or index (many_at l.id) 0)
 
   -- raw bytes, or varints
-  list-is : eqb (l.id % 2) 0 ≡ false → (list_in F o l.want there ≡ zs) × (is_ivs l.want ≡ false → numbers_f F (span_bytes o there) ≡ some zs)
+  list-is : eqb (l.id % 2) 0 ≡ false → (list_in F o l.want there ≡ zs) × (is_ivs l.want ≡ false → numbers_f F (span_bytes o there) ≡ Some zs)
   unfolding list_in body
   list-is e = go (is_ivs l.want) refl (rw (e, kind.plain, ← kind.raw) at (h.bytes (eqb-false _ _ e)))
     where
-      go : (b : Bool) → is_ivs l.want ≡ b → cond b (some (span_bytes o there)) (numbers_f F (span_bytes o there)) ≡ some zs
+      go : (b : Bool) → is_ivs l.want ≡ b → cond b (Some (span_bytes o there)) (numbers_f F (span_bytes o there)) ≡ Some zs
           → (cond (is_ivs l.want) (span_bytes o there) (numbers (numbers_f F (span_bytes o there))) ≡ zs)
-          × (is_ivs l.want ≡ false → numbers_f F (span_bytes o there) ≡ some zs)
+          × (is_ivs l.want ≡ false → numbers_f F (span_bytes o there) ≡ Some zs)
       go true q w = (rw q (cc), λ n. absurd (false≢true (sym n ∙ q)))
       go false q w = (rw (q, w), λ n. w)
 
@@ -80,7 +80,7 @@ module _ (F : List Row) (o : List ℕ) (end : ℕ) (index before events : List �
       let p = h.inside (eqb-false _ _ e) in
       record {
         inside = omega (arith, p);
-        whole = λ i. w.1 i ∙ ap some (sym w.0);
+        whole = λ i. w.1 i ∙ ap Some (sym w.0);
         many = λ i. h.count (eqb-false _ _ kind.plain) ∙ ap length (sym w.0);
       }
 

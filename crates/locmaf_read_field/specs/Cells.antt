@@ -1,13 +1,13 @@
 -- One field of the new set: what the object says of it, against the reference.
-use Rattle.std.specs.Prelude.{ℕ, ◌+◌, ◌*◌, ◌≤◌, ◌<◌, ◌≡◌, Bool, true, false, cond, List, [], ◌∷◌, eqb, length, get_or, replicate}
-use Rattle.std.proofs.Math.Option.{none, some}
+use Rattle.std.specs.Prelude.{ℕ, ◌+◌, ◌*◌, ◌≤◌, ◌<◌, ◌≡◌, Bool, true, false, cond, List, [], ◌∷◌, eqb, length, get_or, replicate, Some, None}
 use Rattle.std.proofs.Math.Seq.{slice}
 use Rattle.std.proofs.lemmas.List.Edits.{sets}
 use Rattle.wire.specs.declared.form.Row.{Row}
 use Rattle.wire.specs.declared.zigzag.Coding.{Coding}
-use Rattle.wire.specs.Zigzag.{reached, on_reached}
-use Rattle.runs.specs.declared.Outcome.{Outcome}
-use Rattle.runs.specs.declared.Outcome.TheVariants.{Done, Misfit, Outside}
+use Rattle.wire.specs.Zigzag.{reached}
+use Rattle.runs.specs.declared.Misread.{Misread}
+use Rattle.runs.specs.declared.Misread.TheVariants.{Misfit, Outside}
+use Rattle.std.specs.Prelude.{Result, Ok, Err}
 use Rattle.runs.specs.Run.{first}
 use Rattle.locmaf_read_block.specs.Numbers.{numbers_f, steps_f}
 use Rattle.track.specs.declared.Track.{Track}
@@ -23,6 +23,7 @@ use Rattle.locmaf_read_field.specs.declared.cells.Cell.{Cell}
 use Rattle.locmaf_read_said.specs.Said.{Saying, omitted, deleted, sent}
 use Rattle.field_rules.specs.Carried.{carried_by}
 use Rattle.field_rules.specs.Fields.{Held, numbers, coding_of, is_ivs, packed, stood, old_values, words_of}
+use Rattle.laws.specs.Options.{on_option}
 
 -- ==== The rules
 
@@ -53,33 +54,33 @@ misfit_of Ivs = told false true true
 misfit_of Sum = told true false true
 
 abbrev pub misfit : Want → Came
-misfit want = came (misfit_of want) none
+misfit want = came (misfit_of want) None
 
 -- a value is outside its range
 abbrev pub out_of_range : Cell
 out_of_range = told true true false
 
 abbrev pub beyond : Came
-beyond = came out_of_range none
+beyond = came out_of_range None
 
-abbrev pub filled_as : Outcome → List ℕ → Came
-filled_as Done vs = well (some vs)
-filled_as Misfit vs = beyond
-filled_as Outside vs = beyond
+abbrev pub filled_as : Result (Unit {0}) Misread → List ℕ → Came
+filled_as (Ok tt) vs = well (Some vs)
+filled_as (Err Misfit) vs = beyond
+filled_as (Err Outside) vs = beyond
 
 -- 01: "An omitted list is carried only if its required length is unchanged, else 14." (D92, D102) 01's "Id 9, where the track is cenc and there are samples, always
 -- stands in the object; else 14" is amended by 02, order 6: "if each IV follows, .. id 9 is omitted". The old IVs are never carried: zeros keep the room for those that
 -- are derived when the whole set is known (D150).
 unfoldable pub carried : Want → ℕ → ℕ → List ℕ → Came
-carried want j k olds = cond (is_ivs want) (well (some (replicate k 0))) (cond (carried_by j k) (well (some olds)) (misfit want))
+carried want j k olds = cond (is_ivs want) (well (Some (replicate k 0))) (cond (carried_by j k) (well (Some olds)) (misfit want))
 
 -- a single value against the old one
 unfoldable pub sent_one : Coding → ℕ → ℕ → ℕ → Came
-sent_one coding old bound z = on_reached (reached coding old bound z) (λ v. well (some (v ∷ []))) beyond
+sent_one coding old bound z = on_option (reached coding old bound z) (λ v. well (Some (v ∷ []))) beyond
 
 -- the IVs: each is kept as words of eight bytes
 abbrev pub sent_ivs : Want → ℕ → List ℕ → Came
-sent_ivs want k zs = cond (eqb (length zs) (8 * k)) (well (some (packed k zs))) (misfit want)
+sent_ivs want k zs = cond (eqb (length zs) (8 * k)) (well (Some (packed k zs))) (misfit want)
 
 -- 01: "Required: id 1, count less one; 3, 5, 7, 11, the count; 13, 15, the sum of 11."
 unfoldable pub sent_list : Coding → ℕ → ℕ → Want → ℕ → List ℕ → List ℕ → Came
@@ -90,7 +91,7 @@ sent_list coding base bound want k olds zs =
 
 -- a field that is omitted: b says that it stood
 abbrev pub kept_field : Bool → Want → ℕ → ℕ → List ℕ → Came
-kept_field b want j k olds = cond b (carried want j k olds) (well none)
+kept_field b want j k olds = cond b (carried want j k olds) (well None)
 
 -- a field that is sent, against its old values
 abbrev pub sent_field : Track → Coding → Line → Measure → List ℕ → List ℕ → Came
@@ -105,7 +106,7 @@ sent_field t coding l m olds zs =
 module _ (t : Track) (coding : Coding) (held : Bool) (r : List ℕ) (was : Measure) (l : Line) (m : Measure) where
   unfoldable pub cell_of : Saying → Came
   cell_of omitted = kept_field (stood held r l) l.want (wanted l.want was) (wanted l.want m) (old_values held r was l)
-  cell_of deleted = well none
+  cell_of deleted = well None
   cell_of (sent zs) = sent_field t coding l m (old_values held r was l) zs
 
 -- ==== What only mirrors the code
@@ -159,7 +160,7 @@ said F o l (Sent s) = sent (sent_in F o l s)
 -- the bytes of a list are in o, and varints fill them, as many as the span says
 pub record Listed (F : List Row) (o : List ℕ) (want : Want) (s : Span) : Type 0 where
   pub inside : s.at + s.number ≤ length o
-  pub whole : is_ivs want ≡ false → numbers_f F (span_bytes o s) ≡ some (list_in F o want s)
+  pub whole : is_ivs want ≡ false → numbers_f F (span_bytes o s) ≡ Some (list_in F o want s)
   pub many : is_ivs want ≡ false → s.count ≡ length (list_in F o want s)
 
 -- what a call of `send_list` is lent: u old values stand in r, and there is room for k in x

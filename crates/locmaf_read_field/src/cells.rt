@@ -16,10 +16,10 @@ use field_rules::rules::{absent_value, coding_of, is_ivs};
 use field_table::lines;
 use field_table::lines::{Line, Measure, Want};
 use locmaf_read_said::said::{Span, Word};
-use runs::Outcome;
+use runs::Misread;
 use track::Track;
 use wire::form::Form;
-use wire::zigzag::{Coding, Reached};
+use wire::zigzag::Coding;
 use word_spans::words;
 
 // What a field came to: that its length is right (asked of ids 13 and 15 only with the set's rules), and that its values are in range.
@@ -30,7 +30,7 @@ pub struct Cell {
     pub within: bool,
 }
 
-pub fn well() -> Cell
+fn well() -> Cell
     ensures { result ≡ right }
 {
     Cell {
@@ -74,10 +74,8 @@ fn word_at(o: &[u8], at: usize) -> u64
     ensures { result ≡ de (slice at (at + 8) o.now) }
 {
     let mut v = 0;
-    let mut i = 0;
-    while i < 8 {
+    for i in 0..8 {
         v = v * 256 + wire::varint::wide(o[at + i]);
-        i += 1;
     }
     v
 }
@@ -87,10 +85,8 @@ fn pack(o: &[u8], at: usize, k: usize, x: &mut [u64], to: usize)
     requires { (at + 8 * k ≤ length o.now) × (to + k ≤ length x.old) }
     ensures { x.new ≡ sets x.old to (packed k (slice at (at + 8 * k) o.now)) }
 {
-    let mut i = 0;
-    while i < k {
+    for i in 0..k {
         x[to + i] = word_at(o, at + 8 * i);
-        i += 1;
     }
 }
 
@@ -122,8 +118,7 @@ fn send_one(coding: Coding, z: u64, old: u64, l: Line, x: &mut [u64]) -> Cell
     ensures { TakenAs (sent_one coding old l.bound z) l.place x.old result x.new }
 {
     let place = l.place;
-    let t = wire::zigzag::reach(coding, old, l.bound, z);
-    let Reached::To(v) = t else {
+    let Some(v) = wire::zigzag::reach(coding, old, l.bound, z) else {
         return outside();
     };
     x[place] = 1;
@@ -148,14 +143,10 @@ fn send_ivs(o: &[u8], span: Span, l: Line, k: usize, x: &mut [u64]) -> Cell
 }
 
 // What a list that was read against its old values came to.
-fn filled(f: Outcome) -> Cell
+fn filled(f: Result<(), Misread>) -> Cell
     ensures { result ≡ (filled_as f []).cell }
 {
-    match f {
-        Outcome::Done => well(),
-        Outcome::Misfit => outside(),
-        Outcome::Outside => outside(),
-    }
+    if f.is_ok() { well() } else { outside() }
 }
 
 // A list, against the u old values of the reference.

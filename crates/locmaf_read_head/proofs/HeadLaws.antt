@@ -9,8 +9,7 @@ use lib.Dec.{eqb, leb}
 use lib.ListN.{length, drop, length-drop}
 use Rattle.constants.specs.Maxima.{block_most}
 use Rattle.wire.specs.declared.form.Row.{Row}
-use Rattle.wire.specs.declared.varint.Got.{Got}
-use Rattle.wire.specs.declared.varint.Got.TheVariants.{Value, Cut}
+use Rattle.std.specs.Prelude.{Option, Some, None}
 use Rattle.wire.specs.Varint.{read_f, read_at, on_got}
 use Rattle.wire.proofs.VarintLaws.{read-size}
 use Rattle.locmaf_read_block.specs.Records.{number}
@@ -25,7 +24,7 @@ use Rattle.locmaf_read_head.specs.Head.{place_of, block_f, head_of}
 
 module _ (F : List Row) (o : List ℕ) (p : ℕ) (delta : Bool) where
   -- the block length is cut
-  pub block_none : Cut ≡ read_at F o p (length o) → Refused 12 ≡ block_f F o p delta
+  pub block_none : None ≡ read_at F o p (length o) → Refused 12 ≡ block_f F o p delta
   unfolding block_f
   block_none e = number-none F o p _ (Refused 12) e
 
@@ -46,7 +45,7 @@ module _ (F : List Row) (o : List ℕ) (p : ℕ) (delta : Bool) where
 
 module _ (F : List Row) (o : List ℕ) where
   -- the header id is cut
-  pub head-none : Cut ≡ read_at F o 0 (length o) → Refused 12 ≡ head_of F o
+  pub head-none : None ≡ read_at F o 0 (length o) → Refused 12 ≡ head_of F o
   unfolding head_of
   head-none e = number-none F o 0 _ (Refused 12) e
 
@@ -82,20 +81,20 @@ module _ (F : List Row) (o : List ℕ) (b : Place) where
           let k : n ≤ length o - at = leb-true _ _ u in
           let m : n ≤ block_most = leb-true _ _ v in
           rw (← g) (record { order = omega arith; inside = omega arith; short = omega arith })
-      sized n at h true false u v d = let z : ◌≡◌ {A = ℕ} 0 1 = cc in absurd (omega arith)
-      sized n at h false y u v d = let z : ◌≡◌ {A = ℕ} 0 1 = cc in absurd (omega arith)
+      sized n at h true false u v d = cc
+      sized n at h false y u v d = cc
 
-      go : (g : Got) → read_f F (drop p o) ≡ g
+      go : (g : Option (ℕ × ℕ)) → read_f F (drop p o) ≡ g
           → on_got g
           (λ n k. cond (leb n (length o - (p + k))) (cond (leb n block_most) (Block (place_of delta (p + k) (p + k + n))) (Refused 15)) (Refused 12))
           (Refused 12)
           ≡ Block b
           → Within o b
-      go (Value n k) q d =
+      go (Some (n, k)) q d =
           let s = read-size F (drop p o) n k q in
           let h : p + k ≤ length o = omega (arith, s.0, s.1, length-drop p o) in
           sized n (p + k) h (leb n (length o - (p + k))) (leb n block_most) refl refl d
-      go Cut q d = let z : ◌≡◌ {A = ℕ} 0 1 = cc in absurd (omega arith)
+      go None q d = cc
 
   -- a head that is a block: it lies in the object and has at most 16,384 bytes
   pub head-within : head_of F o ≡ Block b → Within o b
@@ -105,11 +104,11 @@ module _ (F : List Row) (o : List ℕ) (b : Place) where
       kinds : (p : ℕ) (x y : Bool) → cond x (block_f F o p false) (cond y (block_f F o p true) (Refused 10)) ≡ Block b → Within o b
       kinds p true y d = block_within p false d
       kinds p false true d = block_within p true d
-      kinds p false false d = let z : ◌≡◌ {A = ℕ} 0 1 = cc in absurd (omega arith)
+      kinds p false false d = cc
 
-      go : (g : Got) → read_f F (drop 0 o) ≡ g
+      go : (g : Option (ℕ × ℕ)) → read_f F (drop 0 o) ≡ g
           → on_got g (λ id k. cond (eqb id 23) (block_f F o (0 + k) false) (cond (eqb id 25) (block_f F o (0 + k) true) (Refused 10))) (Refused 12)
           ≡ Block b
           → Within o b
-      go (Value id k) q d = kinds (0 + k) (eqb id 23) (eqb id 25) d
-      go Cut q d = let z : ◌≡◌ {A = ℕ} 0 1 = cc in absurd (omega arith)
+      go (Some (id, k)) q d = kinds (0 + k) (eqb id 23) (eqb id 25) d
+      go None q d = cc

@@ -6,7 +6,6 @@ ghost use Rattle.locmaf_read_head.specs.Head.{block_f, head_of};
 
 use constants::{ids, maxima};
 use wire::form::Form;
-use wire::varint::Got;
 
 // An object's head: whether it is a delta, and where its block starts and ends; or why it can't be read.
 #[derive(Clone, Copy)]
@@ -26,8 +25,7 @@ pub struct Place {
 fn block_at(form: Form, o: &[u8], p: usize, delta: bool) -> Head
     ensures { result ≡ block_f (rows form) o.now p delta }
 {
-    let g = wire::varint::read(form, o, p, o.len());
-    let Got::Value(n, at) = g else {
+    let Some((n, at)) = wire::varint::read(form, o, p, o.len()) else {
         return Head::Refused(12); // the block length is cut
     };
     if ((o.len() - at) as u64) < n {
@@ -47,8 +45,7 @@ fn block_at(form: Form, o: &[u8], p: usize, delta: bool) -> Head
 pub fn head_of(form: Form, o: &[u8]) -> Head
     ensures { result ≡ head_of (rows form) o.now }
 {
-    let g = wire::varint::read(form, o, 0, o.len());
-    let Got::Value(id, p) = g else {
+    let Some((id, p)) = wire::varint::read(form, o, 0, o.len()) else {
         return Head::Refused(12); // the header id is cut
     };
     if id == ids::FULL {

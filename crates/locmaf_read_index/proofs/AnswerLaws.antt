@@ -6,7 +6,6 @@ use mathlib.Core.Path.{◌≡◌, refl, sym, ◌∙◌, ap}
 use mathlib.Core.Bool.{Bool, true, false, cond, not, ◌&&◌, ◌||◌, and-false, and-true}
 use mathlib.Core.List.{List, [], ◌∷◌}
 use mathlib.Core.Logic.{◌⊎◌, inl, inr}
-use mathlib.Core.Option.{Option, none, some, map}
 use borrow.Author.Tests.{eqb-true, eqb-false, ne_eqb}
 use lib.Dec.{eqb}
 use lib.ListN.{length, get_or, replicate}
@@ -15,20 +14,18 @@ use Rattle.locmaf_read_index.specs.Places.{index_len, stands_at}
 use Rattle.laws.specs.Tests.{◌and◌}
 use Rattle.wire.specs.declared.form.Row.{Row}
 use Rattle.locmaf_read_block.specs.declared.tuples.Tuple.{Tuple}
-use Rattle.locmaf_read_block.specs.declared.numbers.Counted.{Counted}
-use Rattle.locmaf_read_block.specs.declared.numbers.Counted.TheVariants.{Whole, Cut as Short}
+use Rattle.std.specs.Prelude.{Option, Some, None, option_map}
 use Rattle.locmaf_read_index.specs.declared.index.Indexed.TheVariants.{Clean, Stray, Cut}
 use Rattle.locmaf_read_block.specs.Front.{Series, wholly}
 use Rattle.locmaf_read_block.specs.Tuples.{part_of, tuples_run, tuples_f, bytes_of}
-use Rattle.locmaf_read_block.specs.Numbers.{on_counted}
 use Rattle.locmaf_read_block.specs.Entries.{known, Entry, content, contents, entries_at, body, readable, member, lawful}
 use Rattle.locmaf_read_index.specs.Index.{weighed, heard, fresh, noted, index, told, indexed, index_at}
 use Rattle.locmaf_read_index.specs.Held.{answer_of}
-use Rattle.laws.specs.Options.{is_some}
+use Rattle.laws.specs.Options.{is_some, on_option}
 use Rattle.locmaf_read_index.proofs.NoteLaws.{noted-cell, noted_other}
 use Rattle.laws.specs.Each.{AllOf}
 use Rattle.locmaf_read_block.proofs.TupleRuns.{Proper, all-proper}
-use Rattle.locmaf_read_index.proofs.BodyLaws.{weighs, kind-readable}
+use Rattle.locmaf_read_index.proofs.BodyLaws.{kind-readable}
 use Rattle.locmaf_read_index.proofs.IndexLoop.{noted-length}
 
 -- each id is fresh, and none stands twice
@@ -70,10 +67,10 @@ module _ (words : List ℕ) (t : Tuple) (count : ℕ) (l : length words ≡ inde
 
 module _ (F : List Row) (s : List ℕ) (end : ℕ) (h : end ≤ length s) where
   -- a tuple is cut just where its entry isn't readable
-  pub entry-readable : (t : Tuple) → Proper F s end t → is_some (body F t.id (bytes_of s (part_of t.kind))) ≡ weighs (weighed F s t.kind)
+  pub entry-readable : (t : Tuple) → Proper F s end t → is_some (body F t.id (bytes_of s (part_of t.kind))) ≡ is_some (weighed F s t.kind)
   entry-readable t p =
       kind-readable F s t.id t.number (part_of t.kind) (omega (arith, p.inside)) p.scalar
-      ∙ sym (ap (λ k. weighs (weighed F s k)) p.kind)
+      ∙ sym (ap (λ k. is_some (weighed F s k)) p.kind)
 
   answer-is : (ts : List Tuple) → AllOf (Proper F s end) ts → (whole clean : Bool) (words events : List ℕ) → length words ≡ index_len
       → (indexed F s ts whole clean words events).answer
@@ -93,22 +90,22 @@ module _ (F : List Row) (s : List ℕ) (end : ℕ) (h : end ≤ length s) where
       flags k true q = ap (λ (z : Bool). z && clean) (fresh-rest words t k l q (contents s ts))
       flags k false q = and-false (fresh_all (noted words t k) (contents s ts))
 
-      go : (c : Counted) → weighed F s t.kind ≡ c
+      go : (c : Option ℕ) → weighed F s t.kind ≡ c
           → ((k : ℕ)
           → (indexed F s ts whole (fresh words t.id && clean) (noted words t k) (heard F s t.kind events)).answer
           ≡ cond (whole && readable F (contents s ts)) (told (fresh_all (noted words t k) (contents s ts) && (fresh words t.id && clean))) Cut)
-          → (on_counted c
+          → (on_option c
           (λ k. indexed F s ts whole (fresh words t.id && clean) (noted words t k) (heard F s t.kind events))
           (index Cut words (heard F s t.kind events))
           ).answer
           ≡ cond (whole && (is_some (body F t.id (bytes_of s (part_of t.kind))) and readable F (contents s ts)))
           (told ((fresh words t.id and not (member t.id (contents s ts)) and rest) && clean))
           Cut
-      go (Whole k) q ih =
-          let r : is_some (body F t.id (bytes_of s (part_of t.kind))) ≡ true = entry-readable t a.0 ∙ ap weighs q in
+      go (Some k) q ih =
+          let r : is_some (body F t.id (bytes_of s (part_of t.kind))) ≡ true = entry-readable t a.0 ∙ ap is_some q in
           rw (r, ← flags k (fresh words t.id) refl) (ih k)
-      go Short q ih =
-          let r : is_some (body F t.id (bytes_of s (part_of t.kind))) ≡ false = entry-readable t a.0 ∙ ap weighs q in
+      go None q ih =
+          let r : is_some (body F t.id (bytes_of s (part_of t.kind))) ≡ false = entry-readable t a.0 ∙ ap is_some q in
           rw (r, and-false whole)
 
 -- in words that say nothing yet, fresh is known
@@ -138,50 +135,50 @@ index-answer F s at end words events h l z =
 
     go : (w : Bool)
         → cond (w && readable F (contents s r.items)) (told (fresh_all words (contents s r.items) && true)) Cut
-        ≡ answer_of F (map (contents s) (cond w (some r.items) none))
+        ≡ answer_of F (option_map (contents s) (cond w (Some r.items) None))
     go true = rw (and-true, fresh-lawful words z (contents s r.items))
     go false = refl
 
 -- the three answers, each with what it says
 module _ (F : List Row) (o : Option (List Entry)) where
-  pub answer-clean : answer_of F o ≡ Clean → (es : List Entry) × (o ≡ some es) × (readable F es ≡ true) × (lawful es ≡ true)
+  pub answer-clean : answer_of F o ≡ Clean → (es : List Entry) × (o ≡ Some es) × (readable F es ≡ true) × (lawful es ≡ true)
   unfolding answer_of
   answer-clean e = go o refl e
     where
-      one : (es : List Entry) → o ≡ some es → (b c : Bool) → readable F es ≡ b → lawful es ≡ c → cond b (told c) Cut ≡ Clean
-          → (us : List Entry) × (o ≡ some us) × (readable F us ≡ true) × (lawful us ≡ true)
+      one : (es : List Entry) → o ≡ Some es → (b c : Bool) → readable F es ≡ b → lawful es ≡ c → cond b (told c) Cut ≡ Clean
+          → (us : List Entry) × (o ≡ Some us) × (readable F us ≡ true) × (lawful us ≡ true)
       one es q true true r t d = (es, q, r, t)
-      one es q true false r t d = let z : ◌≡◌ {A = ℕ} 0 1 = cc in absurd (omega arith)
-      one es q false c r t d = let z : ◌≡◌ {A = ℕ} 0 1 = cc in absurd (omega arith)
+      one es q true false r t d = cc
+      one es q false c r t d = cc
 
-      go : (p : Option (List Entry)) → o ≡ p → answer_of F p ≡ Clean → (es : List Entry) × (o ≡ some es) × (readable F es ≡ true) × (lawful es ≡ true)
-      go none q d = let z : ◌≡◌ {A = ℕ} 0 1 = cc in absurd (omega arith)
-      go (some es) q d = one es q (readable F es) (lawful es) refl refl d
+      go : (p : Option (List Entry)) → o ≡ p → answer_of F p ≡ Clean → (es : List Entry) × (o ≡ Some es) × (readable F es ≡ true) × (lawful es ≡ true)
+      go None q d = cc
+      go (Some es) q d = one es q (readable F es) (lawful es) refl refl d
 
-  pub answer-stray : answer_of F o ≡ Stray → (es : List Entry) × (o ≡ some es) × (readable F es ≡ true) × (lawful es ≡ false)
+  pub answer-stray : answer_of F o ≡ Stray → (es : List Entry) × (o ≡ Some es) × (readable F es ≡ true) × (lawful es ≡ false)
   unfolding answer_of
   answer-stray e = go o refl e
     where
-      one : (es : List Entry) → o ≡ some es → (b c : Bool) → readable F es ≡ b → lawful es ≡ c → cond b (told c) Cut ≡ Stray
-          → (us : List Entry) × (o ≡ some us) × (readable F us ≡ true) × (lawful us ≡ false)
-      one es q true true r t d = let z : ◌≡◌ {A = ℕ} 0 1 = cc in absurd (omega arith)
+      one : (es : List Entry) → o ≡ Some es → (b c : Bool) → readable F es ≡ b → lawful es ≡ c → cond b (told c) Cut ≡ Stray
+          → (us : List Entry) × (o ≡ Some us) × (readable F us ≡ true) × (lawful us ≡ false)
+      one es q true true r t d = cc
       one es q true false r t d = (es, q, r, t)
-      one es q false c r t d = let z : ◌≡◌ {A = ℕ} 0 1 = cc in absurd (omega arith)
+      one es q false c r t d = cc
 
-      go : (p : Option (List Entry)) → o ≡ p → answer_of F p ≡ Stray → (es : List Entry) × (o ≡ some es) × (readable F es ≡ true) × (lawful es ≡ false)
-      go none q d = let z : ◌≡◌ {A = ℕ} 0 1 = cc in absurd (omega arith)
-      go (some es) q d = one es q (readable F es) (lawful es) refl refl d
+      go : (p : Option (List Entry)) → o ≡ p → answer_of F p ≡ Stray → (es : List Entry) × (o ≡ Some es) × (readable F es ≡ true) × (lawful es ≡ false)
+      go None q d = cc
+      go (Some es) q d = one es q (readable F es) (lawful es) refl refl d
 
-  pub answer-cut : answer_of F o ≡ Cut → (o ≡ none) ⊎ ((es : List Entry) × (o ≡ some es) × (readable F es ≡ false))
+  pub answer-cut : answer_of F o ≡ Cut → (o ≡ None) ⊎ ((es : List Entry) × (o ≡ Some es) × (readable F es ≡ false))
   unfolding answer_of
   answer-cut e = go o refl e
     where
-      one : (es : List Entry) → o ≡ some es → (b c : Bool) → readable F es ≡ b → cond b (told c) Cut ≡ Cut
-          → (o ≡ none) ⊎ ((us : List Entry) × (o ≡ some us) × (readable F us ≡ false))
-      one es q true true r d = let z : ◌≡◌ {A = ℕ} 0 1 = cc in absurd (omega arith)
-      one es q true false r d = let z : ◌≡◌ {A = ℕ} 0 1 = cc in absurd (omega arith)
+      one : (es : List Entry) → o ≡ Some es → (b c : Bool) → readable F es ≡ b → cond b (told c) Cut ≡ Cut
+          → (o ≡ None) ⊎ ((us : List Entry) × (o ≡ Some us) × (readable F us ≡ false))
+      one es q true true r d = cc
+      one es q true false r d = cc
       one es q false c r d = inr (es, q, r)
 
-      go : (p : Option (List Entry)) → o ≡ p → answer_of F p ≡ Cut → (o ≡ none) ⊎ ((es : List Entry) × (o ≡ some es) × (readable F es ≡ false))
-      go none q d = inl q
-      go (some es) q d = one es q (readable F es) (lawful es) refl d
+      go : (p : Option (List Entry)) → o ≡ p → answer_of F p ≡ Cut → (o ≡ None) ⊎ ((es : List Entry) × (o ≡ Some es) × (readable F es ≡ false))
+      go None q d = inl q
+      go (Some es) q d = one es q (readable F es) (lawful es) refl d

@@ -13,11 +13,8 @@ use Rattle.wire.specs.declared.form.Row.{Row}
 use Rattle.locmaf_read_block.specs.declared.tuples.Kind.{Kind}
 use Rattle.locmaf_read_block.specs.declared.tuples.Kind.TheVariants.{Scalar, Numbers, Raw, Records}
 use Rattle.locmaf_read_block.specs.declared.tuples.Tuple.{Tuple}
-use Rattle.locmaf_read_block.specs.declared.tuples.Taken.{Taken}
-use Rattle.locmaf_read_block.specs.declared.tuples.Taken.TheVariants.{One as Tupled, Cut as NoTuple}
-use Rattle.locmaf_read_block.specs.declared.numbers.Counted.{Counted}
-use Rattle.locmaf_read_block.specs.declared.numbers.Counted.TheVariants.{Whole, Cut as Short}
-use Rattle.locmaf_read_index.specs.declared.index.Entry.TheVariants.{One, Cut as NoEntry}
+use Rattle.std.specs.Prelude.{Option, Some, None}
+use Rattle.std.proofs.lemmas.Option.{none-some, same_Some}
 use Rattle.locmaf_read_index.specs.declared.index.Indexed.TheVariants.{Cut}
 use Rattle.locmaf_read_block.specs.Front.{Series}
 use Rattle.locmaf_read_block.specs.Tuples.{part_of, tuple_f, tuple_at, tuples_run}
@@ -54,31 +51,32 @@ lends F s p end events h t next k =
 -- a tuple that was read with its count
 pub record Entered (F : List Row) (s : List ℕ) (p end : ℕ) (events : List ℕ) (t : Tuple) (count next : ℕ) : Type 0 where
   pub took : Took F s p end t next
-  pub counts : weighed F s t.kind ≡ Whole count
+  pub counts : weighed F s t.kind ≡ Some count
   pub hears : heard_at F s p end events ≡ heard F s t.kind events
 
 pub entered : (F : List Row) (s : List ℕ) (p end : ℕ) (events : List ℕ) → Enterable s p end events → (t : Tuple) (count next : ℕ)
-    → One t count next ≡ entry_at F s p end → Entered F s p end events t count next
+    → Some (t, count, next) ≡ entry_at F s p end → Entered F s p end events t count next
 unfolding entry_at heard_at
 entered F s p end events h t count next e = taken (tuple_at F s p end) refl
   where
-    weigh : (u : Tuple) (n : ℕ) → tuple_at F s p end ≡ Tupled u n → (m : Counted) → weighed F s u.kind ≡ m → Entered F s p end events t count next
-    weigh u n q (Whole k) w =
-        let a : One t count next ≡ One u k n = e ∙ rw (q, w) in
-        let b : u ≡ t = cc in
-        let c : k ≡ count = cc in
-        let d : n ≡ next = cc in
-        let z : Tupled t next ≡ tuple_at F s p end = sym (q ∙ rw (b, d)) in
+    weigh : (u : Tuple) (n : ℕ) → tuple_at F s p end ≡ Some (u, n) → (m : Option ℕ) → weighed F s u.kind ≡ m → Entered F s p end events t count next
+    weigh u n q (Some k) w =
+        let f : entry_at F s p end ≡ Some (u, k, n) = rw (q, w) in
+        let a = same_Some {A = Tuple × ℕ × ℕ} (t, count, next) (u, k, n) (e ∙ f) in
+        let b : t ≡ u = ap (λ (x : Tuple × ℕ × ℕ). x.0) a in
+        let c : count ≡ k = ap (λ (x : Tuple × ℕ × ℕ). x.1) a in
+        let d : next ≡ n = ap (λ (x : Tuple × ℕ × ℕ). x.2) a in
+        let z : Some (t, next) ≡ tuple_at F s p end = rw (b, d) (sym q) in
         record {
           took = took F s p end t next h.inside h.some z;
-          counts = rw (← b) (w ∙ ap Whole c);
+          counts = rw b (w ∙ ap Some (sym c));
           hears = rw (← z);
         }
-    weigh u n q Short w = let a : One t count next ≡ NoEntry = e ∙ rw (q, w) in let z : ◌≡◌ {A = ℕ} 0 1 = cc in absurd (omega arith)
+    weigh u n q None w = absurd (none-some (t, count, next) (sym (e ∙ rw (q, w))))
 
-    taken : (g : Taken) → tuple_at F s p end ≡ g → Entered F s p end events t count next
-    taken (Tupled u n) q = weigh u n q (weighed F s u.kind) refl
-    taken NoTuple q = let a : One t count next ≡ NoEntry = e ∙ rw q in let z : ◌≡◌ {A = ℕ} 0 1 = cc in absurd (omega arith)
+    taken : (g : Option (Tuple × ℕ)) → tuple_at F s p end ≡ g → Entered F s p end events t count next
+    taken (Some (u, n)) q = weigh u n q (weighed F s u.kind) refl
+    taken None q = absurd (none-some (t, count, next) (sym (e ∙ rw q)))
 
 pub record Indexing (F : List Row) (s : List ℕ) (at end : ℕ) (words₀ events₀ words events : List ℕ) (clean : Bool) (p : ℕ) : Type 0 where
   pub bytes : end ≤ length s
@@ -119,22 +117,25 @@ module _ (F : List Row) (s : List ℕ) (at end : ℕ) (words₀ events₀ : List
       one t next k = ap (λ (u : Series Tuple). index_run F s u clean words events) (tuples-one F s p end i.bytes lt t next k)
 
       -- it is cut
-      pub cut : NoEntry ≡ entry_at F s p end → index Cut words (heard_at F s p end events) ≡ index_at F s at end words₀ events₀
+      pub cut : None ≡ entry_at F s p end → index Cut words (heard_at F s p end events) ≡ index_at F s at end words₀ events₀
       unfolding entry_at heard_at indexed
       cut e = taken (tuple_at F s p end) refl
         where
-          weigh : (t : Tuple) (next : ℕ) → tuple_at F s p end ≡ Tupled t next → (m : Counted) → weighed F s t.kind ≡ m
+          weigh : (t : Tuple) (next : ℕ) → tuple_at F s p end ≡ Some (t, next) → (m : Option ℕ) → weighed F s t.kind ≡ m
               → index Cut words (heard F s t.kind events) ≡ index_at F s at end words₀ events₀
-          weigh t next q (Whole k) w = let a : NoEntry ≡ One t k next = e ∙ rw (q, w) in let z : ◌≡◌ {A = ℕ} 0 1 = cc in absurd (omega arith)
-          weigh t next q Short w = sym (one t next (took F s p end t next i.bytes lt (sym q)) ∙ rw w) ∙ i.whole
+          weigh t next q (Some k) w = absurd (none-some (t, k, next) (e ∙ rw (q, w)))
+          weigh t next q None w = sym (one t next (took F s p end t next i.bytes lt (sym q)) ∙ rw w) ∙ i.whole
 
-          taken : (g : Taken) → tuple_at F s p end ≡ g → index Cut words (heard_at F s p end events) ≡ index_at F s at end words₀ events₀
-          taken (Tupled t next) q = rw q (weigh t next q (weighed F s t.kind) refl)
-          taken NoTuple q =
-              let r : tuple_f F p (slice p end s) ≡ NoTuple = sym (sym q ∙ inside F s p end i.bytes) in
+          taken : (g : Option (Tuple × ℕ)) → tuple_at F s p end ≡ g → index Cut words (heard_at F s p end events) ≡ index_at F s at end words₀ events₀
+          taken (Some (t, next)) q = rw q (weigh t next q (weighed F s t.kind) refl)
+          taken None q =
+              let r : tuple_f F p (slice p end s) ≡ None = sym (sym q ∙ inside F s p end i.bytes) in
               rw q (sym (ap (λ (u : Series Tuple). index_run F s u clean words events) (tuples-cut F s p end i.bytes lt r)) ∙ i.whole)
 
       -- it is whole
+      pub read : (t : Tuple) (count next : ℕ) → Some (t, count, next) ≡ entry_at F s p end → Entered F s p end events t count next
+      read t count next e = entered F s p end events enters t count next e
+
       pub more : (t : Tuple) (count next : ℕ) → Entered F s p end events t count next
           → Indexing F s at end words₀ events₀ (noted words t count) (heard_at F s p end events) (fresh words t.id && clean) next
       unfolding indexed

@@ -1,7 +1,7 @@
 -- Laws of noting a tuple in the words of its id. Assumes nothing.
 use Prim.Native.Nat.{ℕ, suc, ◌+◌, ◌*◌, ◌≤◌, ◌<◌}
 use native.Mathlib.Omega.{arith}
-use mathlib.Core.Path.{◌≡◌, refl, ◌∙◌}
+use mathlib.Core.Path.{◌≡◌, refl, sym, ◌∙◌}
 use mathlib.Core.Bool.{Bool, true, false, cond, ◌&&◌, and-false}
 use mathlib.Core.List.{List, [], ◌∷◌}
 use borrow.Author.Tests.{le-leb, lt-leb, ne_eqb, eq-eqb, ltb-true, ltb-false}
@@ -34,7 +34,11 @@ known_small id e = go (ltb id id_count) refl
           lt-leb id 25 (omega arith),
           ne_eqb id 27 (λ p. omega arith),
         ) at e in
-        let y : ◌≡◌ {A = ℕ} 0 1 = cc in absurd (omega arith)
+        cc
+
+-- an id that was asked, and is known
+pub small-known : (id : ℕ) {b : Bool} → b ≡ known id → b ≡ true → id < id_count
+small-known id e f = known_small id (sym e ∙ f)
 
 module _ (words : List ℕ) (id : ℕ) where
   pub fresh-unknown : known id ≡ false → false ≡ fresh words id

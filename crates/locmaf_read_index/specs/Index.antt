@@ -1,5 +1,5 @@
 -- The index of a block by id: three words for each id from 0 to 27, and the records of the emsg list.
-use Rattle.std.specs.Prelude.{ℕ, ◌+◌, ◌-◌, ◌≤◌, ◌<◌, ◌≡◌, Bool, true, false, cond, ◌&&◌, List, [], ◌∷◌, eqb, length, get_or, take}
+use Rattle.std.specs.Prelude.{ℕ, ◌+◌, ◌-◌, ◌≤◌, ◌<◌, ◌≡◌, Bool, true, false, cond, ◌&&◌, List, [], ◌∷◌, eqb, length, get_or, take, Option, Some, None}
 use Rattle.std.proofs.lemmas.List.Edits.{sets}
 use Rattle.std.proofs.Math.Seq.{slice}
 use Rattle.constants.specs.Maxima.{events_most, block_most}
@@ -9,25 +9,22 @@ use Rattle.locmaf_read_index.specs.Places.{index_len, stands_at}
 use Rattle.locmaf_read_block.specs.declared.tuples.Kind.{Kind}
 use Rattle.locmaf_read_block.specs.declared.tuples.Kind.TheVariants.{Scalar, Numbers, Raw, Records}
 use Rattle.locmaf_read_block.specs.declared.tuples.Tuple.{Tuple}
-use Rattle.locmaf_read_block.specs.declared.numbers.Counted.{Counted}
-use Rattle.locmaf_read_block.specs.declared.numbers.Counted.TheVariants.{Whole}
-use Rattle.locmaf_read_index.specs.declared.index.Entry.{Entry}
-use Rattle.locmaf_read_index.specs.declared.index.Entry.TheVariants.{One, Cut as NoEntry}
 use Rattle.locmaf_read_index.specs.declared.index.Indexed.{Indexed}
 use Rattle.locmaf_read_index.specs.declared.index.Indexed.TheVariants.{Clean, Stray, Cut}
-use Rattle.locmaf_read_block.specs.Front.{Series}
-use Rattle.locmaf_read_block.specs.Tuples.{part_of, bytes_of, on_taken, tuple_at, tuples_run}
+use Rattle.locmaf_read_block.specs.Front.{Series, on_read}
+use Rattle.locmaf_read_block.specs.Tuples.{part_of, bytes_of, tuple_at, tuples_run}
 use Rattle.locmaf_read_block.specs.Entries.{known}
-use Rattle.locmaf_read_block.specs.Numbers.{counted, count_at, on_counted}
+use Rattle.locmaf_read_block.specs.Numbers.{counted, count_at}
 use Rattle.locmaf_read_block.specs.Records.{records_run, words_of}
+use Rattle.laws.specs.Options.{on_option}
 
 -- ==== What only mirrors the code
 
 -- how many numbers stand in a tuple of the block s: one, a list's varints, bytes, or records; a list can be cut
-unfoldable pub weighed : List Row → List ℕ → Kind → Counted
-weighed F s (Scalar p) = Whole 1
+unfoldable pub weighed : List Row → List ℕ → Kind → Option ℕ
+weighed F s (Scalar p) = Some 1
 weighed F s (Numbers p) = count_at F s p.at (p.at + p.len)
-weighed F s (Raw p) = Whole p.len
+weighed F s (Raw p) = Some p.len
 weighed F s (Records p) = counted (records_run F p.at (bytes_of s p))
 
 -- the words of the events after a tuple: those of its first 16 records
@@ -38,13 +35,13 @@ heard F s (Raw p) events = events
 heard F s (Records p) events = sets events 0 (words_of (take events_most (records_run F p.at (bytes_of s p)).items))
 
 -- the tuple from the place at, that ends before the place end, with its count
-unfoldable pub entry_at : List Row → List ℕ → ℕ → ℕ → Entry
+unfoldable pub entry_at : List Row → List ℕ → ℕ → ℕ → Option (Tuple × ℕ × ℕ)
 entry_at F s at end =
-    on_taken (tuple_at F s at end) (λ t next. on_counted (weighed F s t.kind) (λ count. One t count next) NoEntry) NoEntry
+    on_read (tuple_at F s at end) (λ t next. on_option (weighed F s t.kind) (λ count. Some (t, count, next)) None) None
 
 -- the words of the events after it
 unfoldable pub heard_at : List Row → List ℕ → ℕ → ℕ → List ℕ → List ℕ
-heard_at F s at end events = on_taken (tuple_at F s at end) (λ t next. heard F s t.kind events) events
+heard_at F s at end events = on_read (tuple_at F s at end) (λ t next. heard F s t.kind events) events
 
 -- the id is known and has no tuple yet
 unfoldable pub fresh : List ℕ → ℕ → Bool
@@ -73,7 +70,7 @@ module _ (F : List Row) (s : List ℕ) where
   indexed [] true clean words events = index (told clean) words events
   indexed [] false clean words events = index Cut words events
   indexed (t ∷ ts) whole clean words events =
-      on_counted (weighed F s t.kind)
+      on_option (weighed F s t.kind)
       (λ count. indexed ts whole (fresh words t.id && clean) (noted words t count) (heard F s t.kind events))
       (index Cut words (heard F s t.kind events))
 

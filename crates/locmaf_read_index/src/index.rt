@@ -10,8 +10,7 @@ ghost use Rattle.locmaf_read_index.specs.Index.{Weighable, Enterable, Indexable}
 
 use crate::places;
 use byte_parts::Part;
-use locmaf_read_block::numbers::Counted;
-use locmaf_read_block::tuples::{Kind, Taken, Tuple};
+use locmaf_read_block::tuples::{Kind, Tuple};
 use wire::form::Form;
 
 // How reading a block went: all is readable and each id is known and stands once, or an id is unknown or stands twice, or something in the
@@ -33,23 +32,20 @@ fn part_of(k: Kind) -> Part
     ensures { result ≡ part_of k }
 {
     match k {
-        Kind::Scalar(p) => p,
-        Kind::Numbers(p) => p,
-        Kind::Raw(p) => p,
-        Kind::Records(p) => p,
+        Kind::Scalar(p) | Kind::Numbers(p) | Kind::Raw(p) | Kind::Records(p) => p,
     }
 }
 
 // How many numbers a tuple has, or records; those of events are kept. A list of varints or records can be cut.
-fn weigh(form: Form, s: &[u8], k: Kind, events: &mut [u64]) -> Counted
+fn weigh(form: Form, s: &[u8], k: Kind, events: &mut [u64]) -> Option<usize>
     requires { Weighable s.now k events.old }
     ensures { (result ≡ weighed (rows form) s.now k)
         × (events.new ≡ heard (rows form) s.now k events.old) }
 {
     match k {
-        Kind::Scalar(_) => Counted::Whole(1),
+        Kind::Scalar(_) => Some(1),
         Kind::Numbers(p) => locmaf_read_block::numbers::count(form, s, p.at, p.at + p.len),
-        Kind::Raw(p) => Counted::Whole(p.len),
+        Kind::Raw(p) => Some(p.len),
         Kind::Records(p) => {
             let at = p.at;
             let end = at + p.len;
@@ -58,29 +54,21 @@ fn weigh(form: Form, s: &[u8], k: Kind, events: &mut [u64]) -> Counted
     }
 }
 
-// The tuple, how many numbers it has and the place after it, or that it or a list in it ends too early.
-#[derive(Clone, Copy)]
-enum Entry {
-    One(Tuple, usize, usize),
-    Cut,
-}
-
 // The tuple from the place at, which ends before the place end, with its count. The records of events are kept.
-fn entry_at(form: Form, s: &[u8], at: usize, end: usize, events: &mut [u64]) -> Entry
+fn entry_at(
+    form: Form,
+    s: &[u8],
+    at: usize,
+    end: usize,
+    events: &mut [u64],
+) -> Option<(Tuple, usize, usize)>
     requires { Enterable s.now at end events.old }
     ensures { (result ≡ entry_at (rows form) s.now at end)
         × (events.new ≡ heard_at (rows form) s.now at end events.old) }
 {
-    let g = locmaf_read_block::tuples::tuple_at(form, s, at, end);
-    let Taken::One(t, next) = g else {
-        return Entry::Cut;
-    };
-    let kind = t.kind;
-    let m = weigh(form, s, kind, &mut *events);
-    let Counted::Whole(count) = m else {
-        return Entry::Cut;
-    };
-    Entry::One(t, count, next)
+    let (t, next) = locmaf_read_block::tuples::tuple_at(form, s, at, end)?;
+    let count = weigh(form, s, t.kind, &mut *events)?;
+    Some((t, count, next))
 }
 
 // Notes a tuple with its count in the words of its id, and says whether the id is known and had none.
@@ -96,8 +84,7 @@ fn note(out: &mut [u64], t: Tuple, count: usize) -> bool
     if out[i] != 0 {
         return false;
     }
-    let k = t.kind;
-    let p = part_of(k);
+    let p = part_of(t.kind);
     out[i] = (p.at as u64) + 1;
     out[i + places::NUMBER] = t.number;
     out[i + places::COUNT] = count as u64;
@@ -120,8 +107,7 @@ pub fn index(
     let mut clean = true;
     let mut p = at;
     while p < end {
-        let g = entry_at(form, s, p, end, &mut *events);
-        let Entry::One(t, count, next) = g else {
+        let Some((t, count, next)) = entry_at(form, s, p, end, &mut *events) else {
             return Indexed::Cut;
         };
         clean = note(&mut *out, t, count) & clean;

@@ -5,7 +5,6 @@ use native.Mathlib.Omega.{arith}
 use mathlib.Core.Path.{◌≡◌, refl, sym, ◌∙◌, ap}
 use mathlib.Core.Bool.{Bool, true, false, false≢true, cond, not, ◌&&◌, ◌||◌}
 use mathlib.Core.List.{List, [], ◌∷◌}
-use mathlib.Core.Option.{Option, none, some}
 use borrow.Author.Tests.{eqb-true, eqb-false, eq-eqb, ne_eqb, leb-true, ltb-true}
 use lib.Dec.{eqb, leb, ltb}
 use lib.ListN.{length, get_or, set, replicate, length-set}
@@ -16,7 +15,8 @@ use Rattle.laws.specs.Tests.{◌and◌, among}
 use Rattle.laws.proofs.TestLaws.{and_left, and_right}
 use Rattle.laws.proofs.SliceLaws.{drop-slice, slice-none}
 use Rattle.wire.specs.declared.form.Row.{Row}
-use Rattle.wire.specs.declared.varint.Got.TheVariants.{Value, Cut}
+use Rattle.std.specs.Prelude.{Some, None, Option}
+use Rattle.std.proofs.lemmas.Option.{some_pair_parts}
 use Rattle.wire.specs.Varint.{read_at}
 use Rattle.wire.proofs.Reading.{cut-inv}
 use Rattle.field_table.specs.declared.lines.Line.{Line}
@@ -176,8 +176,8 @@ module _ (F : List Row) (o index r gone : List ℕ) (says : Says) (seen : List �
   strikable-is t e g = go (moof_field d) refl
     where
       sent : (m : Option (List ℕ)) → Tells F o (length o) index [] [] d m → eqb (get_or index (stands_at d) 0) 0 ≡ is_none m
-      sent none h = let z : get_or index (stands_at d) 0 ≡ 0 = rw add-zero at (h 0 (omega arith)) in eq-eqb (get_or index (stands_at d) 0) 0 z
-      sent (some zs) h = ne_eqb (get_or index (stands_at d) 0) 0 (λ z. omega (arith, h.first))
+      sent None h = let z : get_or index (stands_at d) 0 ≡ 0 = rw add-zero at (h 0 (omega arith)) in eq-eqb (get_or index (stands_at d) 0) 0 z
+      sent (Some zs) h = ne_eqb (get_or index (stands_at d) 0) 0 (λ z. omega (arith, h.first))
 
       mark : (b : Bool) → get_or gone d 0 ≡ cond b 1 0 → eqb (get_or gone d 0) 0 ≡ not b
       mark true q = rw q
@@ -218,7 +218,7 @@ pub record Marking (F : List Row) (o index r gone₀ gone : List ℕ) (end p : �
   pub ids : length gone ≡ id_count
   pub seen : List ℕ
   pub left : List ℕ
-  pub rest : numbers_f F (slice p end o) ≡ some left
+  pub rest : numbers_f F (slice p end o) ≡ Some left
   pub marked : Gone gone seen
   pub all : (id : ℕ) → among id seen || among id left ≡ among id (numbers (says_in F o index 27))
   pub whole : deletions_ok r (says_in F o index) seen left ≡ deletions_ok r (says_in F o index) [] (numbers (says_in F o index 27))
@@ -228,13 +228,13 @@ module _ (F : List Row) (o index : List ℕ) (t : Telling F o index) where
   list_of : Tells F o (length o) index [] [] 27 (says_in F o index 27)
   list_of = t.each 27 (omega arith) (λ z. omega arith)
 
-  listed : (get_or index (stands_at 27) 0 ≡ 0 → ⊥) → (zs : List ℕ) × (says_in F o index 27 ≡ some zs) × HeldAs F o (length o) index [] [] 27 zs
+  listed : (get_or index (stands_at 27) 0 ≡ 0 → ⊥) → (zs : List ℕ) × (says_in F o index 27 ≡ Some zs) × HeldAs F o (length o) index [] [] 27 zs
   listed n = go (says_in F o index 27) refl list_of
     where
       go : (m : Option (List ℕ)) → says_in F o index 27 ≡ m → Tells F o (length o) index [] [] 27 m
-          → (zs : List ℕ) × (says_in F o index 27 ≡ some zs) × HeldAs F o (length o) index [] [] 27 zs
-      go none e k = absurd (n (k 0 (omega arith)))
-      go (some zs) e k = (zs, e, k)
+          → (zs : List ℕ) × (says_in F o index 27 ≡ Some zs) × HeldAs F o (length o) index [] [] 27 zs
+      go None e k = absurd (n (k 0 (omega arith)))
+      go (Some zs) e k = (zs, e, k)
 
   -- where they stand in the object
   pub listed_at : (get_or index (stands_at 27) 0 ≡ 0 → ⊥)
@@ -242,10 +242,10 @@ module _ (F : List Row) (o index : List ℕ) (t : Telling F o index) where
   unfolding body
   listed_at n =
       let zs = (listed n).0 in
-      let e : says_in F o index 27 ≡ some zs = (listed n).1 in
+      let e : says_in F o index 27 ≡ Some zs = (listed n).1 in
       let k = (listed n).2 in
       let p : get_or index (stands_at 27) 0 - 1 ≡ k.place = omega (arith, k.first) in
-      let b : numbers_f F (slice k.place (k.place + get_or index (number_at 27) 0) o) ≡ some zs = k.bytes (λ u. omega arith) in
+      let b : numbers_f F (slice k.place (k.place + get_or index (number_at 27) 0) o) ≡ Some zs = k.bytes (λ u. omega arith) in
       let i : k.place + get_or index (number_at 27) 0 ≤ length o = k.inside (λ u. omega arith) in
       record { inside = omega arith; ids = rw (p, e) b }
 
@@ -256,8 +256,8 @@ module _ (F : List Row) (o index : List ℕ) (t : Telling F o index) where
     unlisted z = go (says_in F o index 27) refl list_of
       where
         go : (m : Option (List ℕ)) → says_in F o index 27 ≡ m → Tells F o (length o) index [] [] 27 m → MarkedAs r (says_in F o index) true gone
-        go none e k = record { answered = rw e; marked = λ u. rw e (gone-none gone h.1) }
-        go (some zs) e k = absurd (omega (arith, k.first))
+        go None e k = record { answered = rw e; marked = λ u. rw e (gone-none gone h.1) }
+        go (Some zs) e k = absurd (omega (arith, k.first))
 
 -- all are to come
 pub start : (F : List Row) (o index : List ℕ) (from end : ℕ) → Telling F o index → ListedAt F o index from end
@@ -291,8 +291,8 @@ module _ (F : List Row) (o index r gone₀ gone : List ℕ) (end p : ℕ) (m : M
 
       none_left : m.left ≡ []
       none_left =
-          let e : numbers_f F [] ≡ some m.left = rw (slice-none p end o h) at m.rest in
-          let n : numbers_f F [] ≡ some [] = numbers-nil F in
+          let e : numbers_f F [] ≡ Some m.left = rw (slice-none p end o h) at m.rest in
+          let n : numbers_f F [] ≡ Some [] = numbers-nil F in
           cc
 
       go : (left : List ℕ) → m.left ≡ left → MarkedAs r (says_in F o index) true gone
@@ -312,7 +312,7 @@ module _ (F : List Row) (o index r gone₀ gone : List ℕ) (end p : ℕ) (m : M
           }
 
   -- no varint is cut
-  pub cut-never : p < end → Cut ≡ read_at F o p end → ⊥
+  pub cut-never : p < end → None ≡ read_at F o p end → ⊥
   unfolding numbers_f
   cut-never lt e =
       let l : 0 < length (slice p end o) = omega (arith, length-slice p end o m.bytes) in
@@ -321,21 +321,19 @@ module _ (F : List Row) (o index r gone₀ gone : List ℕ) (end p : ℕ) (m : M
 
   module _ (d q : ℕ) (f : Found F o p end d q) where
     -- the next one
-    one : (vs : List ℕ) × (m.left ≡ d ∷ vs) × (numbers_f F (slice q end o) ≡ some vs)
+    one : (vs : List ℕ) × (m.left ≡ d ∷ vs) × (numbers_f F (slice q end o) ≡ Some vs)
     one = go m.left refl
       where
-        go : (left : List ℕ) → m.left ≡ left → (vs : List ℕ) × (m.left ≡ d ∷ vs) × (numbers_f F (slice q end o) ≡ some vs)
+        go : (left : List ℕ) → m.left ≡ left → (vs : List ℕ) × (m.left ≡ d ∷ vs) × (numbers_f F (slice q end o) ≡ Some vs)
         go [] e =
-            let s : slice p end o ≡ [] = numbers-empty F (slice p end o) (m.rest ∙ ap some e) in
+            let s : slice p end o ≡ [] = numbers-empty F (slice p end o) (m.rest ∙ ap Some e) in
             let l : length (slice p end o) ≡ 0 = rw s in
             absurd (omega (arith, length-slice p end o m.bytes, f.some, f.within))
         go (v ∷ vs) e =
-            let i = numbers-inv F (slice p end o) v vs (m.rest ∙ ap some e) in
-            let a : Value v i.0 ≡ Value d f.size = sym i.1 ∙ f.read in
-            let b : v ≡ d = cc in
-            let c : i.0 ≡ f.size = cc in
-            let s : numbers_f F (slice q end o) ≡ some vs = rw (f.place, ← c, ← drop-slice p end i.0 o) i.2 in
-            (vs, e ∙ ap (λ (x : ℕ). x ∷ vs) b, s)
+            let i = numbers-inv F (slice p end o) v vs (m.rest ∙ ap Some e) in
+            let a = some_pair_parts _ _ _ _ (sym i.1 ∙ f.read) in
+            let s : numbers_f F (slice q end o) ≡ Some vs = rw (f.place, ← a.1, ← drop-slice p end i.0 o) i.2 in
+            (vs, e ∙ ap (λ (x : ℕ). x ∷ vs) a.0, s)
 
     module _ (b : Bool) (after : List ℕ) (k : StruckAs index r d gone b after) where
       asked : b ≡ (moof_field d && (has d r && (is_none (says_in F o index d) && not (among d m.seen))))

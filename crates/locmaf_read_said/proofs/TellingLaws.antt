@@ -5,7 +5,7 @@ use native.Mathlib.Omega.{arith}
 use mathlib.Core.Path.{◌≡◌, refl, sym, ◌∙◌, ap}
 use mathlib.Core.Bool.{Bool, true, false, cond, not}
 use mathlib.Core.List.{List, [], ◌∷◌}
-use mathlib.Core.Option.{Option, none, some}
+use Rattle.std.specs.Prelude.{Option, Some, None}
 use borrow.Author.Tests.{eqb-true, eqb-false, eq-eqb, ne_eqb}
 use lib.Dec.{eqb}
 use lib.ListN.{length, get_or}
@@ -30,24 +30,24 @@ module _ (F : List Row) (s : List ℕ) (end : ℕ) (words before events : List �
   -- is what they say
   says-told : (m : Option (List ℕ)) → Tells F s end words before events id m → says_in F s words id ≡ m
   unfolding says_in
-  says-told none h =
+  says-told None h =
       let z : get_or words (stands_at id) 0 ≡ 0 = rw add-zero at (h 0 (omega arith)) in
       rw (eq-eqb (get_or words (stands_at id) 0) 0 z)
-  says-told (some zs) h = rw (ne_eqb (get_or words (stands_at id) 0) 0 (λ z. omega (arith, h.first))) (go (eqb (id % 2) 0) refl)
+  says-told (Some zs) h = rw (ne_eqb (get_or words (stands_at id) 0) 0 (λ z. omega (arith, h.first))) (go (eqb (id % 2) 0) refl)
     where
       go : (b : Bool) → eqb (id % 2) 0 ≡ b
-          → cond b (some (get_or words (number_at id) 0 ∷ []))
+          → cond b (Some (get_or words (number_at id) 0 ∷ []))
           (body F id (slice (get_or words (stands_at id) 0 - 1) (get_or words (stands_at id) 0 - 1 + get_or words (number_at id) 0) s))
-          ≡ some zs
-      go true q = ap some (sym (h.scalar (eqb-true _ _ q)))
+          ≡ Some zs
+      go true q = ap Some (sym (h.scalar (eqb-true _ _ q)))
       go false q =
           let p : get_or words (stands_at id) 0 - 1 ≡ h.place = omega (arith, h.first) in
           rw p (h.bytes (eqb-false _ _ q))
 
   -- and of an id but 25 it is told of the whole object, whatever the events are
   told-alone : (m : Option (List ℕ)) → end ≤ length s → (id ≡ 25 → ⊥) → Tells F s end words before events id m → Tells F s (length s) words [] [] id m
-  told-alone none le n h = h
-  told-alone (some zs) le n h =
+  told-alone None le n h = h
+  told-alone (Some zs) le n h =
       record {
         place = h.place;
         first = h.first;
@@ -62,7 +62,7 @@ module _ (F : List Row) (s : List ℕ) (end : ℕ) (words before events : List �
 
 module _ (F : List Row) (o : List ℕ) (at end : ℕ) (words events : List ℕ) (es : List Entry)
     (inside : end ≤ length o) (room : length words ≡ index_len) (blank : Blank words)
-    (read : entries_at F o at end ≡ some es) (fit : readable F es ≡ true) (law : lawful es ≡ true) where
+    (read : entries_at F o at end ≡ Some es) (fit : readable F es ≡ true) (law : lawful es ≡ true) where
   -- says what the entries say
   pub telling-says : says_in F o (index_at F o at end words events).words ≡ says F es
   telling-says =
@@ -99,7 +99,7 @@ module _ (F : List Row) (o index : List ℕ) where
       let odd : 23 % 2 ≡ 0 → ⊥ = λ e. omega arith in
       let p : get_or index (stands_at 23) 0 - 1 ≡ t.place = omega (arith, t.first) in
       let i : t.place + get_or index (number_at 23) 0 ≤ length o = t.inside odd in
-      let e : some (slice t.place (t.place + get_or index (number_at 23) 0) o) ≡ some bs = t.bytes odd in
+      let e : Some (slice t.place (t.place + get_or index (number_at 23) 0) o) ≡ Some bs = t.bytes odd in
       let s : slice t.place (t.place + get_or index (number_at 23) 0) o ≡ bs = cc in
       let n = length-slice t.place (t.place + get_or index (number_at 23) 0) o i in
       let m : length bs ≡ get_or index (number_at 23) 0 = ap length (sym s) ∙ n ∙ (omega arith) in
@@ -111,10 +111,10 @@ module _ (F : List Row) (o index : List ℕ) (h : Telling F o index) where
   stands-says id lt n = go (says_in F o index id) (h.each id lt n)
     where
       go : (m : Option (List ℕ)) → Tells F o (length o) index [] [] id m → not (eqb (get_or index (stands_at id) 0) 0) ≡ is_some m
-      go none t =
+      go None t =
           let z : get_or index (stands_at id) 0 ≡ 0 = rw add-zero at (t 0 (omega arith)) in
           rw (eq-eqb (get_or index (stands_at id) 0) 0 z)
-      go (some zs) t = rw (ne_eqb (get_or index (stands_at id) 0) 0 (λ z. omega (arith, t.first)))
+      go (Some zs) t = rw (ne_eqb (get_or index (stands_at id) 0) 0 (λ z. omega (arith, t.first)))
 
   -- with the ids marked that id 27 lists, every id is marked
   pub all-marked : (gone : List ℕ) → Gone gone (numbers (says_in F o index 27)) → AllMarked F o index gone (says_in F o index)
@@ -128,13 +128,13 @@ module _ (F : List Row) (o index : List ℕ) (h : Telling F o index) where
     where
       go : (id : ℕ) (m : Option (List ℕ)) (b : Bool) → Tells F o (length o) index [] [] id m → get_or gone id 0 ≡ cond b 1 0
           → Marked F o (length o) index gone [] [] id (saying m b)
-      go id (some zs) b t e = t
-      go id none true t e = (rw add-zero at (t 0 (omega arith)), e)
-      go id none false t e = (rw add-zero at (t 0 (omega arith)), e)
+      go id (Some zs) b t e = t
+      go id None true t e = (rw add-zero at (t 0 (omega arith)), e)
+      go id None false t e = (rw add-zero at (t 0 (omega arith)), e)
 
   -- and so those that are said
-  pub part_says : (bs : List ℕ) → says_in F o index 23 ≡ some bs
+  pub part_says : (bs : List ℕ) → says_in F o index 23 ≡ Some bs
       → (slice (get_or index (stands_at 23) 0 - 1) (get_or index (stands_at 23) 0 - 1 + get_or index (number_at 23) 0) o ≡ bs)
       × (get_or index (stands_at 23) 0 - 1 + get_or index (number_at 23) 0 ≤ length o)
       × (get_or index (number_at 23) 0 ≡ length bs)
-  part_says bs e = let t : Tells F o (length o) index [] [] 23 (some bs) = rw e at (h.each 23 (omega arith) (λ z. omega arith)) in brand-bytes F o index bs t
+  part_says bs e = let t : Tells F o (length o) index [] [] 23 (Some bs) = rw e at (h.each 23 (omega arith) (λ z. omega arith)) in brand-bytes F o index bs t

@@ -1,6 +1,5 @@
 -- The ids that a delta deletes. 01: "a vanished one is listed in id 27".
-use Rattle.std.specs.Prelude.{ℕ, ◌≤◌, ◌≡◌, Bool, true, false, not, ◌&&◌, List, [], ◌∷◌, eqb, leb, length, get_or, set}
-use Rattle.std.proofs.Math.Option.{Option, none, some}
+use Rattle.std.specs.Prelude.{ℕ, ◌≤◌, ◌≡◌, Bool, true, false, not, ◌&&◌, List, [], ◌∷◌, eqb, leb, length, get_or, set, Option, Some, None}
 use Rattle.std.proofs.Math.Seq.{slice}
 use Rattle.laws.specs.Tests.{◌and◌, among}
 use Rattle.wire.specs.declared.form.Row.{Row}
@@ -17,8 +16,8 @@ unfoldable pub moof_field : ℕ → Bool
 moof_field id = leb 1 id && (leb id 16 && (not (eqb id 10) && not (eqb id 14)))
 
 abbrev pub is_none : Option (List ℕ) → Bool
-is_none none = true
-is_none (some zs) = false
+is_none None = true
+is_none (Some zs) = false
 
 -- 01: "an id deleted stands once, was in the reference's moof fields and isn't sent again": of each id that id 27 lists, those of `seen` being
 -- before it (D89)
@@ -42,7 +41,7 @@ pub record StruckAs (index r : List ℕ) (d : ℕ) (before : List ℕ) (answer :
 -- the ids of id 27 stand in an object from one place up to another
 pub record ListedAt (F : List Row) (o index : List ℕ) (from end : ℕ) : Type 0 where
   pub inside : end ≤ length o
-  pub ids : numbers_f F (slice from end o) ≡ some (numbers (says_in F o index 27))
+  pub ids : numbers_f F (slice from end o) ≡ Some (numbers (says_in F o index 27))
 
 -- all ids of id 27 were marked where all may be deleted
 pub record MarkedAs (r : List ℕ) (says : Says) (answer : Bool) (gone : List ℕ) : Type 0 where

@@ -1,6 +1,5 @@
 -- What an object says of an id, by what the entries of its block say.
-use Rattle.std.specs.Prelude.{ℕ, ◌+◌, ◌-◌, ◌%◌, ◌<◌, ◌≡◌, Bool, true, false, cond, List, [], ◌∷◌, eqb, length, get_or}
-use Rattle.std.proofs.Math.Option.{Option, none, some}
+use Rattle.std.specs.Prelude.{ℕ, ◌+◌, ◌-◌, ◌%◌, ◌<◌, ◌≡◌, Bool, true, false, cond, List, [], ◌∷◌, eqb, length, get_or, Option, Some, None}
 use Rattle.std.proofs.Math.Seq.{slice}
 use Rattle.constants.specs.Ids.{id_count}
 use Rattle.wire.specs.declared.form.Row.{Row}
@@ -30,8 +29,8 @@ unsent true = deleted
 unsent false = omitted
 
 abbrev pub saying : Option (List ℕ) → Bool → Saying
-saying (some zs) b = sent zs
-saying none b = unsent b
+saying (Some zs) b = sent zs
+saying None b = unsent b
 
 -- 01: "a vanished one is listed in id 27"
 unfoldable pub saying_of : Says → ℕ → Saying
@@ -52,13 +51,13 @@ word_in index gone id =
 -- what the index says of an id: its numbers, by the bytes o of the object
 unfoldable pub says_in : List Row → List ℕ → List ℕ → Says
 says_in F o index id =
-    cond (eqb (get_or index (stands_at id) 0) 0) none
-    (cond (eqb (id % 2) 0) (some (get_or index (number_at id) 0 ∷ []))
+    cond (eqb (get_or index (stands_at id) 0) 0) None
+    (cond (eqb (id % 2) 0) (Some (get_or index (number_at id) 0 ∷ []))
     (body F id (slice (get_or index (stands_at id) 0 - 1) (get_or index (stands_at id) 0 - 1 + get_or index (number_at id) 0) o)))
 
 -- of a scalar
 unfoldable pub scalar_in : List ℕ → ℕ → Option (List ℕ)
-scalar_in index id = cond (eqb (get_or index (stands_at id) 0) 0) none (some (get_or index (number_at id) 0 ∷ []))
+scalar_in index id = cond (eqb (get_or index (stands_at id) 0) 0) None (Some (get_or index (number_at id) 0 ∷ []))
 
 -- the words of each id but 25 tell what they say
 pub record Telling (F : List Row) (o index : List ℕ) : Type 0 where

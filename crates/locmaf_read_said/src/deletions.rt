@@ -11,7 +11,6 @@ ghost use Rattle.locmaf_read_said.specs.Deletions.{StruckAs, ListedAt, MarkedAs}
 use field_table::lines;
 use locmaf_read_index::places;
 use wire::form::Form;
-use wire::varint::Got;
 
 // Marks the id d as deleted, if it may be: it is a moof field of the reference that isn't sent again, nor deleted before.
 fn strike(index: &[u64], r: &[u64], d: u64, gone: &mut [u64]) -> bool
@@ -48,8 +47,7 @@ fn strike_all(
 {
     let mut p = from;
     while p < end {
-        let g = wire::varint::read(form, o, p, end);
-        let Got::Value(d, next) = g else {
+        let Some((d, next)) = wire::varint::read(form, o, p, end) else {
             return false;
         };
         if !strike(index, r, d, &mut *gone) {

@@ -4,7 +4,6 @@ use native.Mathlib.Omega.{arith}
 use mathlib.Core.Path.{◌≡◌, refl, sym, ◌∙◌, ap}
 use mathlib.Core.Bool.{Bool, true, false, cond, not, ◌&&◌, ◌||◌}
 use mathlib.Core.List.{List, [], ◌∷◌, map}
-use mathlib.Core.Option.{none}
 use borrow.Author.Tests.{eq-eqb}
 use lib.Dec.{eqb, leb}
 use lib.ListN.{get_or, replicate}
@@ -15,7 +14,7 @@ use Rattle.laws.specs.Tests.{◌and◌, all_zero, among, sum}
 use Rattle.laws.proofs.LadderLaws.{number_of}
 use Rattle.laws.proofs.TestLaws.{both, and-true}
 use Rattle.wire.specs.declared.form.Row.{Row}
-use Rattle.wire.specs.declared.zigzag.Reached.TheVariants.{To}
+use Rattle.std.specs.Prelude.{Some, None}
 use Rattle.track.specs.declared.Track.{Track}
 use Rattle.field_table.specs.declared.lines.Line.{Line}
 use Rattle.field_table.specs.declared.lines.Measure.{Measure}
@@ -55,11 +54,11 @@ none_old false r e i lt = refl
 -- a line that is omitted or deleted, and didn't stand
 module _ (t : Track) (held : Bool) (r : List ℕ) (says : Says) (l : Line) (old : stood held r l ≡ false) (b : Bool) (said : saying_of says l.id ≡ unsent b) where
   -- its field is right, and absent, whatever the lengths are
-  none_came : (m : Measure) → came_of t held r says m l ≡ well none
+  none_came : (m : Measure) → came_of t held r says m l ≡ well None
   unfolding came_of cell_of
   none_came m = rw said (go b)
     where
-      go : (b : Bool) → cell_of t (coding_for held) held r (was_of t held r) l m (unsent b) ≡ well none
+      go : (b : Bool) → cell_of t (coding_for held) held r (was_of t held r) l m (unsent b) ≡ well None
       go true = refl
       go false = rw old
 
@@ -87,7 +86,7 @@ unfolding same_iv_size
 bare-iv-size t n = rw (words-has 0 n no_fields (λ i lt. tt) 16 sixteen-known)
 
 module _ (F : List Row) (o index gone : List ℕ) (t : Track) (a : Against) (r : List ℕ) (h : Readable F o index gone t a r) (n : ℕ)
-    (en : count_reached t a.held r (says_in F o index) ≡ To n) (bare : none_sent index ≡ true) (old : (not a.held || all_zero (marks_of r)) ≡ true) where
+    (en : count_reached t a.held r (says_in F o index) ≡ Some n) (bare : none_sent index ≡ true) (old : (not a.held || all_zero (marks_of r)) ≡ true) where
   abbrev says : Says
   says = says_in F o index
 
@@ -100,11 +99,11 @@ module _ (F : List Row) (o index gone : List ℕ) (t : Track) (a : Against) (r :
   unsaid i lt = rw (every-at (λ l. eqb (get_or index (stands_at l.id) 0) 0) lines i spare bare (omega (arith, line-count)))
 
   -- so that its field is right and absent
-  absent : (m : Measure) (i : ℕ) → i < line_count → came_of t a.held r says m (get_or lines i spare) ≡ well none
+  absent : (m : Measure) (i : ℕ) → i < line_count → came_of t a.held r says m (get_or lines i spare) ≡ well None
   absent m i lt = none_came t a.held r says (get_or lines i spare) (none_old a.held r old i lt) (struck i) (unsaid i lt) m
 
   -- and every line passes a test that an absent field passes
-  all_pass : (p : Came → Bool) → p (well none) ≡ true → every (λ l. p (came t a.held r says l)) lines ≡ true
+  all_pass : (p : Came → Bool) → p (well None) ≡ true → every (λ l. p (came t a.held r says l)) lines ≡ true
   unfolding came
   all_pass p e = every_holds (λ l. p (came t a.held r says l)) lines (λ i lt. ap p (absent _ i (omega (arith, line-count))) ∙ e)
 

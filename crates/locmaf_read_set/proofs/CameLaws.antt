@@ -7,7 +7,6 @@ use mathlib.Core.Path.{◌≡◌, refl, sym, ◌∙◌, ap}
 use mathlib.Core.Logic.{◌⊎◌, inl, inr}
 use mathlib.Core.Bool.{Bool, true, false, false≢true, cond, not, ◌&&◌, ◌||◌}
 use mathlib.Core.List.{List, [], ◌∷◌}
-use mathlib.Core.Option.{Option, none, some}
 use borrow.Author.Tests.{eqb-true, eqb-false, le-leb, not-true}
 use lib.Dec.{eqb}
 use lib.ListN.{length, get_or, take, drop, replicate, length-take, length-drop, length-replicate}
@@ -17,14 +16,13 @@ use Rattle.laws.specs.Bytes.{de, Bytes}
 use Rattle.laws.proofs.TestLaws.{both, and_left, and_right, one-le, zeros-le, all_zero-zeros}
 use Rattle.laws.proofs.BytesLaws.{bytes_take, bytes_drop, de-lt, bytes-are}
 use Rattle.wire.specs.declared.zigzag.Coding.{Coding}
-use Rattle.wire.specs.declared.zigzag.Reached.{Reached}
-use Rattle.wire.specs.declared.zigzag.Reached.TheVariants.{To, Outside as Beyond}
-use Rattle.wire.specs.Zigzag.{reached, on_reached}
+use Rattle.runs.specs.declared.Misread.{Misread}
+use Rattle.runs.specs.declared.Misread.TheVariants.{Misfit, Outside}
+use Rattle.std.specs.Prelude.{Option, Some, None, Result, Ok, Err}
+use Rattle.wire.specs.Zigzag.{reached}
 use Rattle.wire.proofs.ZigzagLaws.{reached-most}
-use Rattle.runs.specs.declared.Outcome.{Outcome}
-use Rattle.runs.specs.declared.Outcome.TheVariants.{Done, Misfit, Outside}
 use Rattle.runs.specs.Run.{Filled, first, rest, stop, more}
-use Rattle.laws.specs.Options.{is_some}
+use Rattle.laws.specs.Options.{is_some, on_option}
 use Rattle.locmaf_read_block.specs.Numbers.{steps_f}
 use Rattle.track.specs.declared.Track.{Track}
 use Rattle.field_table.specs.declared.lines.Want.{Want}
@@ -74,37 +72,37 @@ module _ (t : Track) (delta : Bool) (r : List ℕ) (says : Says) where
 -- ---- a value that was reached, and a list of them
 
 -- a list that was stepped through to the end has as many values as numbers, all within the bound
-steps-fit : (coding : Coding) (base bound : ℕ) (zs old : List ℕ) → (steps_f coding base bound old zs).answer ≡ Done
+steps-fit : (coding : Coding) (base bound : ℕ) (zs old : List ℕ) → (steps_f coding base bound old zs).answer ≡ Ok tt
     → (length (steps_f coding base bound old zs).values ≡ length zs) × (all_le bound (steps_f coding base bound old zs).values ≡ true)
 unfolding steps_f all_le
 steps-fit coding base bound [] old d = (refl, refl)
 steps-fit coding base bound (z ∷ zs) old d =
     go (reached coding (first base old) bound z) refl (steps_f coding base bound (rest old) zs) (steps-fit coding base bound zs (rest old)) d
   where
-    go : (x : Reached) → reached coding (first base old) bound z ≡ x → (f : Filled)
-        → (f.answer ≡ Done → (length f.values ≡ length zs) × (all_le bound f.values ≡ true))
-        → (on_reached x (λ v. more v f) (stop Outside)).answer ≡ Done
-        → (length (on_reached x (λ v. more v f) (stop Outside)).values ≡ suc (length zs))
-        × (all_le bound (on_reached x (λ v. more v f) (stop Outside)).values ≡ true)
-    go (To v) q f ih e = let h = ih e in (ap suc h.0, both _ _ (le-leb v bound (reached-most coding (first base old) bound z v q)) h.1)
-    go Beyond q f ih e = let no : ◌≡◌ {A = ℕ} 0 1 = cc in absurd (omega arith)
+    go : (x : Option ℕ) → reached coding (first base old) bound z ≡ x → (f : Filled)
+        → (f.answer ≡ (Ok tt) → (length f.values ≡ length zs) × (all_le bound f.values ≡ true))
+        → (on_option x (λ v. more v f) (stop (Err Outside))).answer ≡ Ok tt
+        → (length (on_option x (λ v. more v f) (stop (Err Outside))).values ≡ suc (length zs))
+        × (all_le bound (on_option x (λ v. more v f) (stop (Err Outside))).values ≡ true)
+    go (Some v) q f ih e = let h = ih e in (ap suc h.0, both _ _ (le-leb v bound (reached-most coding (first base old) bound z v q)) h.1)
+    go None q f ih e = let no : ◌≡◌ {A = ℕ} 0 1 = cc in absurd (omega arith)
 
 -- ---- the ways in which a field comes out
 
 module _ (t : Track) (coding : Coding) (held : Bool) (r : List ℕ) (was : Measure) (l : Line) (m : Measure) where
   -- what is shown of each of them
   record Ways (P : Saying → Came → Type 0) : Type 0 where
-    absent : stood held r l ≡ false → P omitted (well none)
-    left : stood held r l ≡ true → is_ivs l.want ≡ true → P omitted (well (some (replicate (wanted l.want m) 0)))
+    absent : stood held r l ≡ false → P omitted (well None)
+    left : stood held r l ≡ true → is_ivs l.want ≡ true → P omitted (well (Some (replicate (wanted l.want m) 0)))
     kept : stood held r l ≡ true → is_ivs l.want ≡ false → wanted l.want was ≡ wanted l.want m
-        → P omitted (well (some (old_values held r was l)))
+        → P omitted (well (Some (old_values held r was l)))
     changed : stood held r l ≡ true → (wanted l.want was ≡ wanted l.want m → ⊥) → P omitted (misfit l.want)
-    struck : P deleted (well none)
-    one : (zs : List ℕ) (v : ℕ) → l.room ≡ 1 → v ≤ l.bound → P (sent zs) (well (some (v ∷ [])))
+    struck : P deleted (well None)
+    one : (zs : List ℕ) (v : ℕ) → l.room ≡ 1 → v ≤ l.bound → P (sent zs) (well (Some (v ∷ [])))
     past : (zs : List ℕ) → P (sent zs) beyond
     raw : (zs : List ℕ) → is_ivs l.want ≡ true → length zs ≡ 8 * wanted l.want m
-        → P (sent zs) (well (some (packed (wanted l.want m) zs)))
-    list : (zs vs : List ℕ) → length vs ≡ wanted l.want m → all_le l.bound vs ≡ true → P (sent zs) (well (some vs))
+        → P (sent zs) (well (Some (packed (wanted l.want m) zs)))
+    list : (zs vs : List ℕ) → length vs ≡ wanted l.want m → all_le l.bound vs ≡ true → P (sent zs) (well (Some vs))
     long : (zs : List ℕ) → (l.room ≡ 1 → ⊥) → P (sent zs) (misfit l.want)
 
   module _ (P : Saying → Came → Type 0) (h : Ways P) where
@@ -114,7 +112,7 @@ module _ (t : Track) (coding : Coding) (held : Bool) (r : List ℕ) (was : Measu
     carried-way e = go (is_ivs l.want) refl (eqb (wanted l.want was) (wanted l.want m)) refl
       where
         go : (a : Bool) → is_ivs l.want ≡ a → (b : Bool) → eqb (wanted l.want was) (wanted l.want m) ≡ b
-            → P omitted (cond a (well (some (replicate (wanted l.want m) 0))) (cond b (well (some (old_values held r was l))) (misfit l.want)))
+            → P omitted (cond a (well (Some (replicate (wanted l.want m) 0))) (cond b (well (Some (old_values held r was l))) (misfit l.want)))
         go true p b q = h.left e p
         go false p true q = h.kept e p (eqb-true _ _ q)
         go false p false q = h.changed e (eqb-false _ _ q)
@@ -123,9 +121,9 @@ module _ (t : Track) (coding : Coding) (held : Bool) (r : List ℕ) (was : Measu
     unfolding sent_one
     one_way coded old zs e = go (reached coded old l.bound (first 0 zs)) refl
       where
-        go : (x : Reached) → reached coded old l.bound (first 0 zs) ≡ x → P (sent zs) (on_reached x (λ v. well (some (v ∷ []))) beyond)
-        go (To v) q = h.one zs v e (reached-most coded old l.bound (first 0 zs) v q)
-        go Beyond q = h.past zs
+        go : (x : Option ℕ) → reached coded old l.bound (first 0 zs) ≡ x → P (sent zs) (on_option x (λ v. well (Some (v ∷ []))) beyond)
+        go (Some v) q = h.one zs v e (reached-most coded old l.bound (first 0 zs) v q)
+        go None q = h.past zs
 
     list-way : (coded : Coding) (base : ℕ) (olds zs : List ℕ) → (l.room ≡ 1 → ⊥)
         → P (sent zs) (sent_list coded base l.bound l.want (wanted l.want m) olds zs)
@@ -135,15 +133,15 @@ module _ (t : Track) (coding : Coding) (held : Bool) (r : List ℕ) (was : Measu
         f : Filled
         f = steps_f coded base l.bound olds zs
 
-        filled : length zs ≡ wanted l.want m → (a : Outcome) → f.answer ≡ a → P (sent zs) (filled_as a f.values)
-        filled e Done q = let s = steps-fit coded base l.bound zs olds q in h.list zs f.values (s.0 ∙ e) s.1
-        filled e Misfit q = h.past zs
-        filled e Outside q = h.past zs
+        filled : length zs ≡ wanted l.want m → (a : Result (Unit {0}) Misread) → f.answer ≡ a → P (sent zs) (filled_as a f.values)
+        filled e (Ok tt) q = let s = steps-fit coded base l.bound zs olds q in h.list zs f.values (s.0 ∙ e) s.1
+        filled e (Err Misfit) q = h.past zs
+        filled e (Err Outside) q = h.past zs
 
         go : (a : Bool) → is_ivs l.want ≡ a → (b : Bool) → eqb (length zs) (8 * wanted l.want m) ≡ b
             → (c : Bool) → eqb (length zs) (wanted l.want m) ≡ c
             → P (sent zs)
-            (cond a (cond b (well (some (packed (wanted l.want m) zs))) (misfit l.want)) (cond c (filled_as f.answer f.values) (misfit l.want)))
+            (cond a (cond b (well (Some (packed (wanted l.want m) zs))) (misfit l.want)) (cond c (filled_as f.answer f.values) (misfit l.want)))
         go true p true q c d = h.raw zs p (eqb-true _ _ q)
         go true p false q c d = h.long zs n
         go false p b q true d = filled (eqb-true _ _ d) f.answer refl
@@ -155,7 +153,7 @@ module _ (t : Track) (coding : Coding) (held : Bool) (r : List ℕ) (was : Measu
     cell-ways omitted = go (stood held r l) refl
       where
         go : (b : Bool) → stood held r l ≡ b
-            → P omitted (cond b (carried l.want (wanted l.want was) (wanted l.want m) (old_values held r was l)) (well none))
+            → P omitted (cond b (carried l.want (wanted l.want was) (wanted l.want m) (old_values held r was l)) (well None))
         go true e = carried-way e
         go false e = h.absent e
     cell-ways deleted = h.struck
@@ -292,11 +290,11 @@ module _ (t : Track) (delta : Bool) (r : List ℕ) (says : Says) (m : Measure) w
 -- ---- how long a field is
 
 -- a field that doesn't stand has no values
-pub no_field : {A : Type 0} {vs : List ℕ} → ◌≡◌ {A = Held} none (some vs) → A
+pub no_field : {A : Type 0} {vs : List ℕ} → ◌≡◌ {A = Held} None (Some vs) → A
 no_field e = let no : ◌≡◌ {A = ℕ} 0 1 = cc in absurd (omega arith)
 
 -- and one that stands has its own
-pub same-field : {ws vs : List ℕ} → ◌≡◌ {A = Held} (some ws) (some vs) → ws ≡ vs
+pub same-field : {ws vs : List ℕ} → ◌≡◌ {A = Held} (Some ws) (Some vs) → ws ≡ vs
 same-field e = cc
 
 -- the words of eight bytes, a single value, and what the reference has
@@ -318,9 +316,9 @@ olds-length held r was l e h =
 module _ (t : Track) (coding : Coding) (held : Bool) (r : List ℕ) (was : Measure) (l : Line) (m : Measure) (single : l.room ≡ 1 → l.want ≡ One)
     (there : stood held r l ≡ true → l.place + 1 + wanted l.want was ≤ length r) where
   -- the values of a field that stands are as many as are wanted
-  pub cell-length : (s : Saying) (vs : List ℕ) → (cell_of t coding held r was l m s).field ≡ some vs → length vs ≡ wanted l.want m
+  pub cell-length : (s : Saying) (vs : List ℕ) → (cell_of t coding held r was l m s).field ≡ Some vs → length vs ≡ wanted l.want m
   cell-length =
-      cell-ways t coding held r was l m (λ s x. (vs : List ℕ) → x.field ≡ some vs → length vs ≡ wanted l.want m)
+      cell-ways t coding held r was l m (λ s x. (vs : List ℕ) → x.field ≡ Some vs → length vs ≡ wanted l.want m)
       (record {
         absent = λ _ _ d. no_field d;
         left = λ _ _ vs d. ap length (sym (same-field d)) ∙ length-replicate {A = ℕ} (wanted l.want m) 0;
@@ -355,7 +353,7 @@ module _ (t : Track) (delta : Bool) (r : List ℕ) (words : length r ≡ set_len
   stood-there e = omega (arith, (stood-region e).room, stood-used delta r (was_of t delta r) (get_or lines i spare) e, (shaped i h).inside)
 
   -- of the lines of the table
-  pub came-length : (says : Says) (m : Measure) (vs : List ℕ) → (came_of t delta r says m (get_or lines i spare)).field ≡ some vs
+  pub came-length : (says : Says) (m : Measure) (vs : List ℕ) → (came_of t delta r says m (get_or lines i spare)).field ≡ Some vs
       → length vs ≡ wanted (get_or lines i spare).want m
   unfolding came_of
   came-length says m vs e =
@@ -385,9 +383,9 @@ module _ (t : Track) (coding : Coding) (held : Bool) (r : List ℕ) (was : Measu
     (wide : is_ivs l.want ≡ true → l.bound ≡ 0xffff_ffff_ffff_ffff)
     (there : stood held r l ≡ true → all_le l.bound (old_values held r was l) ≡ true) where
   -- the values of a field that stands are within its bound
-  cell-bound : (s : Saying) → Raw l s → (vs : List ℕ) → (cell_of t coding held r was l m s).field ≡ some vs → all_le l.bound vs ≡ true
+  cell-bound : (s : Saying) → Raw l s → (vs : List ℕ) → (cell_of t coding held r was l m s).field ≡ Some vs → all_le l.bound vs ≡ true
   cell-bound =
-      cell-ways t coding held r was l m (λ s x. Raw l s → (vs : List ℕ) → x.field ≡ some vs → all_le l.bound vs ≡ true)
+      cell-ways t coding held r was l m (λ s x. Raw l s → (vs : List ℕ) → x.field ≡ Some vs → all_le l.bound vs ≡ true)
       (record {
         absent = λ _ _ _ d. no_field d;
         left = λ _ _ _ vs d. held_by (same-field d) (zeros-le l.bound _ (all_zero-zeros (wanted l.want m)));
@@ -423,7 +421,7 @@ raw_at i h e =
     (eqb-true _ _ (and_left _ _ test), eqb-true _ _ (and_right (eqb (get_or lines i spare).id 9) _ test))
 
 -- what is said of an id that is sent
-sent-says : (says : Says) (id : ℕ) (zs : List ℕ) → saying_of says id ≡ sent zs → says id ≡ some zs
+sent-says : (says : Says) (id : ℕ) (zs : List ℕ) → saying_of says id ≡ sent zs → says id ≡ Some zs
 unfolding saying_of
 sent-says says id zs e = go (says id) refl e
   where
@@ -431,9 +429,9 @@ sent-says says id zs e = go (says id) refl e
     unsent-not true q = let no : ◌≡◌ {A = ℕ} 0 1 = cc in absurd (omega arith)
     unsent-not false q = let no : ◌≡◌ {A = ℕ} 0 1 = cc in absurd (omega arith)
 
-    go : (o : Option (List ℕ)) → says id ≡ o → saying o (among id (numbers (says 27))) ≡ sent zs → says id ≡ some zs
-    go (some ws) q d = let same : ws ≡ zs = cc in q ∙ ap some same
-    go none q d = absurd (unsent-not (among id (numbers (says 27))) d)
+    go : (o : Option (List ℕ)) → says id ≡ o → saying o (among id (numbers (says 27))) ≡ sent zs → says id ≡ Some zs
+    go (Some ws) q d = let same : ws ≡ zs = cc in q ∙ ap Some same
+    go None q d = absurd (unsent-not (among id (numbers (says 27))) d)
 
 module _ (t : Track) (delta : Bool) (r : List ℕ) (words : length r ≡ set_len) (good : delta ≡ true → lawful t r ≡ true) (i : ℕ) (h : i < line_count) where
   -- what the reference has is within its bound
@@ -447,8 +445,8 @@ module _ (t : Track) (delta : Bool) (r : List ℕ) (words : length r ≡ set_len
       rw (e, u) (stood-region t delta r words good i h e).values
 
   -- the values of a field that stands are as many as are wanted, and within its bound
-  pub came-fits : (says : Says) → ((zs : List ℕ) → says 9 ≡ some zs → all_le 255 zs ≡ true) → (m : Measure) (vs : List ℕ)
-      → (came_of t delta r says m (get_or lines i spare)).field ≡ some vs
+  pub came-fits : (says : Says) → ((zs : List ℕ) → says 9 ≡ Some zs → all_le 255 zs ≡ true) → (m : Measure) (vs : List ℕ)
+      → (came_of t delta r says m (get_or lines i spare)).field ≡ Some vs
       → (length vs ≡ wanted (get_or lines i spare).want m) × (all_le (get_or lines i spare).bound vs ≡ true)
   unfolding came_of
   came-fits says bytes m vs e = (

@@ -5,7 +5,7 @@ use native.Mathlib.Omega.{arith}
 use mathlib.Core.Path.{◌≡◌, refl, sym, ◌∙◌, ap}
 use mathlib.Core.Bool.{Bool, true}
 use mathlib.Core.List.{List}
-use mathlib.Core.Option.{none, some}
+use Rattle.std.specs.Prelude.{Some, None}
 use borrow.Author.Tests.{leb-true}
 use lib.Dec.{leb}
 use lib.ListN.{length, get_or, set, take, replicate, get_or-replicate}
@@ -29,9 +29,9 @@ use Rattle.locmaf_read_set.proofs.CameLaws.{came-length, raw_at}
 
 -- ---- a field that has room
 
-pub fits-of : (l : Line) (h : Held) → ((vs : List ℕ) → h ≡ some vs → length vs ≤ l.room) → Fits l h
-fits-of l none k = tt
-fits-of l (some vs) k = k vs refl
+pub fits-of : (l : Line) (h : Held) → ((vs : List ℕ) → h ≡ Some vs → length vs ≤ l.room) → Fits l h
+fits-of l None k = tt
+fits-of l (Some vs) k = k vs refl
 
 -- what comes of a line has, by lengths that keep the maxima
 pub all-fit : (t : Track) (delta : Bool) (r : List ℕ) → length r ≡ set_len → (delta ≡ true → lawful t r ≡ true) → (says : Says) (m : Measure) → Measured m

@@ -11,8 +11,7 @@ use Rattle.constants.specs.Maxima.{samples_most}
 use Rattle.constants.specs.Ids.{id_count}
 use Rattle.locmaf_read_index.specs.Places.{stands_at, number_at, many_at}
 use Rattle.wire.specs.declared.zigzag.Coding.{Coding}
-use Rattle.wire.specs.declared.zigzag.Reached.{Reached}
-use Rattle.wire.specs.declared.zigzag.Reached.TheVariants.{To}
+use Rattle.std.specs.Prelude.{Option, Some}
 use Rattle.wire.specs.Zigzag.{reached}
 use Rattle.field_table.specs.Lines.{lines, spare, set_len, place_of, line_count}
 use Rattle.field_table.proofs.LineLaws.{place-of, shaped}
@@ -24,12 +23,12 @@ use Rattle.locmaf_read_field.proofs.MarkedLaws.{kinded}
 use Rattle.locmaf_read_set.specs.Read.{count_from, word_stands, stays_in}
 
 -- the count stays where id 14 is absent
-pub count_kept : (coding : Coding) (index : List ℕ) (old : ℕ) → get_or index (stands_at 14) 0 ≡ 0 → To old ≡ count_from coding (scalar_in index 14) old
+pub count_kept : (coding : Coding) (index : List ℕ) (old : ℕ) → get_or index (stands_at 14) 0 ≡ 0 → Some old ≡ count_from coding (scalar_in index 14) old
 unfolding count_from scalar_in
 count_kept coding index old e = rw (eq-eqb (get_or index (stands_at 14) 0) 0 e)
 
 -- and goes by its number where it stands
-pub count-sent : (coding : Coding) (index : List ℕ) (old : ℕ) (g : Reached) → (get_or index (stands_at 14) 0 ≡ 0 → ⊥) → g ≡ reached coding old samples_most (get_or index (number_at 14) 0)
+pub count-sent : (coding : Coding) (index : List ℕ) (old : ℕ) (g : Option ℕ) → (get_or index (stands_at 14) 0 ≡ 0 → ⊥) → g ≡ reached coding old samples_most (get_or index (number_at 14) 0)
     → g ≡ count_from coding (scalar_in index 14) old
 unfolding count_from scalar_in
 count-sent coding index old g n e = rw (ne_eqb (get_or index (stands_at 14) 0) 0 n) e

@@ -4,7 +4,6 @@ use native.Mathlib.Omega.{arith}
 use mathlib.Core.Path.{◌≡◌, refl, sym, ◌∙◌, ap}
 use mathlib.Core.Bool.{Bool, true, false, cond}
 use mathlib.Core.List.{List, [], ◌∷◌}
-use mathlib.Core.Option.{Option, none, some}
 use borrow.Author.Tests.{leb-true}
 use lib.ListN.{length, get_or}
 use Rattle.constants.specs.Maxima.{samples_most, subsamples_most, number_most}
@@ -12,11 +11,10 @@ use Rattle.laws.specs.Tests.{all_le, sum}
 use Rattle.laws.proofs.TestLaws.{left, right}
 use Rattle.laws.specs.Ladder.{Hold}
 use Rattle.wire.specs.declared.zigzag.Coding.{Coding}
-use Rattle.wire.specs.declared.zigzag.Reached.{Reached}
-use Rattle.wire.specs.declared.zigzag.Reached.TheVariants.{To, Outside}
-use Rattle.wire.specs.Zigzag.{reached, on_reached}
+use Rattle.std.specs.Prelude.{Option, Some, None}
+use Rattle.wire.specs.Zigzag.{reached}
 use Rattle.wire.proofs.ZigzagLaws.{reached-most}
-use Rattle.laws.specs.Options.{is_some}
+use Rattle.laws.specs.Options.{is_some, on_option}
 use Rattle.track.specs.declared.Track.{Track}
 use Rattle.field_table.specs.declared.lines.Want.TheVariants.{Sum}
 use Rattle.field_table.specs.declared.lines.Line.{Line}
@@ -35,15 +33,15 @@ use Rattle.locmaf_read_set.proofs.CameLaws.{came-early, came-length, came-fits, 
 use Rattle.locmaf_read_set.proofs.ClearLaws.{fits-of}
 
 -- a count that was reached is at most 64 where the old one is
-count-within : (coding : Coding) (o : Option (List ℕ)) (old : ℕ) → old ≤ samples_most → on_reached (count_from coding o old) (λ n. n) 0 ≤ samples_most
+count-within : (coding : Coding) (o : Option (List ℕ)) (old : ℕ) → old ≤ samples_most → on_option (count_from coding o old) (λ n. n) 0 ≤ samples_most
 unfolding count_from
-count-within coding none old h = h
-count-within coding (some []) old h = h
-count-within coding (some (z ∷ zs)) old h = go (reached coding old samples_most z) refl
+count-within coding None old h = h
+count-within coding (Some []) old h = h
+count-within coding (Some (z ∷ zs)) old h = go (reached coding old samples_most z) refl
   where
-    go : (x : Reached) → reached coding old samples_most z ≡ x → on_reached x (λ n. n) 0 ≤ samples_most
-    go (To v) e = reached-most coding old samples_most z v e
-    go Outside e = omega arith
+    go : (x : Option ℕ) → reached coding old samples_most z ≡ x → on_option x (λ n. n) 0 ≤ samples_most
+    go (Some v) e = reached-most coding old samples_most z v e
+    go None e = omega arith
 
 -- which it is, since the reference is lawful
 was-within : (t : Track) (delta : Bool) (r : List ℕ) → (delta ≡ true → lawful t r ≡ true) → (was_of t delta r).count ≤ samples_most
@@ -51,9 +49,9 @@ was-within t true r h = (lawful-facts t r (h refl)).count
 was-within t false r h = omega arith
 
 -- a field is what is known of it where it stands
-keeps-of : (m : Measure) (l : Line) (h : Held) → ((vs : List ℕ) → h ≡ some vs → Within m l vs) → Keeps m l h
-keeps-of m l none k = tt
-keeps-of m l (some vs) k = k vs refl
+keeps-of : (m : Measure) (l : Line) (h : Held) → ((vs : List ℕ) → h ≡ Some vs → Within m l vs) → Keeps m l h
+keeps-of m l None k = tt
+keeps-of m l (Some vs) k = k vs refl
 
 -- the lengths of id 11 go by the count
 eleven-early : (get_or lines subsamples_line spare).want ≡ Sum → ⊥
@@ -123,7 +121,7 @@ module _ (t : Track) (delta : Bool) (r : List ℕ) (says : Says) where
 
   module _ (words : length r ≡ set_len) (good : delta ≡ true → lawful t r ≡ true) where
     -- there are as many of them as samples
-    eleven-long : (vs : List ℕ) → field_of t delta r says (get_or lines subsamples_line spare) ≡ some vs → length vs ≡ count_of t delta r says
+    eleven-long : (vs : List ℕ) → field_of t delta r says (get_or lines subsamples_line spare) ≡ Some vs → length vs ≡ count_of t delta r says
     unfolding came
     eleven-long vs e = came-length t delta r words good subsamples_line (omega arith) says lengths vs e ∙ eleven-wanted lengths
 
@@ -145,7 +143,7 @@ module _ (t : Track) (delta : Bool) (r : List ℕ) (says : Says) where
       pub new-long : (start : ℕ) → length (new_words t delta r says start) ≡ set_len
       new-long start = words-length start (count_of t delta r says) (field_of t delta r says) new-fits
 
-    module _ (k : Taken) (iv : t.iv_size ≤ 16) (bytes : (zs : List ℕ) → says 9 ≡ some zs → all_le 255 zs ≡ true) where
+    module _ (k : Taken) (iv : t.iv_size ≤ 16) (bytes : (zs : List ℕ) → says 9 ≡ Some zs → all_le 255 zs ≡ true) where
       -- each field keeps its line
       pub new-keeps : (i : ℕ) → i < line_count → Keeps lengths (get_or lines i spare) (field_of t delta r says (get_or lines i spare))
       unfolding came
@@ -190,6 +188,6 @@ module _ (t : Track) (delta : Bool) (r : List ℕ) (says : Says) where
 
   -- a new set that broke no rule is lawful, whatever BMDT in its range it gets
   pub new-lawful : Hold (set_rungs t delta r says) → (bmdt : ℕ) → bmdt ≤ number_most → t.iv_size ≤ 16 → length r ≡ set_len
-      → (delta ≡ true → lawful t r ≡ true) → ((zs : List ℕ) → says 9 ≡ some zs → all_le 255 zs ≡ true)
+      → (delta ≡ true → lawful t r ≡ true) → ((zs : List ℕ) → says 9 ≡ Some zs → all_le 255 zs ≡ true)
       → lawful t (new_words t delta r says bmdt) ≡ true
   new-lawful h bmdt b iv words good bytes = lawful-all t _ (new-facts words good (taken-facts h) iv bytes bmdt b)

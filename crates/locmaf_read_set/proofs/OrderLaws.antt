@@ -4,15 +4,13 @@ use native.Mathlib.Omega.{arith}
 use mathlib.Core.Path.{◌≡◌, refl, sym, ◌∙◌, ap}
 use mathlib.Core.Bool.{Bool, true, false, not}
 use mathlib.Core.List.{List, [], ◌∷◌}
-use mathlib.Core.Option.{Option, none, some}
 use lib.ListN.{length, set, replicate}
 use Rattle.constants.specs.Maxima.{samples_most}
 use Rattle.laws.proofs.GateLaws.{failed, held}
 use Rattle.laws.proofs.LadderLaws.{broken, passed}
 use Rattle.wire.specs.declared.form.Row.{Row}
 use Rattle.wire.specs.declared.zigzag.Coding.{Coding}
-use Rattle.wire.specs.declared.zigzag.Reached.{Reached}
-use Rattle.wire.specs.declared.zigzag.Reached.TheVariants.{To, Outside}
+use Rattle.std.specs.Prelude.{Option, Some, None}
 use Rattle.track.specs.declared.Track.{Track}
 use Rattle.field_table.specs.Lines.{set_len}
 use Rattle.field_set.specs.Lawful.{lawful}
@@ -29,21 +27,21 @@ use Rattle.field_table.proofs.LineLaws.{zeros-long}
 use Rattle.locmaf_read_set.proofs.ReadableLaws.{was-small}
 use Rattle.locmaf_read_set.proofs.LastLaws.{refused}
 
-same_count : (m n : ℕ) → To m ≡ To n → m ≡ n
+same_count : (m n : ℕ) → Some m ≡ Some n → m ≡ n
 same_count m n e = cc
 
 -- a count that was reached keeps the maximum
-count_most : (coding : Coding) (m : Option (List ℕ)) (old n : ℕ) → old ≤ samples_most → count_from coding m old ≡ To n → n ≤ samples_most
+count_most : (coding : Coding) (m : Option (List ℕ)) (old n : ℕ) → old ≤ samples_most → count_from coding m old ≡ Some n → n ≤ samples_most
 unfolding count_from
-count_most coding none old n h e = let z : old ≡ n = same_count old n e in omega arith
-count_most coding (some []) old n h e = let z : old ≡ n = same_count old n e in omega arith
-count_most coding (some (z ∷ zs)) old n h e = reached-most coding old samples_most z n e
+count_most coding None old n h e = let z : old ≡ n = same_count old n e in omega arith
+count_most coding (Some []) old n h e = let z : old ≡ n = same_count old n e in omega arith
+count_most coding (Some (z ∷ zs)) old n h e = reached-most coding old samples_most z n e
 
 pub found-few : (t : Track) (delta : Bool) (r : List ℕ) (a : Against) → a ≡ against_of t delta r → t.iv_size ≤ 16 → (delta ≡ true → lawful t r ≡ true)
-    → (m : Option (List ℕ)) (g : Reached) → g ≡ count_from a.coding m a.was.count → (n : ℕ) → g ≡ To n → n ≤ samples_most
+    → (m : Option (List ℕ)) (g : Option ℕ) → g ≡ count_from a.coding m a.was.count → (n : ℕ) → g ≡ Some n → n ≤ samples_most
 found-few t delta r a ea iv law m g eg n en = count_most a.coding m a.was.count n (rw ea (was-small t delta r iv law).count) (sym eg ∙ en)
 
-module _ (F : List Row) (o index : List ℕ) (t : Track) (delta : Bool) (r : List ℕ) (a : Against) (ea : a ≡ against_of t delta r) (g : Reached)
+module _ (F : List Row) (o index : List ℕ) (t : Track) (delta : Bool) (r : List ℕ) (a : Against) (ea : a ≡ against_of t delta r) (g : Option ℕ)
     (eg : g ≡ count_from a.coding (scalar_in index 14) a.was.count) where
   -- the count that code finds
   count-found : count_reached t delta r (says_in F o index) ≡ g
@@ -55,7 +53,7 @@ module _ (F : List Row) (o index : List ℕ) (t : Track) (delta : Bool) (r : Lis
 
   module _ (words : length r ≡ set_len) (iv : t.iv_size ≤ 16) (law : delta ≡ true → lawful t r ≡ true) where
     -- no count is reached
-    pub refuse-count : g ≡ Outside → (b : Bool) (gone : List ℕ) → MarkedAs r (says_in F o index) b gone → not b ≡ false → (x : List ℕ) → x ≡ replicate set_len 0
+    pub refuse-count : g ≡ None → (b : Bool) (gone : List ℕ) → MarkedAs r (says_in F o index) b gone → not b ≡ false → (x : List ℕ) → x ≡ replicate set_len 0
         → ReadAs (set_rungs t delta r (says_in F o index)) (new_words t delta r (says_in F o index) 0) 15 x
     unfolding set_rungs
     refuse-count e b gone m q x ex =
@@ -63,8 +61,8 @@ module _ (F : List Row) (o index : List ℕ) (t : Track) (delta : Bool) (r : Lis
         (passed _ 14 _ (λ k. k) 0 (held m.answered q) (broken _ 15 _ (λ k. k) 0 (rw (count-found ∙ e))))
         (zeros-long ex)
 
-    module _ (n : ℕ) (en : g ≡ To n) where
-      pub found-count : count_reached t a.held r (says_in F o index) ≡ To n
+    module _ (n : ℕ) (en : g ≡ Some n) where
+      pub found-count : count_reached t a.held r (says_in F o index) ≡ Some n
       found-count = rw held-is (count-found ∙ en)
 
       -- what the fields are read from

@@ -5,7 +5,7 @@ use native.Mathlib.Omega.{arith}
 use mathlib.Core.Path.{◌≡◌, refl, sym, ◌∙◌, ap}
 use mathlib.Core.Bool.{Bool, true, false, false≢true}
 use mathlib.Core.List.{List, []}
-use mathlib.Core.Option.{Option, none, some}
+use Rattle.std.specs.Prelude.{Option, Some, None}
 use borrow.Author.Tests.{eqb-false, eq-eqb, ne_eqb}
 use lib.ListN.{length, get_or}
 use Rattle.wire.specs.declared.form.Row.{Row}
@@ -70,9 +70,9 @@ brands-marked F o index gone h = go (says_in F o index 23) (among 23 (numbers (s
     unmarked z = rw (eq-eqb (get_or index (stands_at 23) 0) 0 z)
 
     go : (m : Option (List ℕ)) (b : Bool) → Marked F o (length o) index gone [] [] 23 (saying m b) → brands_in index ≡ brands_fit m
-    go none true t = unmarked t.0
-    go none false t = unmarked t.0
-    go (some bs) b t = rw (ne_eqb (get_or index (stands_at 23) 0) 0 (λ z. omega (arith, t.first)), (brand-bytes F o index bs t).2)
+    go None true t = unmarked t.0
+    go None false t = unmarked t.0
+    go (Some bs) b t = rw (ne_eqb (get_or index (stands_at 23) 0) 0 (λ z. omega (arith, t.first)), (brand-bytes F o index bs t).2)
 
 module _ (F : List Row) (o index gone : List ℕ) (t : Track) (a : Against) (r : List ℕ) (h : Readable F o index gone t a r) where
   was-is : a.was ≡ was_of t a.held r

@@ -14,7 +14,7 @@ use Rattle.laws.specs.Tests.{◌and◌, sum}
 use Rattle.laws.specs.Ladder.{Rung, ◌else◌, Hold}
 use Rattle.laws.proofs.LadderLaws.{number_of, agree, all_hold, stopped-on, climbed-on}
 use Rattle.laws.proofs.TestLaws.{left, right, and_left, and_right, and-end, and_assoc}
-use Rattle.wire.specs.declared.zigzag.Reached.TheVariants.{To}
+use Rattle.std.specs.Prelude.{Some}
 use Rattle.track.specs.declared.Track.{Track}
 use Rattle.field_set.specs.declared.lawful.Tally.{Tally}
 use Rattle.field_table.specs.declared.lines.Want.{Want}
@@ -122,7 +122,7 @@ pub start-long : (n : ℕ) (x : List ℕ) → x ≡ set_words 0 n no_fields → 
 start-long n x e = ap length e ∙ words-length 0 n no_fields (λ i lt. tt)
 
 -- ---- what the fields are by the count
-module _ (t : Track) (delta : Bool) (r : List ℕ) (says : Says) (n : ℕ) (en : count_reached t delta r says ≡ To n) where
+module _ (t : Track) (delta : Bool) (r : List ℕ) (says : Says) (n : ℕ) (en : count_reached t delta r says ≡ Some n) where
   count-is : count_of t delta r says ≡ n
   unfolding count_of
   count-is = rw en

@@ -131,13 +131,3 @@ module _ (f : Line → Came) (from to : ℕ) (x₀ : List ℕ) where
       -- one that has nothing to take
       pub taking-skip : TakenAs (f (get_or lines i spare)) (get_or lines i spare).place x right x → Taking f from to x₀ x first second within (i + 1)
       taking-skip k = rw (← and_is first true, ← and_is second true, ← and_is within true, and-end first, and-end second, and-end within) at (taking-next right x (taken-always k))
-
--- a run of one line, under other names
-pub taken-one : (f : Line → Came) (i : ℕ) → i < line_count → (x : List ℕ) → length x ≡ set_len → AllFit (λ l. (f l).field) → {c d : Cell} {y z : List ℕ}
-    → TakenIf (ClearFrom i x) (f (get_or lines i spare)) (get_or lines i spare).place x d z → y ≡ z → c ≡ d
-    → TakenAll (ClearFrom i x) f (slice i (i + 1) lines) x c y
-taken-one f i lt x e fit {d = d} {z = z} k ey ec =
-    rw (ey, ec)
-    (taking-end f i (i + 1) x z d.first d.second d.within (i + 1)
-    (taking-next f i (i + 1) x x true true true i (taking-start f i (i + 1) x (omega arith) (omega arith) e fit) (omega arith) d z k)
-    (omega arith))

@@ -1,6 +1,5 @@
 -- The set of moof fields that an object gives, and what is asked of it, step by step in the order of 01.
-use Rattle.std.specs.Prelude.{ℕ, ◌+◌, ◌-◌, ◌/◌, ◌%◌, ◌≤◌, ◌<◌, ◌≡◌, Bool, true, false, cond, not, ◌&&◌, ◌||◌, List, [], ◌∷◌, map, eqb, leb, length, get_or, replicate}
-use Rattle.std.proofs.Math.Option.{Option, none, some}
+use Rattle.std.specs.Prelude.{ℕ, ◌+◌, ◌-◌, ◌/◌, ◌%◌, ◌≤◌, ◌<◌, ◌≡◌, Bool, true, false, cond, not, ◌&&◌, ◌||◌, List, [], ◌∷◌, map, eqb, leb, length, get_or, replicate, Option, Some, None}
 use Rattle.std.proofs.Math.Seq.{slice}
 use Rattle.laws.specs.Tests.{◌and◌, sum}
 use Rattle.laws.specs.Ladder.{Rung, ◌else◌, ladder}
@@ -9,9 +8,8 @@ use Rattle.constants.specs.Maxima.{samples_most, subsamples_most, entry_most}
 use Rattle.wire.specs.declared.form.Row.{Row}
 use Rattle.locmaf_read_index.specs.Places.{index_len, stands_at, number_at}
 use Rattle.wire.specs.declared.zigzag.Coding.{Coding}
-use Rattle.wire.specs.declared.zigzag.Reached.{Reached}
-use Rattle.wire.specs.declared.zigzag.Reached.TheVariants.{To}
-use Rattle.wire.specs.Zigzag.{reached, on_reached}
+use Rattle.std.specs.Prelude.{Option, Some}
+use Rattle.wire.specs.Zigzag.{reached}
 use Rattle.track.specs.declared.Track.{Track}
 use Rattle.field_table.specs.declared.lines.Line.{Line}
 use Rattle.field_table.specs.declared.lines.Measure.{Measure}
@@ -28,19 +26,20 @@ use Rattle.locmaf_read_said.specs.Deletions.{deletions_ok}
 use Rattle.locmaf_read_said.specs.Against.{against_of}
 use Rattle.locmaf_read_field.specs.Cells.{Came, cell_of}
 use Rattle.field_rules.specs.Words.{no_fields, set_words, measure, was_of, store_all}
+use Rattle.laws.specs.Options.{on_option}
 
 -- ==== The rules
 
 -- 01: "Id 14 absent means same count." (D104)
-unfoldable pub count_from : Coding → Option (List ℕ) → ℕ → Reached
-count_from coding none old = To old
-count_from coding (some []) old = To old
-count_from coding (some (z ∷ zs)) old = reached coding old samples_most z
+unfoldable pub count_from : Coding → Option (List ℕ) → ℕ → Option ℕ
+count_from coding None old = Some old
+count_from coding (Some []) old = Some old
+count_from coding (Some (z ∷ zs)) old = reached coding old samples_most z
 
 -- 01: "list length (ids 9 and 23 too)": brands have four bytes each, and there is one at least (D98)
 unfoldable pub brands_fit : Option (List ℕ) → Bool
-brands_fit none = true
-brands_fit (some bs) = not (eqb (length bs) 0) && eqb (length bs % 4) 0
+brands_fit None = true
+brands_fit (Some bs) = not (eqb (length bs) 0) && eqb (length bs % 4) 0
 
 abbrev pub stands_by : Saying → Bool → Bool
 stands_by omitted b = b
@@ -49,12 +48,12 @@ stands_by (sent zs) b = true
 
 -- r is the reference's set, which a full object has no use for
 module _ (t : Track) (delta : Bool) (r : List ℕ) (says : Says) where
-  unfoldable pub count_reached : Reached
+  unfoldable pub count_reached : Option ℕ
   count_reached = count_from (coding_for delta) (says 14) (was_of t delta r).count
 
   -- the sample count of the new set; 0 where it is outside its range
   unfoldable pub count_of : ℕ
-  count_of = on_reached count_reached (λ n. n) 0
+  count_of = on_option count_reached (λ n. n) 0
 
   -- the field of a line, by lengths that go by m
   unfoldable pub came_of : Measure → Line → Came
@@ -93,7 +92,7 @@ module _ (t : Track) (delta : Bool) (r : List ℕ) (says : Says) where
 
   -- 01: "14 (deletions), 15 (sample count)", then the fields
   unfoldable pub set_rungs : List Rung
-  set_rungs = (deletions_ok r says [] (numbers (says 27)) else 14) ∷ (on_reached count_reached (λ _. true) false else 15) ∷ field_rungs
+  set_rungs = (deletions_ok r says [] (numbers (says 27)) else 14) ∷ (on_option count_reached (λ _. true) false else 15) ∷ field_rungs
 
 -- ==== What only mirrors the code
 
@@ -155,7 +154,7 @@ pub record FrontTaken (t : Track) (delta : Bool) (r : List ℕ) (says : Says) (m
   pub eleven : List ℕ
   pub few : m.count ≤ samples_most
   pub lengths : m ≡ measure t m.count 0
-  pub reached : count_reached t delta r says ≡ To m.count
+  pub reached : count_reached t delta r says ≡ Some m.count
   pub empty : start ≡ set_words 0 m.count no_fields
   pub pairs : TakenAll (ClearFrom subsamples_line start) (came_of t delta r says (measure t m.count 0)) (slice subsamples_line (subsamples_line + 1) lines) start b eleven
   pub tally : TallyOf c ((entry_most - 2 - t.iv_size) / 6) (values_of 11 m.count eleven)

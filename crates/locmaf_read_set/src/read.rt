@@ -8,7 +8,7 @@ ghost use Rattle.wire.specs.Form.{rows};
 ghost use Rattle.locmaf_read_index.specs.Places.{index_len};
 ghost use Rattle.field_table.specs.Lines.{lines, spare, line_count, set_len};
 ghost use Rattle.field_set.specs.Lawful.{lawful};
-ghost use Rattle.wire.specs.declared.zigzag.Reached.TheVariants.{To};
+ghost use Rattle.std.specs.Prelude.{Some};
 ghost use Rattle.locmaf_read_said.specs.Said.{says_in, scalar_in, Telling};
 ghost use Rattle.field_rules.specs.Words.{no_fields, set_words};
 ghost use Rattle.locmaf_read_field.specs.Cells.{TakenIf};
@@ -27,7 +27,7 @@ use locmaf_read_said::against::Against;
 use locmaf_read_said::{against, deletions, said};
 use track::Track;
 use wire::form::Form;
-use wire::zigzag::{Coding, Reached};
+use wire::zigzag::Coding;
 
 // The line of id 11, whose sum the lengths of ids 13 and 15 go by, and the one behind it.
 const PAIRS: usize = order::SUBSAMPLES;
@@ -35,12 +35,12 @@ const PAIRS: usize = order::SUBSAMPLES;
 const PAST_PAIRS: usize = order::SUBSAMPLES + 1;
 
 // The sample count that the object gives.
-fn count_of(coding: Coding, index: &[u64], old: u64) -> Reached
+fn count_of(coding: Coding, index: &[u64], old: u64) -> Option<u64>
     requires { length index.now ≡ index_len }
     ensures { result ≡ count_from coding (scalar_in index.now 14) old }
 {
     if index[places::SAMPLES] == 0 {
-        return Reached::To(old);
+        return Some(old);
     }
     wire::zigzag::reach(
         coding,
@@ -75,12 +75,10 @@ fn standing(index: &[u64], gone: &[u64], held: bool, r: &[u64]) -> [u64; lines::
     ensures { result ≡ marks_in index.now gone.now held r.now }
 {
     let mut m = [0u64; lines::LINES];
-    let mut i = 0;
-    while i < lines::LINES {
+    for i in 0..lines::LINES {
         if stays(index, gone, held, r, i) {
             m[i] = 1;
         }
-        i += 1;
     }
     m
 }
@@ -91,10 +89,8 @@ fn none_sent(index: &[u64]) -> bool
     ensures { result ≡ none_sent index.now }
 {
     let mut all = 0;
-    let mut i = 0;
-    while i < lines::LINES {
+    for i in 0..lines::LINES {
         all = all | index[lines::id_at(i) as usize * places::EACH];
-        i += 1;
     }
     all == 0
 }
@@ -162,15 +158,13 @@ fn take_lines(
     let mut first = true;
     let mut second = true;
     let mut within = true;
-    let mut i = from;
-    while i < to {
+    for i in from..to {
         if marks[i] != 0 {
             let c = take_line(form, a, o, index, gone, t, r, m, i, &mut *x);
             first = first & c.first;
             second = second & c.second;
             within = within & c.within;
         }
-        i += 1;
     }
     Cell {
         first,
@@ -201,8 +195,7 @@ pub fn read_set(
     }
     let a = against::base_of(t, held, r);
     let coding = a.coding;
-    let g = count_of(coding, index, a.was.count as u64);
-    let Reached::To(n) = g else {
+    let Some(n) = count_of(coding, index, a.was.count as u64) else {
         return 15;
     };
     x[lines::COUNT] = n;
@@ -222,7 +215,7 @@ fn take_fields(
     x: &mut [u64],
 ) -> u64
     requires readable { Readable (rows form) o.now index.now gone.now t a r.now }
-    requires n_le_samples_most { (n ≤ samples_most) × (count_reached t a.held r.now (says_in (rows form) o.now index.now) ≡ To n)
+    requires n_le_samples_most { (n ≤ samples_most) × (count_reached t a.held r.now (says_in (rows form) o.now index.now) ≡ Some n)
         × (x.old ≡ set_words 0 n no_fields) }
     ensures { FieldsReadAs (rows form) t a.held r.now o.now index.now result
         x.new }
@@ -249,7 +242,7 @@ fn take_standing(
     x: &mut [u64],
 ) -> u64
     requires readable { Readable (rows form) o.now index.now gone.now t a r.now }
-    requires n_le_samples_most { (n ≤ samples_most) × (count_reached t a.held r.now (says_in (rows form) o.now index.now) ≡ To n)
+    requires n_le_samples_most { (n ≤ samples_most) × (count_reached t a.held r.now (says_in (rows form) o.now index.now) ≡ Some n)
         × (x.old ≡ set_words 0 n no_fields) }
     ensures { FieldsReadAs (rows form) t a.held r.now o.now index.now result
         x.new }
@@ -258,11 +251,9 @@ fn take_standing(
     let ivs = (t.iv_size / 8) as usize;
     let m = Measure { count, ivs, sum: 0 };
     let marks: &[u64] = &standing(index, gone, a.held, r);
-    let b = if marks[PAIRS] == 0 {
-        cells::well()
-    } else {
-        take_line(form, a, o, index, gone, t, r, m, PAIRS, &mut *x)
-    };
+    let b = take_lines(
+        form, a, o, index, gone, marks, t, r, m, PAIRS, PAST_PAIRS, &mut *x,
+    );
     let c = lawful::tally_of(t, x, x[lines::SUBSAMPLES], count);
     let e = take_lines(form, a, o, index, gone, marks, t, r, m, 0, PAIRS, &mut *x);
     finish_fields(form, a, o, index, gone, marks, t, r, m, e, b, c, x)

@@ -5,18 +5,15 @@ use mathlib.Core.Path.{◌≡◌, refl, sym, ◌∙◌}
 use mathlib.Core.Logic.{◌⊎◌, inl, inr, ⊎_elim}
 use mathlib.Core.Bool.{Bool, true, false, cond, false≢true}
 use mathlib.Core.List.{List, [], ◌∷◌}
-use mathlib.Core.Option.{Option, none, some}
 use borrow.Author.Tests.{eqb-false}
 use lib.Dec.{eqb}
 use lib.ListN.{get_or}
 use Rattle.constants.specs.Maxima.{number_most}
 use Rattle.wire.specs.declared.zigzag.Coding.{Coding}
 use Rattle.wire.specs.declared.zigzag.Coding.TheVariants.{Plain, Delta}
-use Rattle.wire.specs.declared.zigzag.Reached.{Reached}
-use Rattle.wire.specs.declared.zigzag.Reached.TheVariants.{To, Outside}
-use Rattle.wire.specs.Zigzag.{on_reached}
+use Rattle.std.specs.Prelude.{Option, Some, None}
 use Rattle.wire.proofs.ZigzagLaws.{reached-most, plain-inv}
-use Rattle.media.specs.Clocks.{as_track, on_track, as_ntp, on_ntp}
+use Rattle.media.specs.Clocks.{as_track, as_ntp}
 use Rattle.share_words.specs.Share.{ntp_at, media_time_at, version_at, prft_flags_at}
 use Rattle.prft_value.specs.declared.Prft.{Prft}
 use Rattle.prft_value.specs.Prft.{Headed, media_most, InRange}
@@ -24,6 +21,7 @@ use Rattle.locmaf_read_said.specs.Said.{Says}
 use Rattle.locmaf_read_times.specs.declared.prft.Told.{Told}
 use Rattle.locmaf_read_times.specs.Prft.{number_of, number_for, told, no_prft, times_of, prft_of}
 use Rattle.locmaf_read_times.proofs.PrftLaws.{prft-none, prft-some}
+use Rattle.laws.specs.Options.{on_option}
 
 -- ---- the base media decode time
 
@@ -32,12 +30,12 @@ use Rattle.locmaf_read_times.proofs.PrftLaws.{prft-none, prft-some}
 -- ---- the producer reference time
 
 -- what is said of equal answers, by equal continuations
-on_same : {A : Type 0} (r r' : Reached) (f g : ℕ → A) (z : A) → r ≡ r' → ((v : ℕ) → f v ≡ g v) → on_reached r f z ≡ on_reached r' g z
+on_same : {A : Type 0} (r r' : Option ℕ) (f g : ℕ → A) (z : A) → r ≡ r' → ((v : ℕ) → f v ≡ g v) → on_option r f z ≡ on_option r' g z
 on_same r r' f g z e h = rw e (go r')
   where
-    go : (x : Reached) → on_reached x f z ≡ on_reached x g z
-    go (To v) = h v
-    go Outside = refl
+    go : (x : Option ℕ) → on_option x f z ≡ on_option x g z
+    go (Some v) = h v
+    go None = refl
 
 number-says : (delta : Bool) (says says' : Says) (id share plain bound : ℕ) → says id ≡ says' id
     → number_for delta says id share plain bound ≡ number_for delta says' id share plain bound
@@ -58,8 +56,8 @@ module _ (delta : Bool) (s : List ℕ) (says says' : Says) (a : says 18 ≡ says
   prft-says c d = go (says' 18) refl
     where
       go : (o : Option (List ℕ)) → says' 18 ≡ o → prft_of delta says s ≡ prft_of delta says' s
-      go none e = sym (prft-none delta says s (a ∙ e)) ∙ prft-none delta says' s e
-      go (some zs) e =
+      go None e = sym (prft-none delta says s (a ∙ e)) ∙ prft-none delta says' s e
+      go (Some zs) e =
           prft-some delta says s zs (a ∙ e)
           ∙ on_same _ _ _ _ _ (number-says delta says says' 22 (get_or s version_at 0) 1 1 c)
           (λ version. on_same _ _ _ _ _ (number-says delta says says' 24 (get_or s prft_flags_at 0) 0 (2 ^ 24 - 1) d) (λ flags. times-says version flags))
@@ -71,72 +69,72 @@ unfolding times_of number_for
 full-alone says s s' = go (says 18) refl
   where
     go : (o : Option (List ℕ)) → says 18 ≡ o → prft_of false says s ≡ prft_of false says s'
-    go none e = sym (prft-none false says s e) ∙ prft-none false says s' e
-    go (some zs) e = prft-some false says s zs e ∙ sym (prft-some false says s' zs e)
+    go None e = sym (prft-none false says s e) ∙ prft-none false says s' e
+    go (Some zs) e = prft-some false says s zs e ∙ sym (prft-some false says s' zs e)
 
 -- what a `prft` that stands is made of
 pub record Made (delta : Bool) (says : Says) (s : List ℕ) (p : Prft) : Type 0 where
   pub stands : p.stands ≡ true
-  pub version : number_for delta says 22 (get_or s version_at 0) 1 1 ≡ To p.version
-  pub flags : number_for delta says 24 (get_or s prft_flags_at 0) 0 (2 ^ 24 - 1) ≡ To p.flags
-  pub ntp : number_for delta says 18 (get_or s ntp_at 0) 0 (2 ^ 64 - 1) ≡ To p.ntp.0
-  pub media : number_for delta says 20 (get_or s media_time_at 0) 0 (media_most p.version) ≡ To p.media.0
+  pub version : number_for delta says 22 (get_or s version_at 0) 1 1 ≡ Some p.version
+  pub flags : number_for delta says 24 (get_or s prft_flags_at 0) 0 (2 ^ 24 - 1) ≡ Some p.flags
+  pub ntp : number_for delta says 18 (get_or s ntp_at 0) 0 (2 ^ 64 - 1) ≡ Some p.ntp.0
+  pub media : number_for delta says 20 (get_or s media_time_at 0) 0 (media_most p.version) ≡ Some p.media.0
 
 module _ (delta : Bool) (says : Says) (s : List ℕ) where
   -- that there is none, or one that is made of its numbers, where it is no refusal
   abbrev pub Fine : Told → Type 0
   Fine r = r.ok ≡ true → (r.prft ≡ (no_prft true).prft) ⊎ Made delta says s r.prft
 
-  times-fine : (version flags : ℕ) → number_for delta says 22 (get_or s version_at 0) 1 1 ≡ To version
-      → number_for delta says 24 (get_or s prft_flags_at 0) 0 (2 ^ 24 - 1) ≡ To flags → Fine (times_of delta says s version flags)
+  times-fine : (version flags : ℕ) → number_for delta says 22 (get_or s version_at 0) 1 1 ≡ Some version
+      → number_for delta says 24 (get_or s prft_flags_at 0) 0 (2 ^ 24 - 1) ≡ Some flags → Fine (times_of delta says s version flags)
   unfolding times_of
   times-fine version flags v f = one (number_for delta says 18 (get_or s ntp_at 0) 0 (2 ^ 64 - 1)) refl
     where
-      two : (ntp : ℕ) → number_for delta says 18 (get_or s ntp_at 0) 0 (2 ^ 64 - 1) ≡ To ntp
-          → (m : Reached) → number_for delta says 20 (get_or s media_time_at 0) 0 (media_most version) ≡ m
-          → Fine (on_track (as_track m) (λ media. told (record { 0 = ntp }) media version flags) (no_prft false))
-      two ntp n (To media) m e = inr (record { stands = refl; version = v; flags = f; ntp = n; media = m })
-      two ntp n Outside m e = absurd (false≢true e)
+      two : (ntp : ℕ) → number_for delta says 18 (get_or s ntp_at 0) 0 (2 ^ 64 - 1) ≡ Some ntp
+          → (m : Option ℕ) → number_for delta says 20 (get_or s media_time_at 0) 0 (media_most version) ≡ m
+          → Fine (on_option (as_track m) (λ media. told (record { 0 = ntp }) media version flags) (no_prft false))
+      two ntp n (Some media) m e = inr (record { stands = refl; version = v; flags = f; ntp = n; media = m })
+      two ntp n None m e = absurd (false≢true e)
 
-      one : (n : Reached) → number_for delta says 18 (get_or s ntp_at 0) 0 (2 ^ 64 - 1) ≡ n
+      one : (n : Option ℕ) → number_for delta says 18 (get_or s ntp_at 0) 0 (2 ^ 64 - 1) ≡ n
           → Fine
-          (on_ntp (as_ntp n)
+          (on_option (as_ntp n)
           (λ ntp.
-          on_track (as_track (number_for delta says 20 (get_or s media_time_at 0) 0 (media_most version))) (λ media. told ntp media version flags) (no_prft false))
+          on_option (as_track (number_for delta says 20 (get_or s media_time_at 0) 0 (media_most version))) (λ media. told ntp media version flags) (no_prft false))
           (no_prft false))
-      one (To ntp) n e = two ntp n (number_for delta says 20 (get_or s media_time_at 0) 0 (media_most version)) refl e
-      one Outside n e = absurd (false≢true e)
+      one (Some ntp) n e = two ntp n (number_for delta says 20 (get_or s media_time_at 0) 0 (media_most version)) refl e
+      one None n e = absurd (false≢true e)
 
   pub prft-made : Fine (prft_of delta says s)
   prft-made = go (says 18) refl
     where
-      two : (version : ℕ) → number_for delta says 22 (get_or s version_at 0) 1 1 ≡ To version
-          → (f : Reached) → number_for delta says 24 (get_or s prft_flags_at 0) 0 (2 ^ 24 - 1) ≡ f
-          → Fine (on_reached f (times_of delta says s version) (no_prft false))
-      two version v (To flags) f e = times-fine version flags v f e
-      two version v Outside f e = absurd (false≢true e)
+      two : (version : ℕ) → number_for delta says 22 (get_or s version_at 0) 1 1 ≡ Some version
+          → (f : Option ℕ) → number_for delta says 24 (get_or s prft_flags_at 0) 0 (2 ^ 24 - 1) ≡ f
+          → Fine (on_option f (times_of delta says s version) (no_prft false))
+      two version v (Some flags) f e = times-fine version flags v f e
+      two version v None f e = absurd (false≢true e)
 
-      one : (v : Reached) → number_for delta says 22 (get_or s version_at 0) 1 1 ≡ v
+      one : (v : Option ℕ) → number_for delta says 22 (get_or s version_at 0) 1 1 ≡ v
           → Fine
-          (on_reached v
-          (λ version. on_reached (number_for delta says 24 (get_or s prft_flags_at 0) 0 (2 ^ 24 - 1)) (times_of delta says s version) (no_prft false))
+          (on_option v
+          (λ version. on_option (number_for delta says 24 (get_or s prft_flags_at 0) 0 (2 ^ 24 - 1)) (times_of delta says s version) (no_prft false))
           (no_prft false))
-      one (To version) v e = two version v (number_for delta says 24 (get_or s prft_flags_at 0) 0 (2 ^ 24 - 1)) refl e
-      one Outside v e = absurd (false≢true e)
+      one (Some version) v e = two version v (number_for delta says 24 (get_or s prft_flags_at 0) 0 (2 ^ 24 - 1)) refl e
+      one None v e = absurd (false≢true e)
 
       go : (o : Option (List ℕ)) → says 18 ≡ o → Fine (prft_of delta says s)
-      go none q = rw (← prft-none delta says s q) (λ e. inl refl)
-      go (some zs) q = rw (prft-some delta says s zs q) (one (number_for delta says 22 (get_or s version_at 0) 1 1) refl)
+      go None q = rw (← prft-none delta says s q) (λ e. inl refl)
+      go (Some zs) q = rw (prft-some delta says s zs q) (one (number_for delta says 22 (get_or s version_at 0) 1 1) refl)
 
 -- a number doesn't pass its bound, where the kept one doesn't
-number-most : (coding : Coding) (o : Option (List ℕ)) (kept bound v : ℕ) → kept ≤ bound → number_of coding o kept bound ≡ To v → v ≤ bound
+number-most : (coding : Coding) (o : Option (List ℕ)) (kept bound v : ℕ) → kept ≤ bound → number_of coding o kept bound ≡ Some v → v ≤ bound
 unfolding number_of
-number-most coding none kept bound v h e = let same : kept ≡ v = cc in omega arith
-number-most coding (some []) kept bound v h e = let same : kept ≡ v = cc in omega arith
-number-most coding (some (z ∷ zs)) kept bound v h e = reached-most coding kept bound z v e
+number-most coding None kept bound v h e = let same : kept ≡ v = cc in omega arith
+number-most coding (Some []) kept bound v h e = let same : kept ≡ v = cc in omega arith
+number-most coding (Some (z ∷ zs)) kept bound v h e = reached-most coding kept bound z v e
 
 pub number-for-most : (delta : Bool) (says : Says) (id share plain bound v : ℕ) → (delta ≡ true → share ≤ bound) → plain ≤ bound
-    → number_for delta says id share plain bound ≡ To v → v ≤ bound
+    → number_for delta says id share plain bound ≡ Some v → v ≤ bound
 unfolding number_for
 number-for-most true says id share plain bound v h k e = number-most Delta (says id) share bound v (h refl) e
 number-for-most false says id share plain bound v h k e = number-most Plain (says id) plain bound v k e
@@ -153,18 +151,18 @@ prft-headed delta says s a b e =
     (prft-made delta says s e)
 
 -- a number of a full object is the one that is sent, or 0
-number-sent : (says : Says) (id share bound most v : ℕ) → ((z : ℕ) (zs : List ℕ) → says id ≡ some (z ∷ zs) → z ≤ most)
-    → number_for false says id share 0 bound ≡ To v → v ≤ most
+number-sent : (says : Says) (id share bound most v : ℕ) → ((z : ℕ) (zs : List ℕ) → says id ≡ Some (z ∷ zs) → z ≤ most)
+    → number_for false says id share 0 bound ≡ Some v → v ≤ most
 unfolding number_for number_of
 number-sent says id share bound most v h e = go (says id) refl e
   where
-    go : (o : Option (List ℕ)) → says id ≡ o → number_of Plain o 0 bound ≡ To v → v ≤ most
-    go none q d = let same : 0 ≡ v = cc in omega arith
-    go (some []) q d = let same : 0 ≡ v = cc in omega arith
-    go (some (z ∷ zs)) q d = omega (arith, h z zs q, plain-inv 0 bound z v d)
+    go : (o : Option (List ℕ)) → says id ≡ o → number_of Plain o 0 bound ≡ Some v → v ≤ most
+    go None q d = let same : 0 ≡ v = cc in omega arith
+    go (Some []) q d = let same : 0 ≡ v = cc in omega arith
+    go (Some (z ∷ zs)) q d = omega (arith, h z zs q, plain-inv 0 bound z v d)
 
 -- the share that keeps a full object's `prft` stays lawful, if no number in it passes 62 bits
-pub prft-lawful : (says : Says) (s : List ℕ) → ((id z : ℕ) (zs : List ℕ) → id % 2 ≡ 0 → says id ≡ some (z ∷ zs) → z ≤ number_most)
+pub prft-lawful : (says : Says) (s : List ℕ) → ((id z : ℕ) (zs : List ℕ) → id % 2 ≡ 0 → says id ≡ Some (z ∷ zs) → z ≤ number_most)
     → (prft_of false says s).ok ≡ true
     → InRange (prft_of false says s).prft
 prft-lawful says s small e = go (prft_of false says s).prft (prft-made false says s e)

@@ -11,27 +11,17 @@ use effective::expected::Expected;
 use locmaf_read_index::places;
 use media::clocks::TrackTicks;
 
-// The time, if there is one: from a sum past 64 bits none is derived.
-#[derive(Clone, Copy)]
-pub struct Bmdt {
-    pub told: bool,
-    pub ticks: TrackTicks,
-}
-
-// What the object sends, or what is expected behind the reference.
-pub fn bmdt_of(index: &[u64], e: Expected) -> Bmdt
+// What the object sends, or what is expected behind the reference: from a sum past 64 bits none is derived.
+pub fn bmdt_of(index: &[u64], e: Expected) -> Option<TrackTicks>
     requires { length index.now ≡ index_len }
     ensures { (t : Track) (r : List ℕ) → e ≡ expected_by (next_time t r)
         → BmdtAs result (bmdt_of t (scalar_in index.now 10) r) }
 {
     if index[places::BMDT] != 0 {
-        return Bmdt {
-            told: true,
-            ticks: TrackTicks(index[places::BMDT_NUMBER]),
-        };
+        return Some(TrackTicks(index[places::BMDT_NUMBER]));
     }
-    Bmdt {
-        told: e.past == 0,
-        ticks: TrackTicks(e.time),
+    if e.past != 0 {
+        return None;
     }
+    Some(TrackTicks(e.time))
 }

@@ -1,20 +1,21 @@
 // The producer reference time that an object gives.
 // Letters: `s` the words of a share.
-ghost use Rattle.std.specs.Prelude.{◌≡◌, ◌-◌, ◌*◌, ◌^◌, ◌<◌, length};
+ghost use Rattle.std.specs.Prelude.{◌≡◌, cond, ℕ, List, Some, ◌-◌, ◌^◌, ◌<◌, length};
 ghost use Rattle.constants.specs.Ids.{id_count};
 ghost use Rattle.share_words.specs.Share.{share_len};
 ghost use Rattle.locmaf_read_index.specs.Places.{index_len};
 ghost use Rattle.media.specs.Clocks.{as_track, as_ntp};
 ghost use Rattle.locmaf_read_said.specs.Said.{scalar_in};
-ghost use Rattle.locmaf_read_times.specs.Prft.{no_prft, number_of, number_for, times_of, prft_of};
+ghost use Rattle.locmaf_read_times.specs.Prft.{no_prft, told_by, number_for, prft_of};
 ghost use Rattle.prft_value.specs.Prft.{media_most};
+ghost use Rattle.field_rules.specs.Fields.{coding_for};
 
 use constants::ids;
 use locmaf_read_index::places;
-use media::clocks::{NtpTime, NtpUnits, TrackTicks, TrackTime};
+use media::clocks::{NtpUnits, TrackTicks};
 use prft_value::Prft;
 use share_words::share;
-use wire::zigzag::{Coding, Reached};
+use wire::zigzag::Coding;
 
 // A time, or that a number of it is outside its range.
 #[derive(Clone, Copy)]
@@ -32,13 +33,32 @@ fn none(ok: bool) -> Told
     }
 }
 
-// The version or the flags of the object, plain or against the kept one, or the kept one where it sends none.
-fn number(coding: Coding, index: &[u64], id: usize, kept: u64, bound: u64) -> Reached
-    requires { (length index.now ≡ index_len) × (id < id_count) }
-    ensures { result ≡ number_of coding (scalar_in index.now id) kept bound }
+// What a number of the object is read against: in a delta the share's number; in a full object it is plain, and its absence has a meaning.
+fn base<T: Copy>(delta: bool, share: T, plain: T) -> (Coding, T)
+    ensures { result ≡ (coding_for delta, cond delta share plain) }
 {
+    if delta {
+        (Coding::Delta, share)
+    } else {
+        (Coding::Plain, plain)
+    }
+}
+
+// The version or the flags of the object, or what they are read against where it sends none.
+fn number_for(
+    delta: bool,
+    index: &[u64],
+    id: usize,
+    share: u64,
+    plain: u64,
+    bound: u64,
+) -> Option<u64>
+    requires { (length index.now ≡ index_len) × (id < id_count) }
+    ensures { result ≡ number_for delta (scalar_in index.now) id share plain bound }
+{
+    let (coding, kept) = base(delta, share, plain);
     if index[id * places::EACH] == 0 {
-        return Reached::To(kept);
+        return Some(kept);
     }
     wire::zigzag::reach(
         coding,
@@ -46,17 +66,6 @@ fn number(coding: Coding, index: &[u64], id: usize, kept: u64, bound: u64) -> Re
         bound,
         index[id * places::EACH + places::NUMBER],
     )
-}
-
-// The same by the kind of object: against the share's number in a delta; in a full object plain, and what its absence means.
-fn number_for(delta: bool, index: &[u64], id: usize, share: u64, plain: u64, bound: u64) -> Reached
-    requires { (length index.now ≡ index_len) × (id < id_count) }
-    ensures { result ≡ number_for delta (scalar_in index.now) id share plain bound }
-{
-    if delta {
-        return number(Coding::Delta, index, id, share, bound);
-    }
-    number(Coding::Plain, index, id, plain, bound)
 }
 
 fn media_most(version: u64) -> u64
@@ -69,72 +78,55 @@ fn media_most(version: u64) -> u64
     }
 }
 
-// ---- each time on its own clock, in the same two steps
+// ---- each time on its own clock, in the same way
 
-fn ntp_time(coding: Coding, index: &[u64], kept: NtpUnits) -> NtpTime
+fn ntp_for(delta: bool, index: &[u64], share: NtpUnits) -> Option<NtpUnits>
     requires { length index.now ≡ index_len }
-    ensures { result ≡ as_ntp (number_of coding (scalar_in index.now 18) kept.0 (2 ^ 64 - 1)) }
+    ensures { result ≡ as_ntp (number_for delta (scalar_in index.now) 18 share.0 0 (2 ^ 64 - 1)) }
 {
+    let (coding, kept) = base(delta, share, NtpUnits(0));
     if index[places::NTP] == 0 {
-        return NtpTime::At(kept);
+        return Some(kept);
     }
     kept.reach(coding, index[places::NTP_NUMBER])
 }
 
-fn ntp_for(delta: bool, index: &[u64], share: NtpUnits) -> NtpTime
+fn media_for(delta: bool, index: &[u64], share: TrackTicks, bound: u64) -> Option<TrackTicks>
     requires { length index.now ≡ index_len }
-    ensures { result ≡ as_ntp (number_for delta (scalar_in index.now) 18 share.0 0 (2 ^ 64 - 1)) }
+    ensures { result ≡ as_track (number_for delta (scalar_in index.now) 20 share.0 0 bound) }
 {
-    if delta {
-        return ntp_time(Coding::Delta, index, share);
-    }
-    ntp_time(Coding::Plain, index, NtpUnits(0))
-}
-
-fn media_time(coding: Coding, index: &[u64], kept: TrackTicks, bound: u64) -> TrackTime
-    requires { length index.now ≡ index_len }
-    ensures { result ≡ as_track (number_of coding (scalar_in index.now 20) kept.0 bound) }
-{
+    let (coding, kept) = base(delta, share, TrackTicks(0));
     if index[places::MEDIA_TIME] == 0 {
-        return TrackTime::At(kept);
+        return Some(kept);
     }
     kept.reach(coding, bound, index[places::MEDIA_TIME_NUMBER])
 }
 
-fn media_for(delta: bool, index: &[u64], share: TrackTicks, bound: u64) -> TrackTime
-    requires { length index.now ≡ index_len }
-    ensures { result ≡ as_track (number_for delta (scalar_in index.now) 20 share.0 0 bound) }
-{
-    if delta {
-        return media_time(Coding::Delta, index, share, bound);
-    }
-    media_time(Coding::Plain, index, TrackTicks(0), bound)
-}
-
-// The two times, once version and flags are known.
-fn times(delta: bool, index: &[u64], s: &[u64], version: u64, flags: u64) -> Told
+// The prft of an object that sends one, or none where a number of it is outside its range. How far the media time may go depends on the version.
+fn sent(delta: bool, index: &[u64], s: &[u64]) -> Option<Prft>
     requires { (length index.now ≡ index_len) × (length s.now ≡ share_len) }
-    ensures { result ≡ times_of delta (scalar_in index.now) s.now version flags }
+    ensures { (zs : List ℕ) → scalar_in index.now 18 ≡ Some zs
+        → told_by result ≡ prft_of delta (scalar_in index.now) s.now }
 {
-    let n = ntp_for(delta, index, NtpUnits(s[share::NTP]));
-    let NtpTime::At(ntp) = n else {
-        return none(false);
-    };
+    let version = number_for(delta, index, ids::VERSION as usize, s[share::VERSION], 1, 1)?;
+    let flags = number_for(
+        delta,
+        index,
+        ids::PRFT_FLAGS as usize,
+        s[share::PRFT_FLAGS],
+        0,
+        0xff_ffff,
+    )?;
+    let ntp = ntp_for(delta, index, NtpUnits(s[share::NTP]))?;
     let most = media_most(version);
-    let m = media_for(delta, index, TrackTicks(s[share::MEDIA_TIME]), most);
-    let TrackTime::At(media) = m else {
-        return none(false);
-    };
-    Told {
-        ok: true,
-        prft: Prft {
-            stands: true,
-            ntp,
-            media,
-            version,
-            flags,
-        },
-    }
+    let media = media_for(delta, index, TrackTicks(s[share::MEDIA_TIME]), most)?;
+    Some(Prft {
+        stands: true,
+        ntp,
+        media,
+        version,
+        flags,
+    })
 }
 
 // The prft of an object: in a delta against the one that the share keeps.
@@ -145,20 +137,8 @@ pub fn prft_of(delta: bool, index: &[u64], s: &[u64]) -> Told
     if index[places::NTP] == 0 {
         return none(true);
     }
-    let v = number_for(delta, index, ids::VERSION as usize, s[share::VERSION], 1, 1);
-    let Reached::To(version) = v else {
-        return none(false);
-    };
-    let f = number_for(
-        delta,
-        index,
-        ids::PRFT_FLAGS as usize,
-        s[share::PRFT_FLAGS],
-        0,
-        0xff_ffff,
-    );
-    let Reached::To(flags) = f else {
-        return none(false);
-    };
-    times(delta, index, s, version, flags)
+    match sent(delta, index, s) {
+        Some(prft) => Told { ok: true, prft },
+        None => none(false),
+    }
 }

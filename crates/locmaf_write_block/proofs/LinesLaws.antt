@@ -3,7 +3,7 @@ use Prim.Native.Nat.{ℕ, ◌+◌, ◌*◌, ◌≤◌, ◌<◌}
 use native.Mathlib.Numerals.{add-one}
 use native.Mathlib.Omega.{arith}
 use mathlib.Core.Path.{◌≡◌, sym, ◌∙◌, ap}
-use mathlib.Core.Bool.{Bool, true, ◌&&◌}
+use mathlib.Core.Bool.{Bool, true}
 use mathlib.Core.List.{List, [], ◌∷◌, ◌++◌}
 use borrow.Author.Count.{below_none, below_more}
 use lib.ListN.{length, get_or, take, set, length-take, length-set}
@@ -15,11 +15,12 @@ use Rattle.track.specs.declared.Track.{Track}
 use Rattle.field_table.specs.declared.lines.Line.{Line}
 use Rattle.field_table.specs.Lines.{lines, spare, line_count}
 use Rattle.field_table.proofs.LineLaws.{line-count}
-use Rattle.locmaf_write_tuples.specs.declared.tuples.Weight.{Weight}
-use Rattle.locmaf_write_tuples.specs.Items.{Items, nothing, ◌before◌, bytes_of, weight_most, WeighedAs}
+use Rattle.std.specs.Prelude.{Option, Some}
+use Rattle.std.specs.Option.{unwrap_or}
+use Rattle.locmaf_write_tuples.specs.Items.{Items, nothing, ◌before◌, bytes_of, sum_of, weight_most, WeighedAs}
 use Rattle.locmaf_write_block.specs.Changes.{chunk_lines, line_items, line_most}
 use Rattle.locmaf_write_block.specs.Fields.{before_bmdt, before_count, lines_items, between, field_at, deletion_items, all_at, gone_at, kept_len, KeptEach, KeptFields, Kept}
-use Rattle.locmaf_write_tuples.proofs.ItemLaws.{nothing-before, before-nothing, before-assoc, weighed-both, weighed-nothing, weighed-as, weighed-within}
+use Rattle.locmaf_write_tuples.proofs.ItemLaws.{nothing-before, before-nothing, before-assoc, weighed-both, weighed-nothing, weighed-as, weighed-within, weighed-bytes}
 use Rattle.locmaf_write_tuples.proofs.PutLaws.{Left, left-start, left-none, left_as, left-first, left-next}
 
 -- a run of lines with the one after it
@@ -76,22 +77,22 @@ module _ (F : List Row) (t : Track) (delta follow : Bool) (r x : List ℕ) where
   known-other kept j n i d h s = get_or-set_other kept j i n 0 d ∙ h s
 
   -- the fields of the lines before the one at i were weighed, and their bytes are kept
-  pub record Weighing (kept : List ℕ) (sum : Weight) (i : ℕ) : Type 0 where
+  pub record Weighing (kept : List ℕ) (sum : Option ℕ) (i : ℕ) : Type 0 where
     pub high : i ≤ chunk_lines
     pub done : WeighedAs F (between F t delta follow r x 0 i) (line_most * i) sum
     pub long : length kept ≡ kept_len
     pub each : (j : ℕ) → j < i → Known kept j
 
-  pub weigh-start : (kept : List ℕ) → length kept ≡ kept_len → (sum : Weight) → (sum.fits ≡ true) × (sum.bytes ≡ 0) → Weighing kept sum 0
-  weigh-start kept h sum e =
+  pub weigh-start : (kept : List ℕ) → length kept ≡ kept_len → Weighing kept (Some 0) 0
+  weigh-start kept h =
       record {
         high = omega arith;
-        done = weighed-as (sym (lines_none 0)) (weighed-nothing e);
+        done = weighed-as (sym (lines_none 0)) weighed-nothing;
         long = h;
         each = below_none (Known kept);
       }
 
-  module _ (kept : List ℕ) (sum : Weight) (i : ℕ) (h : Weighing kept sum i) where
+  module _ (kept : List ℕ) (sum : Option ℕ) (i : ℕ) (h : Weighing kept sum i) where
     -- all of them were
     pub weigh-end : chunk_lines ≤ i → WeighedAs F (between F t delta follow r x 0 chunk_lines) (line_most * chunk_lines) sum × KeptEach F t delta follow r x kept
     weigh-end le =
@@ -99,53 +100,53 @@ module _ (F : List Row) (t : Track) (delta follow : Bool) (r x : List ℕ) where
         (rw e at h.done, record { long = h.long; each = rw e at h.each })
 
     -- there is room for one more
-    pub weigh-room : (w : Weight) → WeighedAs F (field_at F t delta follow r x i) line_most w → (sum.bytes ≤ weight_most) × (w.bytes ≤ weight_most)
+    pub weigh-room : (w : Option ℕ) → WeighedAs F (field_at F t delta follow r x i) line_most w → (unwrap_or sum 0 ≤ weight_most) × (unwrap_or w 0 ≤ weight_most)
     weigh-room w p = (omega (arith, h.done.small, h.high), omega (arith, p.small))
 
     -- one more was
-    pub weigh-next : i < chunk_lines → (w : Weight) → WeighedAs F (field_at F t delta follow r x i) line_most w
-        → (u : Weight) → (u.fits ≡ (sum.fits && w.fits)) × (u.bytes ≡ sum.bytes + w.bytes) → Weighing (set kept i w.bytes) u (i + 1)
-    weigh-next lt w p u e =
+    pub weigh-next : i < chunk_lines → (w : Option ℕ) → WeighedAs F (field_at F t delta follow r x i) line_most w → (n : ℕ) → n ≡ unwrap_or w 0
+        → (u : Option ℕ) → u ≡ sum_of sum w → Weighing (set kept i n) u (i + 1)
+    weigh-next lt w p n k u e =
         record {
           high = omega arith;
           done =
               weighed-as (sym (lines_snoc 0 i (omega arith) (omega arith)))
               (weighed-within (omega arith) (weighed-both h.done p e));
-          long = length-set kept i w.bytes ∙ h.long;
+          long = length-set kept i n ∙ h.long;
           each =
-              below_more (Known (set kept i w.bytes)) i
-              (λ j less. known-other kept i w.bytes j (λ z. omega arith) (h.each j less))
-              (λ s. get_or-set_same kept i w.bytes 0 (omega (arith, h.long)) ∙ p.bytes s);
+              below_more (Known (set kept i n)) i
+              (λ j less. known-other kept i n j (λ z. omega arith) (h.each j less))
+              (λ s. get_or-set_same kept i n 0 (omega (arith, h.long)) ∙ k ∙ weighed-bytes p s);
         }
 
   -- those of all lines together are kept behind them
-  pub keep_all : {kept : List ℕ} {n : ℕ} {w : Weight} → KeptEach F t delta follow r x kept → WeighedAs F (between F t delta follow r x 0 chunk_lines) n w
-      → KeptFields F t delta follow r x (set kept all_at w.bytes)
-  keep_all {kept} {n} {w} h p =
+  pub keep_all : {kept : List ℕ} {most n : ℕ} {w : Option ℕ} → KeptEach F t delta follow r x kept → WeighedAs F (between F t delta follow r x 0 chunk_lines) most w
+      → n ≡ unwrap_or w 0 → KeptFields F t delta follow r x (set kept all_at n)
+  keep_all {kept} {n = n} h p k =
       record {
         lines =
             record {
-              long = length-set kept all_at w.bytes ∙ h.long;
-              each = λ i lt. known-other kept all_at w.bytes i (λ z. omega arith) (h.each i lt);
+              long = length-set kept all_at n ∙ h.long;
+              each = λ i lt. known-other kept all_at n i (λ z. omega arith) (h.each i lt);
             };
-        all = λ s. get_or-set_same kept all_at w.bytes 0 (omega (arith, h.long)) ∙ p.bytes s;
+        all = λ s. get_or-set_same kept all_at n 0 (omega (arith, h.long)) ∙ k ∙ weighed-bytes p s;
       }
 
   -- and those of the deletions behind all
-  pub keep-gone : {kept : List ℕ} {n : ℕ} {w : Weight} → KeptFields F t delta follow r x kept → WeighedAs F (deletion_items F t delta follow r x) n w
-      → Kept F t delta follow r x (set kept gone_at w.bytes)
-  keep-gone {kept} {n} {w} h p =
+  pub keep-gone : {kept : List ℕ} {most n : ℕ} {w : Option ℕ} → KeptFields F t delta follow r x kept → WeighedAs F (deletion_items F t delta follow r x) most w
+      → n ≡ unwrap_or w 0 → Kept F t delta follow r x (set kept gone_at n)
+  keep-gone {kept} {n = n} h p k =
       record {
         fields =
             record {
               lines =
                   record {
-                    long = length-set kept gone_at w.bytes ∙ h.lines.long;
-                    each = λ i lt. known-other kept gone_at w.bytes i (λ z. omega arith) (h.lines.each i lt);
+                    long = length-set kept gone_at n ∙ h.lines.long;
+                    each = λ i lt. known-other kept gone_at n i (λ z. omega arith) (h.lines.each i lt);
                   };
-              all = λ s. get_or-set_other kept gone_at all_at w.bytes 0 (λ z. omega arith) ∙ h.all s;
+              all = λ s. get_or-set_other kept gone_at all_at n 0 (λ z. omega arith) ∙ h.all s;
             };
-        gone = λ s. get_or-set_same kept gone_at w.bytes 0 (omega (arith, h.lines.long)) ∙ p.bytes s;
+        gone = λ s. get_or-set_same kept gone_at n 0 (omega (arith, h.lines.long)) ∙ k ∙ weighed-bytes p s;
       }
 
   -- the fields of the lines from the one at i on are left to be written

@@ -4,7 +4,6 @@ use native.Mathlib.Omega.{arith}
 use mathlib.Core.Path.{◌≡◌, refl, sym, ◌∙◌, ap}
 use mathlib.Core.Bool.{Bool, true, false}
 use mathlib.Core.List.{List, [], ◌∷◌, ◌++◌, append_assoc}
-use mathlib.Core.Option.{some}
 use borrow.Author.Tests.{eqb-true, eqb-false, eq-eqb, ne_eqb}
 use lib.Dec.{eqb}
 use lib.ListN.{length, get_or, take, drop}
@@ -13,7 +12,7 @@ use Rattle.laws.proofs.SliceLaws.{slice-lent}
 use Rattle.wire.specs.declared.form.Row.{Row}
 use Rattle.wire.specs.declared.form.Form.{Form}
 use Rattle.wire.specs.declared.zigzag.Coding.{Coding}
-use Rattle.wire.specs.declared.zigzag.Coded.{Coded}
+use Rattle.std.specs.Prelude.{Option, Some}
 use Rattle.wire.specs.Form.{rows}
 use Rattle.wire.specs.Varint.{encode, size_of}
 use Rattle.wire.specs.Zigzag.{code_of}
@@ -27,11 +26,10 @@ use Rattle.field_table.specs.declared.lines.Measure.{Measure}
 use Rattle.field_table.specs.Lines.{wanted, absent_value}
 use Rattle.field_set.specs.Lawful.{measure_of}
 use Rattle.field_rules.specs.Fields.{coding_for, coding_of, is_ivs, old_values}
-use Rattle.locmaf_write_tuples.specs.declared.tuples.Weight.{Weight}
 use Rattle.locmaf_write_block.specs.declared.cells.Basis.{Basis}
 use Rattle.locmaf_write_tuples.specs.Items.{items_if, number_item, run_item, wide_bytes, bytes_of, pair_most, WeighedAs}
 use Rattle.locmaf_write_block.specs.Changes.{news, olds, sent_items, list_item, coded_item, line_most}
-use Rattle.locmaf_write_tuples.proofs.ItemLaws.{block_one, run_length}
+use Rattle.locmaf_write_tuples.proofs.ItemLaws.{block_one, run_length, weighed-fit}
 use Rattle.locmaf_write_block.proofs.WideLaws.{wide-length}
 use Rattle.locmaf_write_block.proofs.FieldLaws.{Field}
 
@@ -39,7 +37,7 @@ use Rattle.locmaf_write_block.proofs.FieldLaws.{Field}
 
 module _ (F : List Row) (t : Track) (delta : Bool) (r x : List ℕ) (l : Line) where
   -- IVs are bytes as they are
-  ivs-are : is_ivs l.want ≡ true → sent_items t delta r x l F ≡ some (run l.id (wide_bytes (news t delta r x l)) ∷ [])
+  ivs-are : is_ivs l.want ≡ true → sent_items t delta r x l F ≡ Some (run l.id (wide_bytes (news t delta r x l)) ∷ [])
   unfolding sent_items
   ivs-are e = rw e
 
@@ -114,20 +112,16 @@ module _ {t : Track} {b : Basis} {r x : List ℕ} {l : Line} (f : Field t b r x 
       ivs-room F out at h = (omega (arith, lent_length l x k new-room, new-few), omega (arith, h, ap length (ivs-wrote F)))
 
       -- and weighed
-      pub weighed-ivs : (form : Form) (n : ℕ) {w : Weight}
+      pub weighed-ivs : (form : Form) (n : ℕ)
           → (n ≡ size_of (rows form) l.id + (size_of (rows form) (8 * k) + 8 * k)) × (n ≤ pair_most + 8 * k)
-          → (w.fits ≡ true) × (w.bytes ≡ n) → WeighedAs (rows form) (sent_items t b.delta r x l (rows form)) line_most w
-      weighed-ivs form n s e =
+          → WeighedAs (rows form) (sent_items t b.delta r x l (rows form)) line_most (Some n)
+      weighed-ivs form n s =
           let F : List Row = rows form in
           let bs : List ℕ = wide_bytes (news t b.delta r x l) in
           let all : length (enc_item F (run l.id bs)) ≡ size_of F l.id + (size_of F (length bs) + length bs) =
           run_length F l.id bs (omega (arith, limit-62 form, f.low)) (omega (arith, limit-62 form, new-few, wide-many)) in
           rw (ivs-are F t b.delta r x l ivs)
-          (record {
-            fits = e.0;
-            bytes = λ some. e.1 ∙ s.0 ∙ rw wide-many (sym (ap length (block_one F (run l.id bs)) ∙ all));
-            small = omega (arith, e.1, s.1, new-few);
-          })
+          (weighed-fit refl (s.0 ∙ rw wide-many (sym (ap length (block_one F (run l.id bs)) ∙ all))) (omega (arith, s.1, new-few)))
 
   -- the old values as they are lent
   pub olds-lent : (u : ℕ) → (l.place + 1 + u ≤ length r) × (old_values b.delta r b.was l ≡ slice (l.place + 1) (l.place + 1 + u) r)
@@ -168,7 +162,7 @@ module _ {t : Track} {b : Basis} {r x : List ℕ} {l : Line} (f : Field t b r x 
 
 -- numbers, one or a list
 module _ (F : List Row) (co : Coding) (b : Basis) (r x : List ℕ) (l : Line) (k base : ℕ) where
-  pub one-coded : l.room ≡ 1 → (z : Coded) → z ≡ code_of F co (first base (old_values b.delta r b.was l)) (get_or x (l.place + 1) 0)
+  pub one-coded : l.room ≡ 1 → (z : Option ℕ) → z ≡ code_of F co (first base (old_values b.delta r b.was l)) (get_or x (l.place + 1) 0)
       → items_if true (number_item l.id z) ≡ coded_item F co b r x l k base
   unfolding items_if coded_item
   one-coded e z ez = rw (ez, eq-eqb l.room 1 e)

@@ -2,7 +2,7 @@
 use Prim.Native.Nat.{ℕ, ◌+◌, ◌*◌, ◌≤◌}
 use native.Mathlib.Omega.{arith}
 use mathlib.Core.Path.{◌≡◌, refl, sym, ◌∙◌, ap}
-use mathlib.Core.Bool.{Bool, true, ◌&&◌}
+use mathlib.Core.Bool.{Bool, true}
 use mathlib.Core.List.{List}
 use lib.ListN.{length, get_or}
 use Rattle.laws.specs.Writes.{Wrote}
@@ -10,18 +10,18 @@ use Rattle.laws.proofs.TestLaws.{and_left}
 use Rattle.wire.specs.declared.form.Row.{Row}
 use Rattle.laws.specs.Options.{is_some}
 use Rattle.track.specs.declared.Track.{Track}
-use Rattle.locmaf_write_tuples.specs.declared.tuples.Weight.{Weight}
-use Rattle.locmaf_write_tuples.specs.Items.{Items, ◌before◌, bytes_of, pair_most, WeighedAs}
+use Rattle.std.specs.Prelude.{Option}
+use Rattle.locmaf_write_tuples.specs.Items.{Items, ◌before◌, bytes_of, sum_of, pair_most, WeighedAs}
 use Rattle.locmaf_write_block.specs.Changes.{chunk_lines, line_most}
 use Rattle.locmaf_write_block.specs.Fields.{before_bmdt, before_count, between, bmdt_items, count_items, field_items, all_at, KeptFields, set_most}
 use Rattle.locmaf_write_tuples.proofs.ItemLaws.{before-some, weighed-both, weighed-as}
-use Rattle.locmaf_write_tuples.proofs.AlikeLaws.{weighed-alike, parts-long, interleaved}
+use Rattle.locmaf_write_tuples.proofs.AlikeLaws.{weighed-alike, alike-fit, parts-long, interleaved}
 use Rattle.locmaf_write_tuples.proofs.PutLaws.{put-empty, Left, left-start, left-first, left-next}
 use Rattle.locmaf_write_block.proofs.LinesLaws.{three-parts}
 
 -- two weights as one
-abbrev pub Sum : Weight → Weight → Weight → Type 0
-Sum v w u = (u.fits ≡ (v.fits && w.fits)) × (u.bytes ≡ v.bytes + w.bytes)
+abbrev pub Sum : Option ℕ → Option ℕ → Option ℕ → Type 0
+Sum v w u = u ≡ sum_of v w
 
 module _ (F : List Row) (t : Track) (delta follow : Bool) (r x : List ℕ) where
   -- what follows the middle lines, BMDT and the low lines
@@ -36,8 +36,8 @@ module _ (F : List Row) (t : Track) (delta follow : Bool) (r x : List ℕ) where
   later = bmdt_items F t delta r x before rest
 
   -- all were weighed: the lines in one walk, and then the two numbers that stand between them
-  pub set-weighed : {a b c : Weight} → WeighedAs F (between F t delta follow r x 0 chunk_lines) (line_most * chunk_lines) a → WeighedAs F (bmdt_items F t delta r x) pair_most b
-      → WeighedAs F (count_items F delta r x) pair_most c → (u z : Weight) → Sum b c u → Sum a u z → WeighedAs F (field_items F t delta follow r x) set_most z
+  pub set-weighed : {a b c : Option ℕ} → WeighedAs F (between F t delta follow r x 0 chunk_lines) (line_most * chunk_lines) a → WeighedAs F (bmdt_items F t delta r x) pair_most b
+      → WeighedAs F (count_items F delta r x) pair_most c → (u z : Option ℕ) → Sum b c u → Sum a u z → WeighedAs F (field_items F t delta follow r x) set_most z
   unfolding field_items
   set-weighed p q s u z g h =
       weighed-alike F
@@ -55,7 +55,7 @@ module _ (F : List Row) (t : Track) (delta follow : Bool) (r x : List ℕ) where
       let some : is_some (a before b) ≡ true =
       and_left (is_some (a before b)) (is_some q)
       (sym (before-some (a before b) q)
-      ∙ (interleaved F a (between F t delta follow r x before_bmdt before_count) (between F t delta follow r x before_count chunk_lines) (bmdt_items F t delta r x) (count_items F delta r x)).fit
+      ∙ alike-fit F _ _ (interleaved F a (between F t delta follow r x before_bmdt before_count) (between F t delta follow r x before_count chunk_lines) (bmdt_items F t delta r x) (count_items F delta r x))
       ∙ fits) in
       let all : is_some (between F t delta follow r x 0 chunk_lines) ≡ true = ap is_some (three-parts F t delta follow r x) ∙ some in
       omega (arith, k.all all, ap (λ (is : Items). length (bytes_of F is)) (three-parts F t delta follow r x), parts-long F a b some)

@@ -10,7 +10,7 @@ use Rattle.laws.proofs.GateLaws.{failed, held}
 use Rattle.wire.specs.declared.form.Row.{Row}
 use Rattle.wire.specs.declared.zigzag.Coding.{Coding}
 use Rattle.wire.specs.declared.zigzag.Coding.TheVariants.{Plain}
-use Rattle.wire.specs.declared.zigzag.Coded.{Coded}
+use Rattle.std.specs.Prelude.{Option}
 use Rattle.wire.specs.Zigzag.{code_of}
 use Rattle.track.specs.declared.Track.{Track}
 use Rattle.field_table.specs.declared.lines.Measure.{Measure}
@@ -54,7 +54,7 @@ module _ (F : List Row) (x : List ℕ) (b : Bool) where
   unfolding bmdt_if items_if
   no-bmdt h = rw (not-true b h)
 
-  pub bmdt-sent : not b ≡ false → {c : Coded} → c ≡ code_of F Plain 0 (get_or x bmdt_at 0) → items_if true (number_item 10 c) ≡ bmdt_if F b x
+  pub bmdt-sent : not b ≡ false → {c : Option ℕ} → c ≡ code_of F Plain 0 (get_or x bmdt_at 0) → items_if true (number_item 10 c) ≡ bmdt_if F b x
   unfolding bmdt_if
   bmdt-sent h e = rw (not-false b h, e)
 
@@ -64,7 +64,7 @@ module _ (delta : Bool) (r x : List ℕ) (F : List Row) {b : Bool} (e : b ≡ co
   unfolding count_items items_if
   no-count h = rw (failed e h)
 
-  pub count-is : not b ≡ false → {coding : Coding} {c : Coded} → coding ≡ coding_for delta
+  pub count-is : not b ≡ false → {coding : Coding} {c : Option ℕ} → coding ≡ coding_for delta
       → c ≡ code_of F coding (get_or r count_at 0) (get_or x count_at 0) → items_if true (number_item 14 c) ≡ count_items F delta r x
   unfolding count_items
   count-is h g f = rw (held e h, f, g)

@@ -1,6 +1,5 @@
 -- What an object says of one field of a set x, whichever it is: in a delta against the reference's set r, in a full object against nothing.
-use Rattle.std.specs.Prelude.{ℕ, ◌+◌, ◌-◌, ◌*◌, ◌≤◌, ◌<◌, ◌≡◌, Bool, true, cond, not, ◌&&◌, List, [], ◌∷◌, eqb, length, get_or}
-use Rattle.std.proofs.Math.Option.{some}
+use Rattle.std.specs.Prelude.{ℕ, ◌+◌, ◌-◌, ◌*◌, ◌≤◌, ◌<◌, ◌≡◌, Bool, true, cond, not, ◌&&◌, List, [], ◌∷◌, eqb, length, get_or, Some}
 use Rattle.std.proofs.Math.Seq.{slice}
 use Rattle.laws.specs.Tests.{same}
 use Rattle.constants.specs.Maxima.{subsamples_most}
@@ -51,7 +50,7 @@ module _ (t : Track) (delta : Bool) (r x : List ℕ) (l : Line) where
   sent_items F =
       let coding = coding_of (coding_for delta) l.absent in
       let base = absent_value t l.absent in
-      cond (is_ivs l.want) (some (run l.id (wide_bytes news) ∷ []))
+      cond (is_ivs l.want) (Some (run l.id (wide_bytes news) ∷ []))
       (cond (eqb l.room 1) (number_item l.id (code_of F coding (first base olds) (first 0 news)))
       (run_item F coding l.id base olds news))
 

@@ -22,10 +22,9 @@ use field_rules::rules::{absent_value, field_coding, is_ivs};
 use field_table::lines;
 use field_table::lines::{Line, Measure, Want};
 use locmaf_write_tuples::tuples;
-use locmaf_write_tuples::tuples::Weight;
 use track::Track;
 use wire::form::Form;
-use wire::zigzag::{Coded, Coding};
+use wire::zigzag::Coding;
 
 // What is written: a delta or a full object, whether the IVs follow from the reference's, and the lengths that the fields of the reference and of the new set go by.
 #[derive(Clone, Copy)]
@@ -44,7 +43,7 @@ pub enum Change {
     Sent,
 }
 
-// Whether two lists are the same.
+// Whether two lists are the same. No number decides alone, so that nothing branches in the loop: mostly they are the same.
 fn same_list(a: &[u64], b: &[u64]) -> bool
     ensures { result ≡ same a.now b.now }
 {
@@ -52,10 +51,8 @@ fn same_list(a: &[u64], b: &[u64]) -> bool
         return false;
     }
     let mut ok = true;
-    let mut i = 0;
-    while i < a.len() {
+    for i in 0..a.len() {
         ok = ok & (a[i] == b[i]);
-        i += 1;
     }
     ok
 }
@@ -139,16 +136,22 @@ fn put_wide(ws: &[u64], out: &mut [u8], at: usize) -> usize
     ensures { Wrote out.old at (wide_bytes ws.now) out.new result }
 {
     let mut p = at;
-    let mut i = 0;
-    while i < ws.len() {
-        p = boxes::put::put_u64(out, p, ws[i]);
-        i += 1;
+    for w in ws {
+        p = boxes::put::put_u64(out, p, *w);
     }
     p
 }
 
 // The number that the one value of a field is sent as.
-fn number_of(form: Form, c: Coding, b: Basis, r: &[u64], x: &[u64], l: Line, base: u64) -> Coded
+fn number_of(
+    form: Form,
+    c: Coding,
+    b: Basis,
+    r: &[u64],
+    x: &[u64],
+    l: Line,
+    base: u64,
+) -> Option<u64>
     requires place_in_bounds { l.place + 2 ≤ length r.now }
     requires place_in_bounds_2 { l.place + 2 ≤ length x.now }
     requires want_value { l.want ≡ Want.One }
@@ -169,7 +172,7 @@ fn coded_size(
     l: Line,
     k: usize,
     base: u64,
-) -> Weight
+) -> Option<usize>
     requires chunk_line { ChunkLine l }
     requires measured { Measured b.was r.now }
     requires k_in_bounds { (l.place + 1 + k ≤ length x.now) × (length x.now ≡ set_len) }
@@ -187,7 +190,7 @@ fn coded_size(
 }
 
 // A field that is sent.
-fn sent_size(form: Form, t: Track, b: Basis, r: &[u64], x: &[u64], l: Line) -> Weight
+fn sent_size(form: Form, t: Track, b: Basis, r: &[u64], x: &[u64], l: Line) -> Option<usize>
     requires based { Based t b r.now x.now }
     requires chunk_line { ChunkLine l }
     requires l_value { stands t b.delta r.now x.now l ≡ true }
@@ -201,7 +204,7 @@ fn sent_size(form: Form, t: Track, b: Basis, r: &[u64], x: &[u64], l: Line) -> W
     let c = field_coding(b.delta, absent);
     let base = absent_value(t, absent);
     if is_ivs(want) {
-        return tuples::whole(tuples::body_size(form, l.id, 8 * k));
+        return Some(tuples::body_size(form, l.id, 8 * k));
     }
     coded_size(form, c, b, r, x, l, k, base)
 }
@@ -324,7 +327,7 @@ fn put_sent(
 
 // The bytes of one field's tuple; none of one that is omitted or deleted. Most fields don't stand in a chunk, and for those the place of their
 // mark is enough: deleted or not, they have no tuple.
-pub fn line_size(form: Form, t: Track, b: Basis, r: &[u64], x: &[u64], i: usize) -> Weight
+pub fn line_size(form: Form, t: Track, b: Basis, r: &[u64], x: &[u64], i: usize) -> Option<usize>
     requires based { Based t b r.now x.now }
     requires i_lt_chunk_lines { i < chunk_lines }
     ensures { WeighedAs (rows form) (field_at (rows form) t b.delta b.follow r.now x.now i)
@@ -332,12 +335,12 @@ pub fn line_size(form: Form, t: Track, b: Basis, r: &[u64], x: &[u64], i: usize)
 {
     let place = lines::place_at(i);
     if x[place] == 0 {
-        return tuples::whole(0);
+        return Some(0);
     }
     let l = lines::line_at(i);
     let change = change_of(b, r, x, l);
     match change {
-        Change::Omitted | Change::Deleted => tuples::whole(0),
+        Change::Omitted | Change::Deleted => Some(0),
         Change::Sent => sent_size(form, t, b, r, x, l),
     }
 }

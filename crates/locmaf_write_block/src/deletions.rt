@@ -14,7 +14,6 @@ use constants::ids;
 use field_rules::vanished::vanished;
 use field_table::lines;
 use locmaf_write_tuples::tuples;
-use locmaf_write_tuples::tuples::Weight;
 use wire::form::Form;
 use wire::zigzag::Coding;
 
@@ -40,19 +39,17 @@ fn deleted(b: Basis, r: &[u64], x: &[u64], ids: &mut [u64]) -> usize
         return 0;
     }
     let mut n = 0;
-    let mut i = 0;
-    while i < lines::LINES {
+    for i in 0..lines::LINES {
         if is_deleted(b, r, x, i) {
             ids[n] = lines::id_at(i);
             n += 1;
         }
-        i += 1;
     }
     n
 }
 
 // Id 27's tuple, whatever the track is.
-pub fn deletions_size(form: Form, b: Basis, r: &[u64], x: &[u64]) -> Weight
+pub fn deletions_size(form: Form, b: Basis, r: &[u64], x: &[u64]) -> Option<usize>
     requires { (length r.now ≡ set_len) × (length x.now ≡ set_len) }
     ensures { (t : Track)
         → WeighedAs (rows form) (deletion_items (rows form) t b.delta b.follow r.now x.now)
@@ -61,7 +58,7 @@ pub fn deletions_size(form: Form, b: Basis, r: &[u64], x: &[u64]) -> Weight
     let mut ids = [0u64; lines::LINES];
     let n = deleted(b, r, x, &mut ids);
     if n == 0 {
-        return tuples::whole(0);
+        return Some(0);
     }
     tuples::run_size(form, Coding::Plain, ids::DELETIONS, &ids[..n], &x[..0], 0)
 }

@@ -19,7 +19,6 @@ use field_set::lawful;
 use field_table::lines::Measure;
 use field_table::{lines, order};
 use locmaf_write_tuples::tuples;
-use locmaf_write_tuples::tuples::Weight;
 use track::Track;
 use wire::form::Form;
 use wire::zigzag::Coding;
@@ -87,12 +86,12 @@ fn count_stands(delta: bool, r: &[u64], x: &[u64]) -> bool
 }
 
 // BMDT's tuple, which is absolute in a delta too. A number that isn't sent isn't coded either.
-fn bmdt_size(form: Form, stands: bool, x: &[u64]) -> Weight
+fn bmdt_size(form: Form, stands: bool, x: &[u64]) -> Option<usize>
     requires { length x.now ≡ set_len }
     ensures { WeighedAs (rows form) (bmdt_if (rows form) stands x.now) pair_most result }
 {
     if !stands {
-        return tuples::whole(0);
+        return Some(0);
     }
     let c = wire::zigzag::code(form, Coding::Plain, 0, x[lines::BMDT]);
     tuples::number_size(form, true, ids::BMDT, c)
@@ -113,13 +112,13 @@ fn put_bmdt(form: Form, stands: bool, x: &[u64], out: &mut [u8], at: usize) -> u
 }
 
 // The sample count's, the same way.
-fn count_size(form: Form, delta: bool, r: &[u64], x: &[u64]) -> Weight
+fn count_size(form: Form, delta: bool, r: &[u64], x: &[u64]) -> Option<usize>
     requires { (length r.now ≡ set_len) × (length x.now ≡ set_len) }
     ensures { WeighedAs (rows form) (count_items (rows form) delta r.now x.now)
         pair_most result }
 {
     if !count_stands(delta, r, x) {
-        return tuples::whole(0);
+        return Some(0);
     }
     let c = wire::zigzag::code(form, coding_for(delta), r[lines::COUNT], x[lines::COUNT]);
     tuples::number_size(form, true, ids::COUNT, c)
@@ -142,20 +141,25 @@ fn put_count(form: Form, delta: bool, r: &[u64], x: &[u64], out: &mut [u8], at: 
 // ---- the lines
 
 // All lines that a chunk can have. The bytes of each are kept.
-fn lines_size(form: Form, t: Track, b: Basis, r: &[u64], x: &[u64], kept: &mut [usize]) -> Weight
+fn lines_size(
+    form: Form,
+    t: Track,
+    b: Basis,
+    r: &[u64],
+    x: &[u64],
+    kept: &mut [usize],
+) -> Option<usize>
     requires based { Based t b r.now x.now }
     requires kept_len { length kept.old ≡ kept_len }
     ensures { WeighedAs (rows form)
         (between (rows form) t b.delta b.follow r.now x.now 0 chunk_lines) (line_most * chunk_lines) result
         × KeptEach (rows form) t b.delta b.follow r.now x.now kept.new }
 {
-    let mut sum = tuples::whole(0);
-    let mut i = 0;
-    while i < CHUNK_LINES {
+    let mut sum = Some(0);
+    for i in 0..CHUNK_LINES {
         let w = cells::line_size(form, t, b, r, x, i);
-        kept[i] = w.bytes;
+        kept[i] = w.unwrap_or(0);
         sum = tuples::both(sum, w);
-        i += 1;
     }
     sum
 }
@@ -183,10 +187,8 @@ fn put_lines(
         out.old at out.new result }
 {
     let mut p = at;
-    let mut i = from;
-    while i < to {
+    for i in from..to {
         p = cells::put_line(form, t, b, r, x, i, kept[i], out, p);
-        i += 1;
     }
     p
 }
@@ -254,7 +256,7 @@ pub fn set_size(
     r: &[u64],
     x: &[u64],
     kept: &mut [usize],
-) -> Weight
+) -> Option<usize>
     requires based { Based t b r.now x.now × (e ≡ expected_by (next_time t r.now)) }
     requires kept_len { length kept.old ≡ kept_len }
     ensures { WeighedAs (rows form) (field_items (rows form) t b.delta b.follow r.now x.now)
@@ -262,7 +264,7 @@ pub fn set_size(
         × KeptFields (rows form) t b.delta b.follow r.now x.now kept.new }
 {
     let fields = lines_size(form, t, b, r, x, &mut *kept);
-    kept[ALL] = fields.bytes;
+    kept[ALL] = fields.unwrap_or(0);
     let bmdt = bmdt_size(form, bmdt_stands(b.delta, e, x), x);
     let count = count_size(form, b.delta, r, x);
     let numbers = tuples::both(bmdt, count);

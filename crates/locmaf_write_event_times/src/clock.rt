@@ -8,7 +8,7 @@ ghost use Rattle.locmaf_write_event_times.specs.Times.{scale_for, clock_of, time
 use media::clocks::{EventTicks, EventTime, TrackTicks};
 use track::Track;
 use wire::form::Form;
-use wire::zigzag::{Coded, Coding};
+use wire::zigzag::Coding;
 
 // The timescale in a record: 0 exactly for the track's.
 pub fn scale_of(t: Track, scale: u64) -> u64
@@ -31,7 +31,7 @@ fn time_of(t: Track, scale: u64, time: u64) -> EventTime
 }
 
 // The time in a record: on the track's clock the distance from BMDT, on the event's own clock itself.
-pub fn time_number(form: Form, t: Track, bmdt: TrackTicks, scale: u64, time: u64) -> Coded
+pub fn time_number(form: Form, t: Track, bmdt: TrackTicks, scale: u64, time: u64) -> Option<u64>
     ensures { result ≡ fitted (rows form) (time_for t bmdt.0 scale time) }
 {
     let at = time_of(t, scale, time);

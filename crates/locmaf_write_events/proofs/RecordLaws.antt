@@ -5,7 +5,7 @@ use native.Mathlib.Omega.{arith}
 use mathlib.Core.Path.{◌≡◌}
 use mathlib.Core.List.{List, [], ◌∷◌, append_assoc}
 use lib.ListN.{length, get_or, take, drop, length-append}
-use Rattle.laws.proofs.PartLaws.{joined}
+use Rattle.laws.proofs.PartLaws.{joined, Parts, parts_all}
 use Rattle.wire.specs.declared.form.Row.{Row}
 use Rattle.wire.specs.declared.form.Form.{Form}
 use Rattle.wire.specs.Form.{rows, limit}
@@ -31,6 +31,11 @@ module _ (c : List ℕ) (from n : ℕ) (h : from + n ≤ length c) where
   unfolding enc_text
   text-parts F = rw (add-sub_cancel_left from n, part_length c from n h)
 
+  -- both are left to be written
+  pub text-left : (F : List Row) (out : List ℕ) (at : ℕ) → at + length (enc_text F (part c from n)) ≤ length out
+      → Parts out at (enc_text F (part c from n)) out at (text_parts F c from n)
+  text-left F out at room = parts_all out at (text_parts F c from n) (text-parts F) room
+
 -- ---- the numbers, and the whole record
 
 abbrev pub mark_parts : List Row → List ℕ → ℕ → ℕ → ℕ → List (List ℕ)
@@ -42,6 +47,14 @@ pub mark-parts : (F : List Row) (t : Track) (bmdt : ℕ) (ws : List ℕ) (i scal
     → joined (mark_parts F ws i scale time) ≡ enc_marks F (sent t bmdt (event_at [] ws i))
 unfolding enc_marks sent event_at
 mark-parts F t bmdt ws i scale time e₁ e₂ = rw (e₁, e₂)
+
+-- all four are left to be written
+pub marks-left : (F : List Row) (t : Track) (bmdt : ℕ) (ws : List ℕ) (i scale time : ℕ) → scale ≡ scale_for t (get_or ws (event_words * i + event_timescale) 0)
+    → time ≡ time_for t bmdt (get_or ws (event_words * i + event_timescale) 0) (get_or ws (event_words * i + event_time) 0)
+    → (out : List ℕ) (at : ℕ) → at + length (enc_marks F (sent t bmdt (event_at [] ws i))) ≤ length out
+    → Parts out at (enc_marks F (sent t bmdt (event_at [] ws i))) out at (mark_parts F ws i scale time)
+marks-left F t bmdt ws i scale time e₁ e₂ out at room =
+    parts_all out at (mark_parts F ws i scale time) (mark-parts F t bmdt ws i scale time e₁ e₂) room
 
 module _ (F : List Row) (t : Track) (bmdt : ℕ) (c ws : List ℕ) (i : ℕ) where
   -- the numbers are the same with no strings
@@ -56,6 +69,11 @@ module _ (F : List Row) (t : Track) (bmdt : ℕ) (c ws : List ℕ) (i : ℕ) whe
   pub record-parts : joined record_parts ≡ enc_event F (sent t bmdt (event_at c ws i))
   unfolding enc_event enc_marks sent event_at
   record-parts = simp append_assoc
+
+  -- all parts are left to be written
+  pub record-left : (out : List ℕ) (at : ℕ) → at + length (enc_event F (sent t bmdt (event_at c ws i))) ≤ length out
+      → Parts out at (enc_event F (sent t bmdt (event_at c ws i))) out at record_parts
+  record-left out at room = parts_all out at record_parts record-parts room
 
   -- ---- its bytes
 

@@ -13,7 +13,6 @@ use locmaf_write_event_times::clock::{scale_of, time_number};
 use media::clocks::TrackTicks;
 use track::Track;
 use wire::form::Form;
-use wire::zigzag::Coded;
 
 // ---- counted
 
@@ -29,8 +28,7 @@ fn text_bytes(form: Form, n: u64) -> usize
 fn time_bytes(form: Form, t: Track, bmdt: TrackTicks, scale: u64, time: u64) -> usize
     ensures { result ≡ size_of (rows form) (time_for t bmdt.0 scale time) }
 {
-    let c = time_number(form, t, bmdt, scale, time);
-    let Coded::Number(z) = c else {
+    let Some(z) = time_number(form, t, bmdt, scale, time) else {
         return wire::form::most(form);
     };
     wire::varint::size(form, z)
@@ -64,11 +62,9 @@ pub fn list_bytes(form: Form, t: Track, bmdt: TrackTicks, events: &[u64], k: usi
     ensures { result ≡ all_bytes (rows form) t bmdt.0 events.now k 0 }
 {
     let mut sum = 0;
-    let mut i = 0;
-    while i < k {
+    for i in 0..k {
         let p = event_value::WORDS * i;
         sum += record_bytes(form, t, bmdt, &events[p..p + event_value::WORDS]);
-        i += 1;
     }
     sum
 }
@@ -78,17 +74,9 @@ fn time_fits(form: Form, t: Track, bmdt: TrackTicks, event: &[u64]) -> bool
     requires { EventWords event.now 0 }
     ensures { result ≡ ltb (sent_at t bmdt.0 [] event.now 0).time (limit (rows form)) }
 {
-    let c = time_number(
-        form,
-        t,
-        bmdt,
-        event[event_value::TIMESCALE],
-        event[event_value::TIME],
-    );
-    match c {
-        Coded::Number(_) => true,
-        Coded::TooWide => false,
-    }
+    let scale = event[event_value::TIMESCALE];
+    let time = event[event_value::TIME];
+    time_number(form, t, bmdt, scale, time).is_some()
 }
 
 // Whether all times of k events do.
@@ -97,11 +85,9 @@ pub fn times_fit(form: Form, t: Track, bmdt: TrackTicks, events: &[u64], k: usiz
     ensures { result ≡ times_fit (rows form) (sent_of t bmdt.0 [] events.now k) }
 {
     let mut ok = true;
-    let mut i = 0;
-    while i < k {
+    for i in 0..k {
         let p = event_value::WORDS * i;
         ok = ok & time_fits(form, t, bmdt, &events[p..p + event_value::WORDS]);
-        i += 1;
     }
     ok
 }
@@ -139,10 +125,7 @@ fn put_marks(
     let time = event[event_value::TIME];
     let duration = event[event_value::DURATION];
     let id = event[event_value::ID];
-    let c = time_number(form, t, bmdt, scale, time);
-    let Coded::Number(z) = c else {
-        return at;
-    };
+    let z = time_number(form, t, bmdt, scale, time).unwrap();
     let a = wire::varint::put(form, out, at, scale_of(t, scale));
     let b = wire::varint::put(form, out, a, z);
     let d = wire::varint::put(form, out, b, duration);
@@ -210,8 +193,7 @@ pub fn put_records(
         (enc_events (rows form) (sent_of t bmdt.0 c.now events.now k)) out.new result }
 {
     let mut p = at;
-    let mut i = 0;
-    while i < k {
+    for i in 0..k {
         let from = event_value::WORDS * i;
         p = put_record(
             form,
@@ -222,7 +204,6 @@ pub fn put_records(
             out,
             p,
         );
-        i += 1;
     }
     p
 }

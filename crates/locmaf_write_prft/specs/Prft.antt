@@ -10,6 +10,11 @@ use Rattle.field_rules.specs.Fields.{coding_for}
 use Rattle.prft_value.specs.Prft.{kept_for}
 use Rattle.locmaf_write_tuples.specs.Items.{Items, ◌before◌, items_if, number_item}
 
+-- an id that stands unless its value is what its absence means (D64)
+module _ (F : List Row) (delta stands : Bool) where
+  unfoldable pub unless_items : ℕ → ℕ → ℕ → Items
+  unless_items id usual v = items_if (stands && not (eqb v usual)) (number_item id (code_of F (coding_for delta) usual v))
+
 module _ (F : List Row) (delta : Bool) (s : List ℕ) (p : Prft) where
   -- the ids 18 and 20 stand together, with no distance too (D57, D65)
   unfoldable pub times_items : Items
@@ -17,12 +22,8 @@ module _ (F : List Row) (delta : Bool) (s : List ℕ) (p : Prft) where
       items_if p.stands (number_item 18 (code_of F (coding_for delta) (get_or s ntp_at 0) p.ntp.0))
       before items_if p.stands (number_item 20 (code_of F (coding_for delta) (get_or s media_time_at 0) p.media.0))
 
-  -- an id that stands unless its value is what its absence means (D64)
-  unfoldable pub unless_items : ℕ → ℕ → ℕ → Items
-  unless_items id usual v = items_if (p.stands && not (eqb v usual)) (number_item id (code_of F (coding_for delta) usual v))
-
   unfoldable pub version_items : Items
-  version_items = unless_items 22 (kept_for delta (get_or s version_at 0) 1) p.version
+  version_items = unless_items F delta p.stands 22 (kept_for delta (get_or s version_at 0) 1) p.version
 
   unfoldable pub flags_items : Items
-  flags_items = unless_items 24 (kept_for delta (get_or s prft_flags_at 0) 0) p.flags
+  flags_items = unless_items F delta p.stands 24 (kept_for delta (get_or s prft_flags_at 0) 0) p.flags

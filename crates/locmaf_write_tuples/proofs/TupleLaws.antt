@@ -12,32 +12,29 @@ use Rattle.laws.proofs.WriteLaws.{wrote_none}
 use Rattle.wire.specs.declared.form.Row.{Row}
 use Rattle.wire.specs.declared.form.Form.{Form}
 use Rattle.wire.specs.declared.zigzag.Coding.{Coding}
-use Rattle.wire.specs.declared.zigzag.Coded.{Coded}
-use Rattle.wire.specs.declared.zigzag.Coded.TheVariants.{Number, TooWide as Wide}
+use Rattle.std.specs.Prelude.{Option, Some, None}
+use Rattle.std.specs.Option.{IsSome}
 use Rattle.wire.specs.Form.{rows, limit, longest}
 use Rattle.wire.specs.Varint.{encode, size_of}
 use Rattle.wire.specs.Zigzag.{code_of}
 use Rattle.wire.proofs.FormLaws.{lawful}
 use Rattle.wire.proofs.SizeLaws.{size-eight, size-grows, size-some, limit-62, encode-size, size-longest, longest-eight}
-use Rattle.runs.specs.declared.Measured.{Measured}
-use Rattle.runs.specs.declared.Measured.TheVariants.{Bytes, TooWide}
-use Rattle.runs.specs.Run.{first, rest, run_of, measured, on_coded}
+use Rattle.runs.specs.Run.{first, rest, run_of, measured}
 use Rattle.runs.proofs.RunLaws.{measured-length}
-use Rattle.laws.specs.Options.{is_some}
+use Rattle.laws.specs.Options.{is_some, on_option}
 use Rattle.constants.specs.Ids.{id_count}
 use Rattle.constants.specs.Maxima.{subsamples_most, block_most}
 use Rattle.block_items.specs.Items.{num, run, enc_item}
-use Rattle.locmaf_write_tuples.specs.declared.tuples.Weight.{Weight}
 use Rattle.locmaf_write_tuples.specs.Items.{Items, items_if, number_item, run_item, bytes_of, pair_most, Made, WeighedAs}
-use Rattle.locmaf_write_tuples.proofs.ItemLaws.{block_one, bytes-nothing, number-length, run_length, weighed-nothing, weighed-wide}
+use Rattle.locmaf_write_tuples.proofs.ItemLaws.{block_one, bytes-nothing, number-length, run_length, weighed-nothing, weighed-fit, weighed-wide}
 
 -- ---- a tuple that is left out
 
 module _ (F : List Row) (is : Items) where
-  pub weighed-out : (s : Bool) (most : ℕ) {w : Weight} → not s ≡ true → (w.fits ≡ true) × (w.bytes ≡ 0) → WeighedAs F (items_if s is) most w
+  pub weighed-out : (s : Bool) (most : ℕ) → not s ≡ true → WeighedAs F (items_if s is) most (Some 0)
   unfolding items_if
-  weighed-out true most h e = absurd (false≢true h)
-  weighed-out false most h e = weighed-nothing e
+  weighed-out true most h = absurd (false≢true h)
+  weighed-out false most h = weighed-nothing
 
   pub wrote-out : (s : Bool) (l : List ℕ) (at : ℕ) → not s ≡ true → at + length (bytes_of F (items_if s is)) ≤ length l
       → Wrote l at (bytes_of F (items_if s is)) l at
@@ -48,38 +45,35 @@ module _ (F : List Row) (is : Items) where
 -- ---- one number
 
 -- one too wide
-module _ (F : List Row) (id : ℕ) (c : Coded) (wide : c ≡ Wide) where
-  pub weighed-no-number : (s : Bool) (most : ℕ) {w : Weight} → not s ≡ false → (w.fits ≡ false) × (w.bytes ≡ 0)
-      → WeighedAs F (items_if s (number_item id c)) most w
+module _ (F : List Row) (id : ℕ) (c : Option ℕ) (wide : c ≡ None) where
+  pub weighed-no-number : (s : Bool) (most : ℕ) → not s ≡ false → WeighedAs F (items_if s (number_item id c)) most None
   unfolding items_if number_item
-  weighed-no-number true most h e = rw wide (weighed-wide e)
-  weighed-no-number false most h e = absurd (false≢true (sym h))
+  weighed-no-number true most h = rw wide weighed-wide
+  weighed-no-number false most h = absurd (false≢true (sym h))
 
-  pub no_number : (s : Bool) → not s ≡ false → is_some (items_if s (number_item id c)) ≡ true → ⊥
-  unfolding items_if number_item
-  no_number true h e = false≢true (rw wide at e)
-  no_number false h e = false≢true (sym h)
+-- one that stands and fits is given
+pub number-some : (id : ℕ) (c : Option ℕ) (s : Bool) → not s ≡ false → is_some (items_if s (number_item id c)) ≡ true → IsSome c
+unfolding items_if number_item
+number-some id (Some z) true h e = refl
+number-some id None true h e = absurd (false≢true e)
+number-some id c false h e = absurd (false≢true (sym h))
 
--- one that stands
-module _ (id : ℕ) (c : Coded) (z : ℕ) (is : c ≡ Number z) where
+-- its bytes and its weight
+module _ (id : ℕ) (c : Option ℕ) (z : ℕ) (is : c ≡ Some z) where
   pub number-bytes : (F : List Row) (s : Bool) → not s ≡ false → encode F id ++ encode F z ≡ bytes_of F (items_if s (number_item id c))
   unfolding items_if number_item enc_item
   number-bytes F true h = rw is (sym (block_one F (num id z)))
   number-bytes F false h = absurd (false≢true (sym h))
 
-  pub weighed-number : (form : Form) (s : Bool) {w : Weight} → not s ≡ false → id < id_count → Made (rows form) c
-      → (w.fits ≡ true) × (w.bytes ≡ size_of (rows form) id + size_of (rows form) z) → WeighedAs (rows form) (items_if s (number_item id c)) pair_most w
+  pub weighed-number : (form : Form) (s : Bool) {n : ℕ} → not s ≡ false → id < id_count → Made (rows form) c
+      → n ≡ size_of (rows form) id + size_of (rows form) z → WeighedAs (rows form) (items_if s (number_item id c)) pair_most (Some n)
   unfolding items_if number_item
   weighed-number form true h few made e =
       let F : List Row = rows form in
       let low : z < limit F = rw is at made in
       let n : length (enc_item F (num id z)) ≡ size_of F id + size_of F z = number-length F id z (omega (arith, limit-62 form)) low in
       rw is
-      (record {
-        fits = e.0;
-        bytes = λ some. e.1 ∙ sym (ap length (block_one F (num id z)) ∙ n);
-        small = omega (arith, e.1, size-eight form id, size-eight form z);
-      })
+      (weighed-fit refl (e ∙ sym (ap length (block_one F (num id z)) ∙ n)) (omega (arith, e, size-eight form id, size-eight form z)))
   weighed-number form false h few made e = absurd (false≢true (sym h))
 
 -- ---- a list of numbers
@@ -91,29 +85,29 @@ module _ (F : List Row) (eight : longest F ≤ 8) (coding : Coding) (base : ℕ)
   run-most old [] = zero-le
   run-most old (v ∷ vs) = go (code_of F coding (first base old) v) (run-most (rest old) vs)
     where
-      go : (k : Coded) → length (run_of F coding base (rest old) vs) ≤ 8 * length vs
-          → length (on_coded k (λ z. encode F z ++ run_of F coding base (rest old) vs) []) ≤ 8 * suc (length vs)
-      go (Number z) h = omega (arith, length-append (encode F z) (run_of F coding base (rest old) vs), encode-size F z, size-longest F z)
-      go Wide h = zero-le
+      go : (k : Option ℕ) → length (run_of F coding base (rest old) vs) ≤ 8 * length vs
+          → length (on_option k (λ z. encode F z ++ run_of F coding base (rest old) vs) []) ≤ 8 * suc (length vs)
+      go (Some z) h = omega (arith, length-append (encode F z) (run_of F coding base (rest old) vs), encode-size F z, size-longest F z)
+      go None h = zero-le
 
 module _ (form : Form) (coding : Coding) (base : ℕ) where
   -- and so does what was measured
-  pub measured-most : (old new : List ℕ) (n : ℕ) → measured (rows form) coding base old new ≡ Bytes n → n ≤ 8 * length new
+  pub measured-most : (old new : List ℕ) (n : ℕ) → measured (rows form) coding base old new ≡ Some n → n ≤ 8 * length new
   measured-most old new n e = rw (measured-length (rows form) coding base old new n e) at (run-most (rows form) (longest-eight form) coding base old new)
 
 module _ (F : List Row) (coding : Coding) (id base : ℕ) (old new : List ℕ) where
   -- a number too wide
-  module _ (wide : measured F coding base old new ≡ TooWide) where
-    pub weighed-no-run : (most : ℕ) {w : Weight} → (w.fits ≡ false) × (w.bytes ≡ 0) → WeighedAs F (run_item F coding id base old new) most w
+  module _ (wide : measured F coding base old new ≡ None) where
+    pub weighed-no-run : (most : ℕ) → WeighedAs F (run_item F coding id base old new) most None
     unfolding run_item
-    weighed-no-run most e = rw wide (weighed-wide e)
+    weighed-no-run most = rw wide weighed-wide
 
     no_run : is_some (run_item F coding id base old new) ≡ true → ⊥
     unfolding run_item
     no_run e = false≢true (rw wide at e)
 
   -- all fit
-  run-bytes : (n : ℕ) → measured F coding base old new ≡ Bytes n
+  run-bytes : (n : ℕ) → measured F coding base old new ≡ Some n
       → encode F id ++ encode F n ++ run_of F coding base old new ≡ bytes_of F (run_item F coding id base old new)
   unfolding run_item enc_item
   run-bytes n e =
@@ -126,7 +120,7 @@ module _ (form : Form) (coding : Coding) (id base : ℕ) (old new : List ℕ) (l
   abbrev run_bytes : ℕ
   run_bytes = length (bytes_of (rows form) (run_item (rows form) coding id base old new))
 
-  run-size : (n : ℕ) → measured (rows form) coding base old new ≡ Bytes n → run_bytes ≡ size_of (rows form) id + (size_of (rows form) n + n)
+  run-size : (n : ℕ) → measured (rows form) coding base old new ≡ Some n → run_bytes ≡ size_of (rows form) id + (size_of (rows form) n + n)
   unfolding run_item
   run-size n m =
       let F : List Row = rows form in
@@ -137,26 +131,22 @@ module _ (form : Form) (coding : Coding) (id base : ℕ) (old new : List ℕ) (l
       run_length F id bs (omega (arith, limit-62 form)) (omega (arith, limit-62 form)) in
       rw m (rw (← l) (ap length (block_one F (run id bs)) ∙ all))
 
-  pub weighed-run : (n k : ℕ) {w : Weight} → measured (rows form) coding base old new ≡ Bytes n
-      → (k ≡ size_of (rows form) id + (size_of (rows form) n + n)) × (k ≤ pair_most + n) → (w.fits ≡ true) × (w.bytes ≡ k)
-      → WeighedAs (rows form) (run_item (rows form) coding id base old new) (pair_most + 8 * length new) w
+  pub weighed-run : (n k : ℕ) → measured (rows form) coding base old new ≡ Some n
+      → (k ≡ size_of (rows form) id + (size_of (rows form) n + n)) × (k ≤ pair_most + n)
+      → WeighedAs (rows form) (run_item (rows form) coding id base old new) (pair_most + 8 * length new) (Some k)
   unfolding run_item
-  weighed-run n k m size e =
-      record {
-        fits = e.0 ∙ rw m;
-        bytes = λ some. e.1 ∙ size.0 ∙ sym (run-size n m);
-        small = omega (arith, e.1, size.1, measured-most form coding base old new n m);
-      }
+  weighed-run n k m size =
+      weighed-fit (rw m) (size.0 ∙ sym (run-size n m)) (omega (arith, size.1, measured-most form coding base old new n m))
 
   -- the length of its body, which follows from that of the whole and that of the id
   module _ (some : is_some (run_item (rows form) coding id base old new) ≡ true) (bytes s : ℕ) (all : bytes ≡ run_bytes) (head : s ≡ size_of (rows form) id) where
-    body_of : (n : ℕ) × (measured (rows form) coding base old new ≡ Bytes n) × (n ≤ block_most) × (bytes ≡ s + (size_of (rows form) n + n))
+    body_of : (n : ℕ) × (measured (rows form) coding base old new ≡ Some n) × (n ≤ block_most) × (bytes ≡ s + (size_of (rows form) n + n))
     body_of = go (measured (rows form) coding base old new) refl
       where
-        go : (k : Measured) → measured (rows form) coding base old new ≡ k
-            → (n : ℕ) × (measured (rows form) coding base old new ≡ Bytes n) × (n ≤ block_most) × (bytes ≡ s + (size_of (rows form) n + n))
-        go (Bytes n) e = (n, e, omega (arith, measured-most form coding base old new n e), omega (arith, run-size n e))
-        go TooWide e = absurd (no_run (rows form) coding id base old new e some)
+        go : (k : Option ℕ) → measured (rows form) coding base old new ≡ k
+            → (n : ℕ) × (measured (rows form) coding base old new ≡ Some n) × (n ≤ block_most) × (bytes ≡ s + (size_of (rows form) n + n))
+        go (Some n) e = (n, e, omega (arith, measured-most form coding base old new n e), omega (arith, run-size n e))
+        go None e = absurd (no_run (rows form) coding id base old new e some)
 
     pub run-head : s ≤ bytes
     run-head = omega (arith, body_of.3)
@@ -169,7 +159,7 @@ module _ (form : Form) (coding : Coding) (id base : ℕ) (old new : List ℕ) (l
         → encode (rows form) id ++ encode (rows form) r ++ run_of (rows form) coding base old new ≡ bytes_of (rows form) (run_item (rows form) coding id base old new)
     body-found r is =
         run-bytes (rows form) coding id base old new r
-        (body_of.1 ∙ ap Bytes (sym (is body_of.0 body_of.2 (omega (arith, body_of.3)))))
+        (body_of.1 ∙ ap Some (sym (is body_of.0 body_of.2 (omega (arith, body_of.3)))))
 
 -- ---- how long a body is, by the bytes that it takes with its length before it
 

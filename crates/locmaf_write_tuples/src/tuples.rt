@@ -1,69 +1,51 @@
 // One tuple: how many bytes it takes, and the same bytes written.
 // Letters: `a` a weight, `b` another, `c` a number made for the wire, `n` how many.
-ghost use Rattle.std.specs.Prelude.{◌≡◌, true, false, ◌&&◌, ◌++◌, ℕ, ◌+◌, ◌*◌, ◌≤◌, ◌<◌, length};
+ghost use Rattle.std.specs.Prelude.{◌≡◌, true, ◌++◌, ℕ, ◌+◌, ◌*◌, ◌≤◌, ◌<◌, length};
+ghost use Rattle.std.specs.Option.{unwrap_or};
 ghost use Rattle.laws.specs.Writes.{Wrote};
 ghost use Rattle.wire.specs.Form.{rows};
 ghost use Rattle.wire.specs.Varint.{encode, size_of};
 ghost use Rattle.laws.specs.Options.{is_some};
 ghost use Rattle.constants.specs.Ids.{id_count};
 ghost use Rattle.constants.specs.Maxima.{subsamples_most, block_most};
-ghost use Rattle.locmaf_write_tuples.specs.Items.{items_if, number_item, run_item, bytes_of, pair_most, weight_most, Made, WeighedAs, RoomFor, WroteItems};
+ghost use Rattle.locmaf_write_tuples.specs.Items.{items_if, number_item, run_item, bytes_of, pair_most, weight_most, sum_of, Made, WeighedAs, RoomFor, WroteItems};
 
-use runs::Measured;
 use wire::form::Form;
-use wire::zigzag::{Coded, Coding};
+use wire::zigzag::Coding;
 
-// What a part of an object takes: whether each of its numbers fits, and then its bytes. Everything is weighed before anything is written, since
-// one number too wide decides between a delta, a full object and a refusal.
-#[derive(Clone, Copy)]
-pub struct Weight {
-    pub fits: bool,
-    pub bytes: usize,
-}
-
-pub fn whole(bytes: usize) -> Weight
-    ensures { (result.fits ≡ true) × (result.bytes ≡ bytes) }
-{
-    Weight { fits: true, bytes }
-}
-
-fn too_wide() -> Weight
-    ensures { (result.fits ≡ false) × (result.bytes ≡ 0) }
-{
-    Weight {
-        fits: false,
-        bytes: 0,
-    }
-}
+// A weight is what a part of an object takes: its bytes, if each of its numbers fits. Everything is weighed before anything is written, since one
+// number too wide decides between a delta, a full object and a refusal.
 
 // Two parts, neither of which is long.
-pub fn both(a: Weight, b: Weight) -> Weight
-    requires { (a.bytes ≤ weight_most) × (b.bytes ≤ weight_most) }
-    ensures { (result.fits ≡ (a.fits && b.fits)) × (result.bytes ≡ a.bytes + b.bytes) }
+pub fn both(a: Option<usize>, b: Option<usize>) -> Option<usize>
+    requires { (unwrap_or a 0 ≤ weight_most) × (unwrap_or b 0 ≤ weight_most) }
+    ensures { result ≡ sum_of a b }
 {
-    Weight {
-        fits: a.fits & b.fits,
-        bytes: a.bytes + b.bytes,
-    }
+    Some(a? + b?)
 }
 
 // ---- an even id: one number
 
 // A tuple that may be left out, as its caller says.
-pub fn number_size(form: Form, stands: bool, id: u64, c: Coded) -> Weight
+pub fn number_size(form: Form, stands: bool, id: u64, c: Option<u64>) -> Option<usize>
     requires { (id < id_count) × Made (rows form) c }
     ensures { WeighedAs (rows form) (items_if stands (number_item id c)) pair_most result }
 {
     if !stands {
-        return whole(0);
+        return Some(0);
     }
-    let Coded::Number(z) = c else {
-        return too_wide();
-    };
-    whole(wire::varint::size(form, id) + wire::varint::size(form, z))
+    let z = c?;
+    Some(wire::varint::size(form, id) + wire::varint::size(form, z))
 }
 
-pub fn put_number(form: Form, stands: bool, id: u64, c: Coded, out: &mut [u8], at: usize) -> usize
+pub fn put_number(
+    form: Form,
+    stands: bool,
+    id: u64,
+    c: Option<u64>,
+    out: &mut [u8],
+    at: usize,
+) -> usize
     requires c_value { is_some (items_if stands (number_item id c)) ≡ true }
     requires room_for { RoomFor (rows form) (items_if stands (number_item id c)) out.old at }
     ensures { WroteItems (rows form) (items_if stands (number_item id c))
@@ -72,9 +54,7 @@ pub fn put_number(form: Form, stands: bool, id: u64, c: Coded, out: &mut [u8], a
     if !stands {
         return at;
     }
-    let Coded::Number(z) = c else {
-        return at;
-    };
+    let z = c.unwrap();
     let a = wire::varint::put(form, out, at, id);
     wire::varint::put(form, out, a, z)
 }
@@ -99,16 +79,20 @@ pub fn put_head(form: Form, id: u64, n: usize, out: &mut [u8], at: usize) -> usi
 }
 
 // A list of numbers: the new values, against the old ones, and `base` where there is none.
-pub fn run_size(form: Form, coding: Coding, id: u64, new: &[u64], old: &[u64], base: u64) -> Weight
+pub fn run_size(
+    form: Form,
+    coding: Coding,
+    id: u64,
+    new: &[u64],
+    old: &[u64],
+    base: u64,
+) -> Option<usize>
     requires { (id < id_count) × (length new.now ≤ subsamples_most) }
     ensures { WeighedAs (rows form) (run_item (rows form) coding id base old.now new.now)
         (pair_most + 8 * length new.now) result }
 {
-    let m = runs::measure(form, coding, new, old, base);
-    match m {
-        Measured::Bytes(n) => whole(body_size(form, id, n)),
-        Measured::TooWide => too_wide(),
-    }
+    let n = runs::measure(form, coding, new, old, base)?;
+    Some(body_size(form, id, n))
 }
 
 // How many bytes a body has that takes m of them with its length before it.

@@ -1,8 +1,7 @@
 -- The meaning of a chunk: what its boxes say by their own rules (ISO/IEC 14496-12, 23001-7, 23009-1), not by way of the set of moof fields. 01: "Same meaning: equal
 -- effective values, events and payload, but for that number, box choice, and `styp` on a delta."
 -- ==== The rules
-use Rattle.std.specs.Prelude.{ℕ, zero, suc, ◌+◌, ◌/◌, cond, ◌&&◌, List, [], ◌∷◌, eqb, ltb, ℤ, pos, ◌-ℤ◌}
-use Rattle.std.proofs.Math.Option.{Option, none, some}
+use Rattle.std.specs.Prelude.{ℕ, zero, suc, ◌+◌, ◌/◌, cond, ◌&&◌, List, [], ◌∷◌, eqb, ltb, ℤ, pos, ◌-ℤ◌, Option, Some, None}
 use Rattle.std.proofs.Math.Seq.{slice}
 use Rattle.cmaf_read_tree.specs.Numbers.{u16, u32, u64}
 use Rattle.track.specs.declared.Track.{Track}
@@ -62,7 +61,7 @@ unfoldable pub entry_at : List ℕ → Entries → ℕ → Protection
 entry_at c e at =
     record {
       iv = slice at (at + e.iv) c;
-      map = cond e.map (some (pairs_from c (pairs_at c e at) (at + e.iv + 2))) none;
+      map = cond e.map (Some (pairs_from c (pairs_at c e at) (at + e.iv + 2))) None;
     }
 
 -- a number of 32 bits with a sign
@@ -97,7 +96,7 @@ module _ (t : Track) (c : List ℕ) (f : Inner) where
 
   -- how the entry at a place of the `senc`, where one stands, protects its sample
   unfoldable pub protection_at : ℕ → Option Protection
-  protection_at at = cond (eqb f.senc.len 0) none (some (entry_at c entries at))
+  protection_at at = cond (eqb f.senc.len 0) None (Some (entry_at c entries at))
 
   -- the sample with the number i, whose entry is at a place
   unfoldable pub sample_at : ℕ → ℕ → Sample
@@ -137,7 +136,7 @@ events_from c (suc k) at = event_of c (emsg_at c at) ∷ events_from c k (end_of
 
 -- what stands in a `styp`: the major brand, the minor version and the compatible brands
 unfoldable pub styp_of : List ℕ → Part → Option (List ℕ)
-styp_of c b = cond (eqb b.len 0) none (some (slice (body_of b).at (end_of (body_of b)) c))
+styp_of c b = cond (eqb b.len 0) None (Some (slice (body_of b).at (end_of (body_of b)) c))
 
 -- ---- the chunk
 
@@ -165,6 +164,6 @@ unbranded m =
       samples = m.samples;
       prft = m.prft;
       events = m.events;
-      brands = none;
+      brands = None;
       payload = m.payload;
     }

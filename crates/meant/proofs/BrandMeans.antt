@@ -6,11 +6,11 @@ use mathlib.Core.Path.{◌≡◌, refl, sym, ◌∙◌, ap, ap₂, subst}
 use mathlib.Core.Logic.{◌⊎◌, inl, inr}
 use mathlib.Core.Bool.{true, cond}
 use mathlib.Core.List.{List, [], ◌∷◌, ◌++◌}
-use mathlib.Core.Option.{none, some}
 use borrow.Author.Tests.{eq-eqb, ne_eqb}
 use lib.Dec.{eqb}
 use lib.ListN.{length, take, drop, length-append, length-take, take-append-drop}
 use lib.Seq.{slice, length-slice, take_at, drop_at, drop-drop}
+use Rattle.std.specs.Prelude.{Some, None}
 use Rattle.laws.specs.Bytes.{be}
 use Rattle.laws.specs.Tests.{all_le}
 use Rattle.laws.proofs.BytesLaws.{be-slice}
@@ -25,20 +25,20 @@ use Rattle.meaning.specs.Meaning.{styp_of}
 use Rattle.meant.specs.BySet.{styp_by}
 
 -- brands, put together as a `styp` has them
-styp-some : (l : List ℕ) → 0 < length l → styp_by l ≡ some (take 4 l ++ (be 4 0 ++ drop 4 l))
+styp-some : (l : List ℕ) → 0 < length l → styp_by l ≡ Some (take 4 l ++ (be 4 0 ++ drop 4 l))
 unfolding styp_by
 styp-some [] h = absurd (not-suc-le-zero h)
 styp-some (x ∷ l) h = refl
 
 -- taken out of a body whose minor version is 0, and put together again
-styp-back : (s : List ℕ) → 8 ≤ length s → take 4 (drop 4 s) ≡ be 4 0 → styp_by (brands_of s) ≡ some s
+styp-back : (s : List ℕ) → 8 ≤ length s → take 4 (drop 4 s) ≡ be 4 0 → styp_by (brands_of s) ≡ Some s
 unfolding brands_of
 styp-back s h z =
     let n : length (take 4 s) ≡ 4 = omega (arith, length-take 4 s) in
     let rest : drop 4 s ≡ be 4 0 ++ drop 8 s = sym (take-append-drop 4 (drop 4 s)) ∙ ap₂ (λ (a b : List ℕ). a ++ b) z (drop-drop 4 4 s) in
     styp-some (take 4 s ++ drop 8 s) (omega (arith, length-append (take 4 s) (drop 8 s)))
-    ∙ ap₂ (λ (a b : List ℕ). some (a ++ (be 4 0 ++ b))) (take_at (take 4 s) (drop 8 s) 4 n) (drop_at (take 4 s) (drop 8 s) 4 n)
-    ∙ ap some (ap (λ (l : List ℕ). take 4 s ++ l) (sym rest) ∙ take-append-drop 4 s)
+    ∙ ap₂ (λ (a b : List ℕ). Some (a ++ (be 4 0 ++ b))) (take_at (take 4 s) (drop 8 s) 4 n) (drop_at (take 4 s) (drop 8 s) 4 n)
+    ∙ ap Some (ap (λ (l : List ℕ). take 4 s ++ l) (sym rest) ∙ take-append-drop 4 s)
 
 -- a `styp` of the chunk, or none
 pub brands-mean : (c : List ℕ) (b : Part) → all_le 255 c ≡ true → Inside c b → styp_ok b ≡ true → minor_version c b ≡ 0
@@ -47,7 +47,7 @@ unfolding styp_of brands_of styp_by
 brands-mean c b low inside ok minor = by (styp-long b ok)
   where
     by : (b.len ≡ 0) ⊎ ((16 ≤ b.len) × (b.len % 4 ≡ 0))
-        → cond (eqb b.len 0) none (some (bytes_at c (body_of b))) ≡ styp_by (brands_of (bytes_at c (body_of b)))
+        → cond (eqb b.len 0) None (Some (bytes_at c (body_of b))) ≡ styp_by (brands_of (bytes_at c (body_of b)))
     by (inl z) =
         let e : bytes_at c (body_of b) ≡ [] = ap (bytes_at c) (sym (body-short b (omega arith))) ∙ slice-none b.at (b.at + 0) c (omega arith) in
         rw (eq-eqb b.len 0 z) (sym (ap (λ (l : List ℕ). styp_by (brands_of l)) e))
@@ -65,4 +65,4 @@ brands-mean c b low inside ok minor = by (styp-long b ok)
         ∙ sym (be-slice c low 4 (b.at + 12) (omega arith))
         ∙ ap (be 4) (minor-some c b long ∙ minor) in
         rw (ne_eqb b.len 0 (λ (z : b.len ≡ 0). omega arith))
-        (sym (subst (λ (l : List ℕ). styp_by (brands_of l) ≡ some l) is (styp-back (slice p end c) (omega arith) version)))
+        (sym (subst (λ (l : List ℕ). styp_by (brands_of l) ≡ Some l) is (styp-back (slice p end c) (omega arith) version)))

@@ -4,11 +4,11 @@ use native.Mathlib.Omega.{arith}
 use mathlib.Core.Path.{◌≡◌, refl, sym, ◌∙◌, ap, ap₂}
 use mathlib.Core.Bool.{Bool, true, false, cond, not, ◌&&◌, ◌||◌}
 use mathlib.Core.List.{List, ◌∷◌, ◌++◌}
-use mathlib.Core.Option.{none, some}
 use borrow.Author.Tests.{eqb-true, eqb-false, not-false}
 use lib.Dec.{eqb}
 use lib.ListN.{length}
 use lib.Seq.{slice}
+use Rattle.std.specs.Prelude.{Some, None}
 use Rattle.laws.specs.Bytes.{be}
 use Rattle.laws.specs.Tests.{all_le}
 use Rattle.laws.proofs.BytesLaws.{be-slice}
@@ -94,16 +94,16 @@ module _ (t : Track) (c : List ℕ) (a : Facts t c) where
               let z : e.iv ≡ 0 = eqb-true e.iv 0 (not-false _ (sym (ivs-stand there) ∙ h)) in
               slice-none at (at + e.iv) c (omega arith)
 
-      map_is : cond e.map (some (pairs_from c (pairs_at c e at) (at + e.iv + 2))) none ≡ cond (has 11 w) (some (pairs_by w (value_at 11 i w) j)) none
+      map_is : cond e.map (Some (pairs_from c (pairs_at c e at) (at + e.iv + 2))) None ≡ cond (has 11 w) (Some (pairs_by w (value_at 11 i w) j)) None
       unfolding clear_bytes protected_bytes
-      map_is = ap (λ (b : Bool). cond b (some (pairs_from c (pairs_at c e at) (at + e.iv + 2))) none) (sym (map-stands there)) ∙ by (has 11 w) refl
+      map_is = ap (λ (b : Bool). cond b (Some (pairs_from c (pairs_at c e at) (at + e.iv + 2))) None) (sym (map-stands there)) ∙ by (has 11 w) refl
         where
           by : (b : Bool) → has 11 w ≡ b
-              → cond b (some (pairs_from c (pairs_at c e at) (at + e.iv + 2))) none ≡ cond b (some (pairs_by w (value_at 11 i w) j)) none
+              → cond b (Some (pairs_from c (pairs_at c e at) (at + e.iv + 2))) None ≡ cond b (Some (pairs_by w (value_at 11 i w) j)) None
           by true h =
               let p : ℕ = at + e.iv + 2 in
               let z : p ≡ p + 6 * 0 = omega arith in
-              ap some
+              ap Some
               (ap (pairs_from c (pairs_at c e at)) z
               ∙ pairs-are c w p (pairs_at c e at) j 0 (clear-here t c g h) (protected-here t c g h)
               ∙ ap (λ (x : ℕ). pairs_by w x j) (sym (count-is t c g h)))
@@ -119,11 +119,11 @@ module _ (t : Track) (c : List ℕ) (a : Facts t c) where
           ap₂ (λ (x y : Bool). x || y) (ivs-stand there) (map-stands there) ∙ (protection t c a (omega arith)).counts.some
 
     -- whether or not one does
-    pub protection-means : protection_at t c (inner c) at ≡ cond (has 9 w || has 11 w) (some (entry_by w t.iv_size i j)) none
+    pub protection-means : protection_at t c (inner c) at ≡ cond (has 9 w || has 11 w) (Some (entry_by w t.iv_size i j)) None
     unfolding protection_at
     protection-means = by (eqb (inner c).senc.len 0) refl
       where
         by : (b : Bool) → eqb (inner c).senc.len 0 ≡ b
-            → cond b none (some (entry_at c e at)) ≡ cond (has 9 w || has 11 w) (some (entry_by w t.iv_size i j)) none
-        by true z = sym (ap₂ (λ (x y : Bool). cond (x || y) (some (entry_by w t.iv_size i j)) none) (ivs-stand z) (map-stands z))
-        by false z = ap some (entry-is z) ∙ sym (ap (λ (x : Bool). cond x (some (entry_by w t.iv_size i j)) none) (some-stands z))
+            → cond b None (Some (entry_at c e at)) ≡ cond (has 9 w || has 11 w) (Some (entry_by w t.iv_size i j)) None
+        by true z = sym (ap₂ (λ (x y : Bool). cond (x || y) (Some (entry_by w t.iv_size i j)) None) (ivs-stand z) (map-stands z))
+        by false z = ap Some (entry-is z) ∙ sym (ap (λ (x : Bool). cond x (Some (entry_by w t.iv_size i j)) None) (some-stands z))

@@ -4,11 +4,11 @@ use native.Mathlib.Omega.{arith}
 use mathlib.Core.Path.{◌≡◌, refl, ◌∙◌, ap}
 use mathlib.Core.Bool.{Bool, true, false, cond, not}
 use mathlib.Core.List.{List}
-use mathlib.Core.Option.{none, some}
 use borrow.Author.Tests.{eqb-true}
 use lib.Dec.{eqb}
 use lib.ListN.{length}
 use lib.Seq.{slice, length-slice}
+use Rattle.std.specs.Prelude.{Some, None}
 use Rattle.laws.specs.Each.{AllOf}
 use Rattle.laws.proofs.SliceLaws.{slice-none}
 use Rattle.track.specs.declared.Track.{Track}
@@ -46,7 +46,7 @@ module _ (t : Track) (c : List ℕ) (a : Facts t c) where
   unfolding protection_at entry_at
   sized {at = at} g = by (eqb (inner c).senc.len 0) refl
     where
-      by : (b : Bool) → eqb (inner c).senc.len 0 ≡ b → SizedIv t (cond b none (some (entry_at c e at)))
+      by : (b : Bool) → eqb (inner c).senc.len 0 ≡ b → SizedIv t (cond b None (Some (entry_at c e at)))
       by true z = tt
       by false z = iv-long g z ∙ entries-iv t c (inner c).senc
 

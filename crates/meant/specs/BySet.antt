@@ -1,8 +1,7 @@
 -- The meaning of a chunk by what an object says of it: its set, `prft`, events, brands and payload. That this is the meaning of every chunk that no rule
 -- refuses is a theorem.
 -- ==== What only proofs need
-use Rattle.std.specs.Prelude.{ℕ, zero, suc, ◌+◌, ◌*◌, ◌/◌, ◌≡◌, true, cond, ◌&&◌, ◌||◌, List, [], ◌∷◌, ◌++◌, eqb, pos, ◌-ℤ◌, length, get_or, take, drop}
-use Rattle.std.proofs.Math.Option.{Option, none, some}
+use Rattle.std.specs.Prelude.{ℕ, zero, suc, ◌+◌, ◌*◌, ◌/◌, ◌≡◌, true, cond, ◌&&◌, ◌||◌, List, [], ◌∷◌, ◌++◌, eqb, pos, ◌-ℤ◌, length, get_or, take, drop, Option, Some, None}
 use Rattle.laws.specs.Bytes.{be}
 use Rattle.laws.specs.Tests.{all_le}
 use Rattle.laws.specs.Ladder.{Hold}
@@ -30,7 +29,7 @@ unfoldable pub entry_by : List ℕ → ℕ → ℕ → ℕ → Protection
 entry_by w bytes i j =
     record {
       iv = when (has 9 w) (iv_bytes w (bytes / 8) (i * (bytes / 8)));
-      map = cond (has 11 w) (some (pairs_by w (value_at 11 i w) j)) none;
+      map = cond (has 11 w) (Some (pairs_by w (value_at 11 i w) j)) None;
     }
 
 module _ (t : Track) (w : List ℕ) (n : ℕ) where
@@ -45,7 +44,7 @@ module _ (t : Track) (w : List ℕ) (n : ℕ) where
             wide_of
             (cond (eqb i 0 && has 12 w) (value_at 12 0 w)
             (cond (has 7 w) (value_at 7 i w) (cond (has 8 w) (value_at 8 0 w) t.flags)));
-        protection = cond (has 9 w || has 11 w) (some (entry_by w t.iv_size i j)) none;
+        protection = cond (has 9 w || has 11 w) (Some (entry_by w t.iv_size i j)) None;
       }
 
   -- k samples from the number i on
@@ -55,8 +54,8 @@ module _ (t : Track) (w : List ℕ) (n : ℕ) where
 
 -- what stands in a `styp`, by its brands
 unfoldable pub styp_by : List ℕ → Option (List ℕ)
-styp_by [] = none
-styp_by (b ∷ bs) = some (take 4 (b ∷ bs) ++ (be 4 0 ++ drop 4 (b ∷ bs)))
+styp_by [] = None
+styp_by (b ∷ bs) = Some (take 4 (b ∷ bs) ++ (be 4 0 ++ drop 4 (b ∷ bs)))
 
 -- all of it
 unfoldable pub meaning_by : Track → List ℕ → Prft → List Event → List ℕ → List ℕ → Meaning

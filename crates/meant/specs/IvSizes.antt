@@ -1,7 +1,6 @@
 -- 02, order 9: "`senc` carries no size of its own; the track's parameter cuts its IVs". By the meaning of the boxes, not by way of the set.
 -- ==== What is shown of the rules
-use Rattle.std.specs.Prelude.{ℕ, ◌≡◌, true, List, length}
-use Rattle.std.proofs.Math.Option.{Option, none, some}
+use Rattle.std.specs.Prelude.{ℕ, ◌≡◌, true, List, length, Option, Some, None}
 use Rattle.laws.specs.Tests.{all_le}
 use Rattle.laws.specs.Each.{AllOf}
 use Rattle.laws.specs.Ladder.{Hold}
@@ -13,8 +12,8 @@ use Rattle.cmaf_read_facts.specs.Given.{F}
 
 -- a sample that is protected has an IV of as many bytes as the parameter says
 abbrev pub SizedIv : Track → Option Protection → Type 0
-SizedIv t none = Unit {0}
-SizedIv t (some p) = length p.iv ≡ t.iv_size
+SizedIv t None = Unit {0}
+SizedIv t (Some p) = length p.iv ≡ t.iv_size
 
 -- so it is with every sample of a chunk that no rule refuses
 abbrev pub IvsSized : Type 0

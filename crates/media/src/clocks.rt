@@ -7,7 +7,7 @@ ghost use Rattle.wire.specs.Zigzag.{code_of};
 ghost use Rattle.media.specs.Clocks.{track_at, ntp_at};
 
 use wire::form::Form;
-use wire::zigzag::{Coded, Coding, Reached};
+use wire::zigzag::Coding;
 
 // A time in ticks of the track's timescale.
 #[derive(Clone, Copy)]
@@ -28,43 +28,26 @@ pub enum EventTime {
     Own(EventTicks),
 }
 
-// A time on the track's clock, or that a number on the wire leads below 0 or past the bound.
-#[derive(Clone, Copy)]
-pub enum TrackTime {
-    At(TrackTicks),
-    Outside,
-}
-
-// The same on NTP's clock.
-#[derive(Clone, Copy)]
-pub enum NtpTime {
-    At(NtpUnits),
-    Outside,
-}
-
 impl TrackTicks {
     // The number on the wire for this time: plain, or as its distance from another, as from BMDT.
-    pub fn code(self, form: Form, coding: Coding, from: TrackTicks) -> Coded
+    pub fn code(self, form: Form, coding: Coding, from: TrackTicks) -> Option<u64>
         ensures { result ≡ code_of (rows form) coding from.0 self.0 }
     {
         wire::zigzag::code(form, coding, from.0, self.0)
     }
 
     // The time that a number on the wire gives: plain, or as its distance from this one. A media time has 32 bits in version 0, hence the bound.
-    pub fn reach(self, coding: Coding, bound: u64, z: u64) -> TrackTime
+    pub fn reach(self, coding: Coding, bound: u64, z: u64) -> Option<TrackTicks>
         ensures { result ≡ track_at coding self.0 bound z }
     {
-        let t = wire::zigzag::reach(coding, self.0, bound, z);
-        let Reached::To(v) = t else {
-            return TrackTime::Outside;
-        };
-        TrackTime::At(TrackTicks(v))
+        let v = wire::zigzag::reach(coding, self.0, bound, z)?;
+        Some(TrackTicks(v))
     }
 }
 
 impl EventTicks {
     // The number on the wire for this time: itself.
-    pub fn code(self, form: Form) -> Coded
+    pub fn code(self, form: Form) -> Option<u64>
         ensures { result ≡ code_of (rows form) Coding.Plain 0 self.0 }
     {
         wire::zigzag::code(form, Coding::Plain, 0, self.0)
@@ -73,20 +56,17 @@ impl EventTicks {
 
 impl NtpUnits {
     // The number on the wire for this time: plain, or as its distance from another.
-    pub fn code(self, form: Form, coding: Coding, since: NtpUnits) -> Coded
+    pub fn code(self, form: Form, coding: Coding, since: NtpUnits) -> Option<u64>
         ensures { result ≡ code_of (rows form) coding since.0 self.0 }
     {
         wire::zigzag::code(form, coding, since.0, self.0)
     }
 
     // The time that a number on the wire gives: plain, or as its distance from this one.
-    pub fn reach(self, coding: Coding, z: u64) -> NtpTime
+    pub fn reach(self, coding: Coding, z: u64) -> Option<NtpUnits>
         ensures { result ≡ ntp_at coding self.0 z }
     {
-        let t = wire::zigzag::reach(coding, self.0, 0xffff_ffff_ffff_ffff, z);
-        let Reached::To(v) = t else {
-            return NtpTime::Outside;
-        };
-        NtpTime::At(NtpUnits(v))
+        let v = wire::zigzag::reach(coding, self.0, u64::MAX, z)?;
+        Some(NtpUnits(v))
     }
 }

@@ -11,10 +11,8 @@ pub fn hex<R: Print>(rt: &R, s: &[u8], from: usize, to: usize) -> io::Result<()>
     if s.len() < to {
         return Ok(());
     }
-    let mut i = from;
-    while i < to {
+    for i in from..to {
         print!(rt; "{:02x}", wide(s[i]))?;
-        i += 1;
     }
     Ok(())
 }

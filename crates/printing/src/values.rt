@@ -36,10 +36,8 @@ pub fn named<R: Print>(rt: &R, name: &[u8], v: u64) -> io::Result<()> {
 
 // Blanks from one place to another.
 fn blanks<R: Print>(rt: &R, from: usize, to: usize) -> io::Result<()> {
-    let mut i = from;
-    while i < to {
+    for i in from..to {
         letter(rt, b' ')?;
-        i += 1;
     }
     Ok(())
 }

@@ -8,6 +8,7 @@ use borrow.Author.Tests.{ne_eqb, eqb-true, eqb-false, not-true, le-leb, le-ltb}
 use lib.Dec.{eqb}
 use lib.ListN.{length}
 use lib.Seq.{slice, length-slice}
+use Rattle.std.specs.Prelude.{Some}
 use Rattle.laws.specs.Gate.{gate}
 use Rattle.laws.specs.Tests.{sum}
 use Rattle.laws.proofs.TestLaws.{and_left, either}
@@ -27,7 +28,6 @@ use Rattle.byte_parts.specs.declared.Part.{Part}
 use Rattle.cmaf_read_shape.specs.Parts.{part, end_of}
 use Rattle.cmaf_read_shape.specs.Left.{Left}
 use Rattle.cmaf_read_senc.specs.declared.entries.Entries.{Entries}
-use Rattle.cmaf_read_senc.specs.declared.entries.Filled.TheVariants.{With}
 use Rattle.cmaf_read_senc.specs.Entries.{pairs_at, length_at, entries_of, more, entries_in, senc_filled, senc_ok, senc_count, subsamples}
 use Rattle.cmaf_read_senc.proofs.EntryLaws.{map-least, pairs-here}
 use Rattle.rebuilt.proofs.FullBoxes.{full-word}
@@ -39,7 +39,7 @@ use Rattle.rebuilt_set.proofs.SencLines.{Entered, entered}
 
 -- k entries use up what was written of them
 entries-use : (t : Track) (c w : List ℕ) (b : Part) → Entered t c w b → (k i j p : ℕ) → i + k ≡ count_in w → Left c p (end_of b) (senc_entries t w k i j)
-    → entries_in (entries_of t c b) k (slice p (end_of b) c) ≡ With (pairs_from w k i)
+    → entries_in (entries_of t c b) k (slice p (end_of b) c) ≡ Some (pairs_from w k i)
 unfolding entries_in gate pairs_from senc_entries more
 entries-use t c w b x zero i j p q h = rw h.is
 entries-use t c w b x (suc k) i j p q h =
@@ -84,13 +84,13 @@ module _ {payload : ℕ} (t : Track) (c w : List ℕ) (g : Canonical t w payload
       by false = refl
 
   -- its entries use it up
-  filled : senc_filled t c b ≡ With (sum (values_of 11 (count_in w) w))
+  filled : senc_filled t c b ≡ Some (sum (values_of 11 (count_in w) w))
   unfolding senc_filled gate
   filled =
       rw known
       (ap (λ (m : ℕ). entries_in (entries_of t c b) m (slice (entries_of t c b).at (end_of b) c)) is-entered.count
       ∙ entries-use t c w b is-entered (count_in w) 0 0 _ (omega arith) is-entered.written.list
-      ∙ ap With is-entered.written.total)
+      ∙ ap Some is-entered.written.total)
 
   -- an entry has an IV or subsamples, and so it isn't empty
   one-stands : (not (eqb t.iv_size 0) || has 11 w) ≡ true

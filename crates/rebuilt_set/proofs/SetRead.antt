@@ -5,11 +5,11 @@ use native.Mathlib.Omega.{arith}
 use mathlib.Core.Path.{◌≡◌, refl, sym, ◌∙◌, ap, ap₂, subst}
 use mathlib.Core.Bool.{Bool, true, false, not, cond}
 use mathlib.Core.List.{List, [], ◌∷◌, ◌++◌, map, map-id}
-use mathlib.Core.Option.{none, some}
 use borrow.Author.Tests.{eq-eqb, ne_eqb}
 use lib.Dec.{eqb}
 use lib.ListN.{length, get_or}
 use lib.Seq.{slice}
+use Rattle.std.specs.Prelude.{Some, None}
 use Rattle.track.specs.declared.Track.{Track}
 use Rattle.track.specs.Track.{iv_ok}
 use Rattle.track.proofs.TrackLaws.{iv-size-le}
@@ -101,7 +101,7 @@ module _ {t : Track} {c : List ℕ} {f : Inner} {w : List ℕ} {n offset : ℕ} 
       values-slice l.id w k 0 (subst (λ (m : Line). m.place + 1 + 0 + k ≤ length w) (sym q) inside)
       ∙ ap (λ (m : Line). slice (m.place + 1 + 0) (m.place + 1 + 0 + k) w) q
       ∙ ap (λ (m : ℕ). slice m (m + k) w) (add-zero (l.place + 1)) in
-      ap₂ (λ (m : Line) (vs : List ℕ). cond (not (eqb (get_or w m.place 0) 0)) (some vs) none) q v
+      ap₂ (λ (m : Line) (vs : List ℕ). cond (not (eqb (get_or w m.place 0) 0)) (Some vs) None) q v
 
   -- ---- line by line, each with its id
 
@@ -124,7 +124,7 @@ module _ {t : Track} {c : List ℕ} {f : Inner} {w : List ℕ} {n offset : ℕ} 
       let low : value_at 12 0 w ≤ 31 = bounds.first q 0 (omega arith) in
       ap (λ (v : ℕ). five_of v ∷ []) (k.trun.first-is ∙ rw q) ∙ ap (λ (v : ℕ). v ∷ []) (five-wide (value_at 12 0 w) (omega arith)))
 
-  line-16 : none ≡ held_if (has 16 w) (values_from 16 w 1 0)
+  line-16 : None ≡ held_if (has 16 w) (values_from 16 w 1 0)
   unfolding held_if
   line-16 = rw g.no-iv-size
 

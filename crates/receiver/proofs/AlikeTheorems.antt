@@ -4,7 +4,7 @@ use native.Mathlib.Omega.{arith}
 use mathlib.Core.Path.{◌≡◌, refl, sym, ◌∙◌, ap, subst}
 use mathlib.Core.Bool.{Bool, true, false, cond, not, ◌&&◌, ◌||◌, beq, false≢true}
 use mathlib.Core.List.{List, [], ◌∷◌, ◌++◌, Permᴰ}
-use mathlib.Core.Option.{Option, none, some}
+use Rattle.std.specs.Prelude.{Option, Some, None}
 use borrow.Author.Tests.{not-true}
 use lib.Dec.{eqb}
 use lib.ListN.{length, get_or, take}
@@ -95,13 +95,13 @@ ids-stand delta kept at d e =
     let plain : (not (at 27) && (at 10 && at 14)) ≡ true = rw d at full in
     (and_left (at 10) (at 14) (and_right (not (at 27)) _ plain), not-true (at 27) (and_left (not (at 27)) _ plain))
 
-some_is : (x : Option (List ℕ)) → is_some x ≡ true → (zs : List ℕ) × (x ≡ some zs)
-some_is none e = absurd (false≢true e)
-some_is (some zs) e = (zs, refl)
+some_is : (x : Option (List ℕ)) → is_some x ≡ true → (zs : List ℕ) × (x ≡ Some zs)
+some_is None e = absurd (false≢true e)
+some_is (Some zs) e = (zs, refl)
 
-none_is : (x : Option (List ℕ)) → is_some x ≡ false → x ≡ none
-none_is none e = refl
-none_is (some zs) e = absurd (false≢true (sym e))
+none_is : (x : Option (List ℕ)) → is_some x ≡ false → x ≡ None
+none_is None e = refl
+none_is (Some zs) e = absurd (false≢true (sym e))
 
 -- what it leaves doesn't go by what was kept
 kept_full : (delta : Bool) (s s' : List ℕ) (bytes : ℕ) {n n' : ℕ} {p p' : Prft} {w w' : List ℕ} → delta ≡ false
@@ -117,7 +117,7 @@ words-forgot : (t t' : Track) (delta : Bool) (r r' : List ℕ) (said : Says) (b 
     → new_words t delta r said b ≡ new_words t' delta r' said b'
 words-forgot t t' delta r r' said b b' d e q = rw (d, e, q) (words-full t' said r r' b')
 
-rules-forgot : (t t' : Track) (delta : Bool) (r r' : List ℕ) (said : Says) → delta ≡ false → t ≡ t' → said 27 ≡ none
+rules-forgot : (t t' : Track) (delta : Bool) (r r' : List ℕ) (said : Says) → delta ≡ false → t ≡ t' → said 27 ≡ None
     → set_rungs t delta r said ≡ set_rungs t' delta r' said
 rules-forgot t t' delta r r' said d e q = rw (d, e) (rules-full t' said r r' q)
 
@@ -163,7 +163,7 @@ module _ (F : List Row) (o s s' : List ℕ) (d : is_delta F o ≡ false) (h : la
       ∷ (open-same j else 2)
       ∷ (head_rungs F o ++ ((held_same j else 11) ∷ (reads F o else 12) ∷ (ids-same j else 13) ∷ []))
 
-  start-same : (z : ℕ) → saying F o 10 ≡ some (z ∷ []) → bmdt F o s ≡ bmdt F o s'
+  start-same : (z : ℕ) → saying F o 10 ≡ Some (z ∷ []) → bmdt F o s ≡ bmdt F o s'
   unfolding bmdt
   start-same z q = rw q (bmdt-sent (track_of s) z [] (reference F o s) ∙ sym (bmdt-sent (track_of s') z [] (reference F o s')))
 
@@ -173,7 +173,7 @@ module _ (F : List Row) (o s s' : List ℕ) (d : is_delta F o ≡ false) (h : la
       let ids = ids-stand (is_delta F o) _ _ d (right _ _ (early-ids F o s k)) in
       let ten = some_is (saying F o 10) ids.0 in
       let one = one_number F o (head-inside F o (early-head F o s k)) ten.0 ten.1 in
-      let start : bmdt F o s ≡ bmdt F o s' = start-same one.0 (ten.1 ∙ ap some one.1) in
+      let start : bmdt F o s ≡ bmdt F o s' = start-same one.0 (ten.1 ∙ ap Some one.1) in
       let told : told_set F o s ≡ told_set F o s' =
       words-forgot (track_of s) (track_of s') (is_delta F o) (reference F o s) (reference F o s') (saying F o) _ _ d track-same start in
       record {
@@ -228,7 +228,7 @@ full-forgets F o output s s' d l l' h h' e =
 -- ---- any order is read
 
 module _ (F : List Row) (o o' s : List ℕ) (es us : List Entry) (hr : head_rungs F o ≡ head_rungs F o') (hd : is_delta F o ≡ is_delta F o')
-    (hp : payload F o ≡ payload F o') (t : tuples F o ≡ some es) (t' : tuples F o' ≡ some us) (p : Permᴰ es us) where
+    (hp : payload F o ≡ payload F o') (t : tuples F o ≡ Some es) (t' : tuples F o' ≡ Some us) (p : Permᴰ es us) where
   reads_turned : reads F o ≡ reads F o'
   unfolding reads
   reads_turned = ap (λ x. on_option x (readable F) false) t ∙ readable-perm F p ∙ sym (ap (λ x. on_option x (readable F) false) t')

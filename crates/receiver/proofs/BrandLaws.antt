@@ -4,7 +4,7 @@ use native.Mathlib.Omega.{arith}
 use mathlib.Core.Path.{◌≡◌, refl}
 use mathlib.Core.Bool.{Bool, true, not}
 use mathlib.Core.List.{List, []}
-use mathlib.Core.Option.{Option, none, some}
+use Rattle.std.specs.Prelude.{Option, Some, None}
 use borrow.Author.Tests.{eqb-true, eq-eqb, ne_eqb}
 use lib.Dec.{eqb}
 use lib.ListN.{length, get_or}
@@ -46,18 +46,18 @@ unfolding part_in
 brands-told F o index h = go (says_in F o index 23) refl (h.each 23 (omega arith) (λ z. omega arith))
   where
     go : (m : Option (List ℕ)) → says_in F o index 23 ≡ m → Tells F o (length o) index [] [] 23 m → BrandsTold o (part_in index 23) (numbers m)
-    go none e t =
+    go None e t =
         let z : get_or index (stands_at 23) 0 ≡ 0 = t 0 (omega arith) in
         rw (eq-eqb (get_or index (stands_at 23) 0) 0 z) (record { inside = omega arith; named = slice_empty 0 o; long = refl })
-    go (some bs) e t =
+    go (Some bs) e t =
         let w = part_says F o index h bs e in
         rw (ne_eqb (get_or index (stands_at 23) 0) 0 (λ z. omega (arith, t.first))) (record { inside = w.1; named = w.0; long = w.2 })
 
 -- some of four bytes each
 fours : (m : Option (List ℕ)) → brands_fit m ≡ true → length (numbers m) % 4 ≡ 0
 unfolding brands_fit
-fours none e = refl
-fours (some bs) e = eqb-true _ _ (and_right (not (eqb (length bs) 0)) _ e)
+fours None e = refl
+fours (Some bs) e = eqb-true _ _ (and_right (not (eqb (length bs) 0)) _ e)
 
 -- where the rules of the set hold
 pub brands-fours : (t : Track) (delta : Bool) (r : List ℕ) (says : Says) → Hold (set_rungs t delta r says) → length (numbers (says 23)) % 4 ≡ 0

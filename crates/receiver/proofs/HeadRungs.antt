@@ -11,8 +11,7 @@ use Rattle.constants.specs.Maxima.{block_most}
 use Rattle.laws.specs.Ladder.{Hold}
 use Rattle.laws.proofs.LadderLaws.{number_of, broken, passed}
 use Rattle.wire.specs.declared.form.Row.{Row}
-use Rattle.wire.specs.declared.varint.Got.{Got}
-use Rattle.wire.specs.declared.varint.Got.TheVariants.{Value, Cut}
+use Rattle.std.specs.Prelude.{Option, Some, None}
 use Rattle.wire.specs.Varint.{read_f, on_got}
 use Rattle.wire.proofs.VarintLaws.{read-size}
 use Rattle.locmaf_read_block.specs.Records.{number}
@@ -40,7 +39,7 @@ Says F o (Block p) = Opened F o p
 
 module _ (F : List Row) (o : List ℕ) where
   -- the numbers of the head, by what is read at its two places
-  module _ (id c : ℕ) (q : read_f F (drop 0 o) ≡ Value id c) where
+  module _ (id c : ℕ) (q : read_f F (drop 0 o) ≡ Some (id, c)) where
     reads-is : header_reads F o ≡ true
     unfolding header_reads number
     reads-is = rw q
@@ -53,16 +52,16 @@ module _ (F : List Row) (o : List ℕ) where
     unfolding length_at number
     length-at = rw q
 
-  reads-cut : read_f F (drop 0 o) ≡ Cut → header_reads F o ≡ false
+  reads-cut : read_f F (drop 0 o) ≡ None → header_reads F o ≡ false
   unfolding header_reads number
   reads-cut q = rw q
 
   module _ (p : ℕ) (e : length_at F o ≡ p) where
-    block-cut : read_f F (drop p o) ≡ Cut → block_reads F o ≡ false
+    block-cut : read_f F (drop p o) ≡ None → block_reads F o ≡ false
     unfolding block_reads number
     block-cut q = rw (e, q)
 
-    module _ (n c : ℕ) (q : read_f F (drop p o) ≡ Value n c) where
+    module _ (n c : ℕ) (q : read_f F (drop p o) ≡ Some (n, c)) where
       block-reads : block_reads F o ≡ leb n (length o - (p + c))
       unfolding block_reads number
       block-reads = rw (e, q)
@@ -82,7 +81,7 @@ module _ (F : List Row) (o : List ℕ) where
     unfolding head_rungs
     cut_off b = record { number = sym (passed _ 12 _ _ _ h (passed _ 10 _ _ _ k (broken _ 12 _ _ _ b))); some = λ z. omega arith }
 
-    sized : (n c : ℕ) → read_f F (drop p o) ≡ Value n c → (x y : Bool) → leb n (length o - (p + c)) ≡ x → leb n block_most ≡ y
+    sized : (n c : ℕ) → read_f F (drop p o) ≡ Some (n, c) → (x y : Bool) → leb n (length o - (p + c)) ≡ x → leb n block_most ≡ y
         → Says F o (cond x (cond y (Block (place_of delta (p + c) (p + c + n))) (Refused 15)) (Refused 12))
     unfolding head_rungs block_end
     sized n c q true true u v =
@@ -110,13 +109,13 @@ module _ (F : List Row) (o : List ℕ) where
     unfolding block_f number
     block-says = go (read_f F (drop p o)) refl
       where
-        go : (g : Got) → read_f F (drop p o) ≡ g
+        go : (g : Option (ℕ × ℕ)) → read_f F (drop p o) ≡ g
             → Says F o
             (on_got g
             (λ n c. cond (leb n (length o - (p + c))) (cond (leb n block_most) (Block (place_of delta (p + c) (p + c + n))) (Refused 15)) (Refused 12))
             (Refused 12))
-        go (Value n c) q = sized n c q (leb n (length o - (p + c))) (leb n block_most) refl refl
-        go Cut q = cut_off (block-cut p e q)
+        go (Some (n, c)) q = sized n c q (leb n (length o - (p + c))) (leb n block_most) refl refl
+        go None q = cut_off (block-cut p e q)
 
   module _ (id p : ℕ) (h : header_reads F o ≡ true) (i : header_id F o ≡ id) (e : length_at F o ≡ p) where
     kinds : (x y : Bool) → eqb id 23 ≡ x → eqb id 25 ≡ y → Says F o (cond x (block_f F o p false) (cond y (block_f F o p true) (Refused 10)))
@@ -135,11 +134,11 @@ module _ (F : List Row) (o : List ℕ) where
   unfolding head_of number head_rungs
   head-is = go (read_f F (drop 0 o)) refl
     where
-      go : (g : Got) → read_f F (drop 0 o) ≡ g
+      go : (g : Option (ℕ × ℕ)) → read_f F (drop 0 o) ≡ g
           → Says F o
           (on_got g (λ id c. cond (eqb id 23) (block_f F o (0 + c) false) (cond (eqb id 25) (block_f F o (0 + c) true) (Refused 10))) (Refused 12))
-      go (Value id c) q = kinds id (0 + c) (reads-is id c q) (id-is id c q) (length-at id c q) (eqb id 23) (eqb id 25) refl refl
-      go Cut q = record { number = sym (broken _ 12 _ _ _ (reads-cut q)); some = λ z. omega arith }
+      go (Some (id, c)) q = kinds id (0 + c) (reads-is id c q) (id-is id c q) (length-at id c q) (eqb id 23) (eqb id 25) refl refl
+      go None q = record { number = sym (broken _ 12 _ _ _ (reads-cut q)); some = λ z. omega arith }
 
   pub head-stopped : (k : ℕ) → head_of F o ≡ Refused k → Stopped F o k
   head-stopped k e = subst (Says F o) e head-is

@@ -4,8 +4,8 @@ use native.Mathlib.Omega.{arith}
 use mathlib.Core.Path.{◌≡◌, refl, sym, ◌∙◌, ap}
 use mathlib.Core.Bool.{Bool, true, false, ◌&&◌}
 use mathlib.Core.List.{List}
-use mathlib.Core.Option.{Option, none, some}
-use borrow.Author.Tests.{leb-true, lt-leb}
+use Rattle.std.specs.Prelude.{Option, Some, None}
+use borrow.Author.Tests.{leb-true}
 use lib.Dec.{leb}
 use lib.ListN.{length, get_or, replicate, length-replicate, length-drop, set as store}
 use Rattle.constants.specs.Maxima.{brand_bytes_most, events_most, event_bytes_most, payload_most, number_most}
@@ -33,8 +33,7 @@ use Rattle.field_rules.proofs.SetLaws.{words-bmdt}
 use Rattle.locmaf_read_set.proofs.NewSetLaws.{taken-facts, new-lawful, new-long}
 use Rattle.locmaf_read_head.specs.declared.head.Place.{Place}
 use Rattle.locmaf_read_times.specs.declared.prft.Told.{Told}
-use Rattle.locmaf_read_times.specs.declared.bmdt.Bmdt.{Bmdt}
-use Rattle.locmaf_read_times.specs.Bmdt.{bmdt_of, BmdtAs}
+use Rattle.locmaf_read_times.specs.Bmdt.{bmdt_of}
 use Rattle.slots.specs.declared.lawful.Side.TheVariants.{Receiver}
 use Rattle.share_words.specs.Share.{last_at}
 use Rattle.slots.specs.Share.{expected_in}
@@ -64,28 +63,6 @@ use Rattle.receiver.proofs.LeftLaws.{Like, new-like}
 pub first-held : (a b c : Bool) → a ≡ true → c ≡ b → c ≡ (a and b)
 unfolding ◌and◌
 first-held a b c e h = rw e h
-
--- ---- BMDT, as code has it
-
-module _ {b : Bmdt} {n : ℕ} (h : BmdtAs b n) where
-  -- it is small and told just where it is small, whatever else is asked
-  pub bmdt-small : (x : Bool) → (leb b.ticks.0 number_most && (b.told && x)) ≡ (leb n number_most && x)
-  bmdt-small x = go b.told refl
-    where
-      never : (f : Bool) → (f && false) ≡ false
-      never true = refl
-      never false = refl
-
-      go : (f : Bool) → b.told ≡ f → (leb b.ticks.0 number_most && (f && x)) ≡ (leb n number_most && x)
-      go true q = ap (λ (k : ℕ). leb k number_most && x) (h.is q)
-      go false q = never (leb b.ticks.0 number_most) ∙ sym (ap (λ (f : Bool). f && x) (lt-leb n number_most (omega (arith, h.past q))))
-
-  pub bmdt-told : leb n number_most ≡ true → b.ticks.0 ≡ n
-  bmdt-told e = go b.told refl
-    where
-      go : (f : Bool) → b.told ≡ f → b.ticks.0 ≡ n
-      go true q = h.is q
-      go false q = absurd (omega (arith, h.past q, leb-true n number_most e))
 
 -- ---- the rules of the values
 
@@ -192,8 +169,8 @@ pub record Gathered (F : List Row) (o s : List ℕ) (t : Track) (x : List ℕ) :
   pub bytes : all_le 255 o ≡ true
 
 size_of : (m : Option (List ℕ)) → on_option m length 0 ≡ length (numbers m)
-size_of none = refl
-size_of (some zs) = refl
+size_of None = refl
+size_of (Some zs) = refl
 
 module _ {F : List Row} {o s : List ℕ} {t : Track} {p : Place} {index ev : List ℕ} {b : ℕ} {r : Told} {q : Part} (w : Worked F o s t p index ev b r q) where
   scalar-said : (id : ℕ) → id % 2 ≡ 0 → scalar_in index id ≡ saying F o id
@@ -272,7 +249,7 @@ module _ {F : List Row} {o s : List ℕ} {t : Track} {p : Place} {index ev : Lis
   -- ---- the words of the new set
 
   module _ {x : List ℕ} (g : Gathered F o s t x) where
-    raw : (zs : List ℕ) → saying F o 9 ≡ some zs → all_le 255 zs ≡ true
+    raw : (zs : List ℕ) → saying F o 9 ≡ Some zs → all_le 255 zs ≡ true
     raw zs e = raw-bytes F o g.bytes zs e
 
     long : length (reference F o s) ≡ set_len

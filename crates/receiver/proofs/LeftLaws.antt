@@ -4,7 +4,7 @@ use native.Mathlib.Omega.{arith}
 use mathlib.Core.Path.{◌≡◌, refl, ◌∙◌, ap}
 use mathlib.Core.Bool.{Bool, true, false, cond, not, ◌&&◌, ◌||◌}
 use mathlib.Core.List.{List}
-use mathlib.Core.Option.{none, some}
+use Rattle.std.specs.Prelude.{Some, None}
 use lib.Dec.{eqb}
 use lib.ListN.{length, get_or}
 use lib.Seq.{slice, sets, length-sets}
@@ -120,7 +120,7 @@ unsaid F o index = go (eqb (get_or index (stands_at 9) 0) 0)
     bytes : List ℕ
     bytes = slice (get_or index (stands_at 9) 0 - 1) (get_or index (stands_at 9) 0 - 1 + get_or index (number_at 9) 0) o
 
-    go : (b : Bool) → b ≡ not (is_some (cond b none (some bytes)))
+    go : (b : Bool) → b ≡ not (is_some (cond b None (Some bytes)))
     go true = refl
     go false = refl
 

@@ -7,7 +7,6 @@ use mathlib.Core.Path.{◌≡◌, refl, sym, ◌∙◌, ap}
 use mathlib.Core.Bool.{true, ◌||◌}
 use mathlib.Core.List.Permᴰ
 use mathlib.Core.List.{List, [], ◌∷◌, ◌++◌, map, flatten, append_assoc, Permᴰ}
-use mathlib.Core.Option.{some}
 use borrow.Author.Tests.{le-leb}
 use lib.Dec.{eqb, leb}
 use lib.ListN.{length, drop, length-append}
@@ -16,7 +15,7 @@ use Rattle.constants.specs.Maxima.{block_most}
 use Rattle.laws.specs.Ladder.{Rung, ◌else◌}
 use Rattle.laws.proofs.ListLaws.{flatten-long}
 use Rattle.wire.specs.declared.form.Row.{Row}
-use Rattle.wire.specs.declared.varint.Got.TheVariants.{Value}
+use Rattle.std.specs.Prelude.{Some}
 use Rattle.wire.specs.Varint.{read_f}
 use Rattle.wire.proofs.VarintLaws.{read_more}
 use Rattle.locmaf_read_block.specs.Records.{number}
@@ -44,7 +43,7 @@ module _ {F : List Row} {o : List ℕ} (p : Parts F o) where
   block = flatten p.tuples
 
   -- the two numbers
-  first : read_f F (drop 0 o) ≡ Value p.id header
+  first : read_f F (drop 0 o) ≡ Some (p.id, header)
   first = ap (read_f F) p.bytes ∙ read_more F p.header _ p.id header p.header-reads
 
   header_is : header_id F o ≡ p.id
@@ -55,7 +54,7 @@ module _ {F : List Row} {o : List ℕ} (p : Parts F o) where
   unfolding length_at number
   length-at = rw first (zero-add header)
 
-  second : read_f F (drop (length_at F o) o) ≡ Value (length block) long
+  second : read_f F (drop (length_at F o) o) ≡ Some (length block, long)
   second =
       rw length-at
       (ap (λ (l : List ℕ). read_f F (drop header l)) p.bytes
@@ -108,7 +107,7 @@ module _ {F : List Row} {o : List ℕ} (p : Parts F o) where
       ∙ drop_at (p.header ++ p.long ++ block) p.payload (header + long + length block) front_long
 
   -- and its entries are its tuples', each by its own bytes
-  entries-are : tuples F o ≡ some (map (entry_in F) p.tuples)
+  entries-are : tuples F o ≡ Some (map (entry_in F) p.tuples)
   unfolding tuples
   entries-are =
       let n : length (p.header ++ p.long) ≡ header + long = length-append p.header p.long in

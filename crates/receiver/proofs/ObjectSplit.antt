@@ -6,15 +6,14 @@ use native.Mathlib.Omega.{arith}
 use mathlib.Core.Path.{◌≡◌, refl, sym, ◌∙◌, ap}
 use mathlib.Core.Bool.{true, false, false≢true}
 use mathlib.Core.List.{List, flatten}
-use mathlib.Core.Option.{Option, none, some, map}
 use lib.Dec.{leb}
 use lib.ListN.{length, take, drop, take-append-drop}
 use lib.Seq.{slice, length-take-le, length-slice, drop-drop}
 use Rattle.laws.proofs.SliceLaws.{slice-lent}
 use Rattle.laws.proofs.ListLaws.{fronts-same}
 use Rattle.wire.specs.declared.form.Row.{Row}
-use Rattle.wire.specs.declared.varint.Got.{Got}
-use Rattle.wire.specs.declared.varint.Got.TheVariants.{Value, Cut as Ends}
+use Rattle.std.specs.Prelude.{Option, Some, None, option_map}
+use Rattle.std.proofs.lemmas.Option.{none-some}
 use Rattle.wire.specs.Varint.{read_f, on_got}
 use Rattle.wire.proofs.VarintLaws.{read-size, read-prefix, read-once}
 use Rattle.locmaf_read_block.specs.declared.tuples.Tuple.{Tuple}
@@ -27,38 +26,38 @@ use Rattle.receiver.specs.Parts.{Parts}
 use Rattle.receiver.proofs.SaidLaws.{block_inside}
 
 module _ (F : List Row) (o : List ℕ) where
-  header-inv : header_reads F o ≡ true → (id : ℕ) × (read_f F o ≡ Value id (length_at F o))
+  header-inv : header_reads F o ≡ true → (id : ℕ) × (read_f F o ≡ Some (id, length_at F o))
   unfolding header_reads length_at number
   header-inv h = go (read_f F o) h
     where
-      go : (g : Got) → on_got g (λ v k. true) false ≡ true → (id : ℕ) × (g ≡ Value id (on_got g (λ v k. 0 + k) 0))
-      go (Value id k) e = (id, ap (Value id) (sym (zero-add k)))
-      go Ends e = absurd (false≢true e)
+      go : (g : Option (ℕ × ℕ)) → on_got g (λ v k. true) false ≡ true → (id : ℕ) × (g ≡ Some (id, on_got g (λ v k. 0 + k) 0))
+      go (Some (id, k)) e = (id, ap (λ n. Some (id, n)) (sym (zero-add k)))
+      go None e = absurd (false≢true e)
 
   length-inv : block_reads F o ≡ true
-      → (j : ℕ) × (read_f F (drop (length_at F o) o) ≡ Value (block_length F o) j) × (block_at F o ≡ length_at F o + j)
+      → (j : ℕ) × (read_f F (drop (length_at F o) o) ≡ Some (block_length F o, j)) × (block_at F o ≡ length_at F o + j)
   unfolding block_reads block_length block_at number
   length-inv h = go (read_f F (drop q o)) h
     where
       q : ℕ
       q = length_at F o
 
-      go : (g : Got) → on_got g (λ n k. leb n (length o - (q + k))) false ≡ true
-          → (j : ℕ) × (g ≡ Value (on_got g (λ n k. n) 0) j) × (on_got g (λ n k. q + k) 0 ≡ q + j)
-      go (Value n k) e = (k, refl, refl)
-      go Ends e = absurd (false≢true e)
+      go : (g : Option (ℕ × ℕ)) → on_got g (λ n k. leb n (length o - (q + k))) false ≡ true
+          → (j : ℕ) × (g ≡ Some (on_got g (λ n k. n) 0, j)) × (on_got g (λ n k. q + k) 0 ≡ q + j)
+      go (Some (n, k)) e = (k, refl, refl)
+      go None e = absurd (false≢true e)
 
-  block-inv : (es : List Entry) → tuples F o ≡ some es → WholeTuples F (slice (block_at F o) (block_end F o) o)
+  block-inv : (es : List Entry) → tuples F o ≡ Some es → WholeTuples F (slice (block_at F o) (block_end F o) o)
   unfolding tuples entries_at
   block-inv es e = go (tuples_f F (block_at F o) (slice (block_at F o) (block_end F o) o)) refl e
     where
       go : (x : Option (List Tuple)) → tuples_f F (block_at F o) (slice (block_at F o) (block_end F o) o) ≡ x
-          → map (contents o) x ≡ some es → WholeTuples F (slice (block_at F o) (block_end F o) o)
-      go (some us) q d = split-whole F (block_at F o) (slice (block_at F o) (block_end F o) o) us q
-      go none q d = let z : ◌≡◌ {A = ℕ} 0 1 = cc in absurd (omega arith)
+          → option_map (contents o) x ≡ Some es → WholeTuples F (slice (block_at F o) (block_end F o) o)
+      go (Some us) q d = split-whole F (block_at F o) (slice (block_at F o) (block_end F o) o) us q
+      go None q d = absurd (none-some es d)
 
 -- so it has parts
-pub parts-of : (F : List Row) (o : List ℕ) (es : List Entry) → header_reads F o ≡ true → block_reads F o ≡ true → tuples F o ≡ some es → Parts F o
+pub parts-of : (F : List Row) (o : List ℕ) (es : List Entry) → header_reads F o ≡ true → block_reads F o ≡ true → tuples F o ≡ Some es → Parts F o
 unfolding block_end
 parts-of F o es h b e =
     let a = header-inv F o h in
@@ -82,8 +81,8 @@ parts-of F o es h b e =
       payload = drop n (drop j (drop k o));
       bytes = rw front (sym (simp take-append-drop));
       id = a.0;
-      header-reads = read-prefix F o a.0 k a.1 ∙ ap (Value a.0) (sym lk);
-      length-reads = read-prefix F (drop k o) n j c.1 ∙ (λ i. Value (sym ln i) (sym lj i));
+      header-reads = read-prefix F o a.0 k a.1 ∙ ap (λ n. Some (a.0, n)) (sym lk);
+      length-reads = read-prefix F (drop k o) n j c.1 ∙ (λ i. Some (sym ln i, sym lj i));
       whole = w.2;
     }
 

@@ -4,7 +4,6 @@ use native.Mathlib.Omega.{arith}
 use mathlib.Core.Path.{◌≡◌, refl, sym, ◌∙◌, ap}
 use mathlib.Core.Bool.{Bool, true, false, cond, false≢true}
 use mathlib.Core.List.{List, [], ◌∷◌}
-use mathlib.Core.Option.{Option, none, some, map}
 use borrow.Author.Tests.{leb-true, eqb-true, eq-eqb}
 use lib.Dec.{eqb, leb}
 use lib.ListN.{length, drop, length-drop}
@@ -14,8 +13,7 @@ use Rattle.laws.specs.Ladder.{Hold}
 use Rattle.laws.proofs.BytesLaws.{bytes-are}
 use Rattle.laws.proofs.TestLaws.{low-slice}
 use Rattle.wire.specs.declared.form.Row.{Row}
-use Rattle.wire.specs.declared.varint.Got.{Got}
-use Rattle.wire.specs.declared.varint.Got.TheVariants.{Value, Cut as Ends}
+use Rattle.std.specs.Prelude.{Option, Some, None, option_map}
 use Rattle.wire.specs.Varint.{read_f, on_got}
 use Rattle.wire.specs.Form.{limit}
 use Rattle.wire.proofs.FormLaws.{Lawful}
@@ -41,13 +39,13 @@ block_inside F o h = go (read_f F (drop (length_at F o) o)) refl h
     q : ℕ
     q = length_at F o
 
-    go : (g : Got) → read_f F (drop q o) ≡ g → on_got g (λ n k. leb n (length o - (q + k))) false ≡ true
+    go : (g : Option (ℕ × ℕ)) → read_f F (drop q o) ≡ g → on_got g (λ n k. leb n (length o - (q + k))) false ≡ true
         → on_got g (λ n k. q + k) 0 + on_got g (λ n k. n) 0 ≤ length o
-    go (Value n k) r e =
+    go (Some (n, k)) r e =
         let b = read-size F (drop q o) n k r in
         let le : n ≤ length o - (q + k) = leb-true _ _ e in
         omega (arith, b.0, b.1, length-drop q o)
-    go Ends r e = absurd (false≢true e)
+    go None r e = absurd (false≢true e)
 
 pub head-inside : (F : List Row) (o : List ℕ) → Hold (head_rungs F o) → block_end F o ≤ length o
 unfolding head_rungs
@@ -57,32 +55,32 @@ head-inside F o h = block_inside F o h.1.1.0
 
 -- something holds of what an entry has for an id
 module _ (F : List Row) (o : List ℕ) (id : ℕ) (P : List ℕ → Type 0) (Q : Tuple → Type 0)
-    (step : (t : Tuple) → t.id ≡ id → Q t → (zs : List ℕ) → body F id (bytes_of o (part_of t.kind)) ≡ some zs → P zs) where
-  run-says : (ts : List Tuple) → AllOf Q ts → (zs : List ℕ) → says F (contents o ts) id ≡ some zs → P zs
+    (step : (t : Tuple) → t.id ≡ id → Q t → (zs : List ℕ) → body F id (bytes_of o (part_of t.kind)) ≡ Some zs → P zs) where
+  run-says : (ts : List Tuple) → AllOf Q ts → (zs : List ℕ) → says F (contents o ts) id ≡ Some zs → P zs
   unfolding says entry content
   run-says [] a zs e = let z : ◌≡◌ {A = ℕ} 0 1 = cc in absurd (omega arith)
   run-says (t ∷ ts) a zs e = go (eqb t.id id) refl (run-says ts a.1) e
     where
-      go : (b : Bool) → eqb t.id id ≡ b → ((ws : List ℕ) → says F (contents o ts) id ≡ some ws → P ws)
-          → on_option (cond b (some (bytes_of o (part_of t.kind))) (entry id (contents o ts))) (body F id) none ≡ some zs → P zs
+      go : (b : Bool) → eqb t.id id ≡ b → ((ws : List ℕ) → says F (contents o ts) id ≡ Some ws → P ws)
+          → on_option (cond b (Some (bytes_of o (part_of t.kind))) (entry id (contents o ts))) (body F id) None ≡ Some zs → P zs
       go true q ih d = step t (eqb-true _ _ q) a.0 zs d
       go false q ih d = ih zs d
 
   -- no entries say nothing
-  none_said : (ws : List ℕ) → says F [] id ≡ some ws → ⊥
+  none_said : (ws : List ℕ) → says F [] id ≡ Some ws → ⊥
   unfolding says entry
   none_said ws d = let z : ◌≡◌ {A = ℕ} 0 1 = cc in omega arith
 
   -- of what the object says
-  object-says : AllOf Q (tuples_run F (block_at F o) (slice (block_at F o) (block_end F o) o)).items → (zs : List ℕ) → saying F o id ≡ some zs → P zs
+  object-says : AllOf Q (tuples_run F (block_at F o) (slice (block_at F o) (block_end F o) o)).items → (zs : List ℕ) → saying F o id ≡ Some zs → P zs
   unfolding entries tuples entries_at tuples_f wholly
   object-says a zs e = go (tuples_run F (block_at F o) (slice (block_at F o) (block_end F o) o)) a e
     where
       go : (r : Series Tuple) → AllOf Q r.items
-          → says F (on_option (map (contents o) (cond r.whole (some r.items) none)) (λ es. es) []) id ≡ some zs → P zs
+          → says F (on_option (option_map (contents o) (cond r.whole (Some r.items) None)) (λ es. es) []) id ≡ Some zs → P zs
       go r b d = whole r.whole d
         where
-          whole : (w : Bool) → says F (on_option (map (contents o) (cond w (some r.items) none)) (λ es. es) []) id ≡ some zs → P zs
+          whole : (w : Bool) → says F (on_option (option_map (contents o) (cond w (Some r.items) None)) (λ es. es) []) id ≡ Some zs → P zs
           whole true d' = run-says r.items b zs d'
           whole false d' = absurd (none_said zs d')
 
@@ -94,7 +92,7 @@ all_of Q h (x ∷ xs) = (h x, all_of Q h xs)
 -- ---- bytes
 
 -- what is said of id 9 are bytes of the object
-pub raw-bytes : (F : List Row) (o : List ℕ) → all_le 255 o ≡ true → (zs : List ℕ) → saying F o 9 ≡ some zs → all_le 255 zs ≡ true
+pub raw-bytes : (F : List Row) (o : List ℕ) → all_le 255 o ≡ true → (zs : List ℕ) → saying F o 9 ≡ Some zs → all_le 255 zs ≡ true
 unfolding body
 raw-bytes F o h zs e =
     object-says F o 9 (λ ws. all_le 255 ws ≡ true) (λ t. Unit {0})
@@ -107,7 +105,7 @@ raw-bytes F o h zs e =
 -- ---- numbers
 
 -- what is said of an even id is a number that the form holds
-pub number_small : (F : List Row) → Lawful 0 F → (o : List ℕ) → all_le 255 o ≡ true → (id z : ℕ) (zs : List ℕ) → id % 2 ≡ 0 → saying F o id ≡ some (z ∷ zs)
+pub number_small : (F : List Row) → Lawful 0 F → (o : List ℕ) → all_le 255 o ≡ true → (id z : ℕ) (zs : List ℕ) → id % 2 ≡ 0 → saying F o id ≡ Some (z ∷ zs)
     → z < limit F
 unfolding body
 number_small F w o h id z zs even e =
@@ -119,13 +117,13 @@ number_small F w o h id z zs even e =
     (all_of {A = Tuple} (λ t. Unit {0}) (λ t. tt) (tuples_run F (block_at F o) (slice (block_at F o) (block_end F o) o)).items) (z ∷ zs) e z zs refl
 
 -- what is said of id 10 is one number
-pub one_number : (F : List Row) (o : List ℕ) → block_end F o ≤ length o → (zs : List ℕ) → saying F o 10 ≡ some zs → (z : ℕ) × (zs ≡ z ∷ [])
+pub one_number : (F : List Row) (o : List ℕ) → block_end F o ≤ length o → (zs : List ℕ) → saying F o 10 ≡ Some zs → (z : ℕ) × (zs ≡ z ∷ [])
 unfolding body
 one_number F o h zs e =
     object-says F o 10 (λ ws. (z : ℕ) × (ws ≡ z ∷ [])) (Proper F o (block_end F o))
     (λ t q p ws d.
     let even : t.id % 2 ≡ 0 = ap (λ (i : ℕ). i % 2) q in
-    let two : ◌≡◌ {A = Option (List ℕ)} (some ws) (some (t.number ∷ [])) = sym d ∙ p.scalar even in
+    let two : ◌≡◌ {A = Option (List ℕ)} (Some ws) (Some (t.number ∷ [])) = sym d ∙ p.scalar even in
     let same : ws ≡ t.number ∷ [] = cc in
     (t.number, same))
     (all-proper F o (block_end F o) h (block_at F o)) zs e

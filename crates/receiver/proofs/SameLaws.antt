@@ -3,7 +3,7 @@ use Prim.Native.Nat.{ℕ}
 use mathlib.Core.Path.{◌≡◌, refl}
 use mathlib.Core.Bool.{true, false, ◌&&◌}
 use mathlib.Core.List.{List, [], ◌∷◌, ◌++◌}
-use mathlib.Core.Option.{none}
+use Rattle.std.specs.Prelude.{None}
 use lib.Dec.{leb}
 use lib.ListN.{length, drop}
 use Rattle.constants.specs.Maxima.{subsamples_most, brand_bytes_most, events_most, event_bytes_most, payload_most, number_most}
@@ -11,7 +11,6 @@ use Rattle.laws.specs.Tests.{◌and◌, sum}
 use Rattle.laws.specs.Ladder.{Rung, ◌else◌}
 use Rattle.wire.specs.declared.form.Row.{Row}
 use Rattle.wire.specs.declared.zigzag.Coding.TheVariants.{Plain}
-use Rattle.wire.specs.Zigzag.{on_reached}
 use Rattle.track.specs.declared.Track.{Track}
 use Rattle.field_table.specs.declared.lines.Line.{Line}
 use Rattle.field_table.specs.declared.lines.Measure.{Measure}
@@ -32,6 +31,7 @@ use Rattle.effective.specs.Sums.{sizes_ok, protected_ok}
 use Rattle.answers.specs.Took.{took}
 use Rattle.receiver.specs.Object.{is_delta, head_rungs, saying, payload}
 use Rattle.receiver.specs.Receive.{reference, bmdt, prft, events, brands, told_set, new_set, values_ok, sums_ok, ivs_fit, held_ok, split_rungs, value_rungs, sequence, chunk, done, room_rungs, receive_rungs}
+use Rattle.laws.specs.Options.{on_option}
 
 -- ---- the rungs in two parts
 
@@ -135,6 +135,6 @@ module _ (t : Track) (says : Says) (r r' : List ℕ) where
       ∷ []
 
   -- and its rules, where it deletes nothing
-  pub rules-full : says 27 ≡ none → set_rungs t false r says ≡ set_rungs t false r' says
+  pub rules-full : says 27 ≡ None → set_rungs t false r says ≡ set_rungs t false r' says
   unfolding set_rungs count_reached deletions_ok
-  rules-full q = rw q (λ j. (true else 14) ∷ (on_reached (count_reached t false r says) (λ _. true) false else 15) ∷ fields-full j)
+  rules-full q = rw q (λ j. (true else 14) ∷ (on_option (count_reached t false r says) (λ _. true) false else 15) ∷ fields-full j)

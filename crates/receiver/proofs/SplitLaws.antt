@@ -5,7 +5,7 @@ use mathlib.Core.Path.{◌≡◌, refl, sym, ◌∙◌, ap, subst}
 use mathlib.Core.Logic.{⊎_elim}
 use mathlib.Core.Bool.{Bool, true, false, cond, not}
 use mathlib.Core.List.{List}
-use mathlib.Core.Option.{none, some}
+use Rattle.std.specs.Prelude.{Some, None}
 use lib.Dec.{eqb}
 use lib.ListN.{length, get_or, replicate, length-replicate}
 use Rattle.laws.specs.Tests.{◌and◌}
@@ -50,7 +50,7 @@ module _ (F : List Row) (o s : List ℕ) where
   split_done e h = passed _ _ _ _ _ e (passed _ _ _ _ _ h (top _ _))
 
   -- what the tuples say of the two tests
-  module _ (es : List Entry) (q : tuples F o ≡ some es) where
+  module _ (es : List Entry) (q : tuples F o ≡ Some es) where
     reads-is : reads F o ≡ readable F es
     unfolding reads
     reads-is = rw q
@@ -67,7 +67,7 @@ module _ (F : List Row) (o s : List ℕ) where
     unfolding ids_right ◌and◌
     ids-clean e = let z : lawful (entries F o) ≡ true = ap lawful entries-is ∙ e in rw z
 
-  reads_none : tuples F o ≡ none → reads F o ≡ false
+  reads_none : tuples F o ≡ None → reads F o ≡ false
   unfolding reads
   reads_none q = rw q
 
@@ -135,7 +135,7 @@ module _ {F : List Row} {o s : List ℕ} {t : Track} {p : Place} {x : Index} (n 
       record {
         answered =
             split-cut F o s
-            (⊎_elim (reads_none F o s) (λ (u : (es : List Entry) × (tuples F o ≡ some es) × (readable F es ≡ false)). reads-is F o s u.0 u.1 ∙ u.2)
+            (⊎_elim (reads_none F o s) (λ (u : (es : List Entry) × (tuples F o ≡ Some es) × (readable F es ≡ false)). reads-is F o s u.0 u.1 ∙ u.2)
             (answer-cut F (tuples F o) (sym answered ∙ e)));
         split = not-zero F o s 12 index events (λ z. omega arith);
       }
@@ -151,10 +151,10 @@ module _ {F : List Row} {o s : List ℕ} {t : Track} {p : Place} {x : Index} (n 
 
   -- all is read
   module _ (clean : x.answer ≡ Clean) where
-    read : (es : List Entry) × (tuples F o ≡ some es) × (readable F es ≡ true) × (lawful es ≡ true)
+    read : (es : List Entry) × (tuples F o ≡ Some es) × (readable F es ≡ true) × (lawful es ≡ true)
     read = answer-clean F (tuples F o) (sym answered ∙ clean)
 
-    at_block : entries_at F o (block_at F o) (block_end F o) ≡ some read.0
+    at_block : entries_at F o (block_at F o) (block_end F o) ≡ Some read.0
     unfolding tuples
     at_block = read.1
 

@@ -5,7 +5,7 @@ use native.Mathlib.Omega.{arith}
 use mathlib.Core.Path.{◌≡◌, refl, sym, ◌∙◌, ap, subst}
 use mathlib.Core.Bool.{Bool, true, false}
 use mathlib.Core.List.{List, [], ◌∷◌, ◌++◌}
-use mathlib.Core.Option.{some}
+use Rattle.std.specs.Prelude.{Some}
 use borrow.Author.Tests.{le-leb}
 use lib.ListN.{length, drop}
 use lib.Seq.{drop-length}
@@ -187,7 +187,7 @@ full-ranged : (form : Form) (o s : List ℕ) → all_le 255 o ≡ true → (prft
 unfolding prft
 full-ranged form o s b e d =
     let F : List Row = rows form in
-    let small : (id z : ℕ) (zs : List ℕ) → id % 2 ≡ 0 → saying F o id ≡ some (z ∷ zs) → z ≤ number_most =
+    let small : (id z : ℕ) (zs : List ℕ) → id % 2 ≡ 0 → saying F o id ≡ Some (z ∷ zs) → z ≤ number_most =
     λ id z zs even q. omega (arith, number_small F (form-lawful form) o b id z zs even q, limit-most form) in
     rw d (prft-lawful (saying F o) s small (rw d at e))
 

@@ -1,8 +1,7 @@
 -- What is to be shown of receiving an object.
 -- ==== What is shown of the rules
-use Rattle.std.specs.Prelude.{ℕ, ◌≡◌, true, false, length, take}
+use Rattle.std.specs.Prelude.{ℕ, ◌≡◌, true, false, length, take, Some}
 use mathlib.Core.List.{List, [], ◌++◌, Permᴰ}
-use Rattle.std.proofs.Math.Option.{some}
 use Rattle.laws.specs.Tests.{all_le}
 use Rattle.laws.specs.Ladder.{Given}
 use Rattle.wire.specs.declared.form.Row.{Row}
@@ -56,5 +55,5 @@ FullForgets = (F : List Row) (o output s s' : List ℕ) → is_delta F o ≡ fal
 -- 01: "any order is read": the order of the tuples changes nothing, be the ids lawful or not
 abbrev pub AnyOrder : Type 0
 AnyOrder = (F : List Row) (o o' output s : List ℕ) (es us : List Entry) → head_rungs F o ≡ head_rungs F o' → is_delta F o ≡ is_delta F o'
-    → payload F o ≡ payload F o' → tuples F o ≡ some es → tuples F o' ≡ some us → Permᴰ es us
+    → payload F o ≡ payload F o' → tuples F o ≡ Some es → tuples F o' ≡ Some us → Permᴰ es us
     → receiving F o output s ≡ receiving F o' output s

@@ -1,7 +1,6 @@
 -- An object taken apart. Where a number is cut, 0 stands for it: the object is refused before anything goes by it.
 -- ==== The rules
-use Rattle.std.specs.Prelude.{ℕ, ◌+◌, ◌-◌, Bool, true, false, ◌||◌, List, [], ◌∷◌, eqb, leb, length, drop}
-use Rattle.std.proofs.Math.Option.{Option}
+use Rattle.std.specs.Prelude.{ℕ, ◌+◌, ◌-◌, Bool, true, false, ◌||◌, List, [], ◌∷◌, eqb, leb, length, drop, Option}
 use Rattle.laws.specs.Ladder.{Rung, ◌else◌}
 use Rattle.constants.specs.Ids.{full_id, delta_id}
 use Rattle.constants.specs.Maxima.{block_most}

@@ -3,7 +3,7 @@
 use Rattle.std.specs.Prelude.{ℕ, ◌≡◌, length}
 use mathlib.Core.List.{List, ◌++◌, flatten}
 use Rattle.wire.specs.declared.form.Row.{Row}
-use Rattle.wire.specs.declared.varint.Got.TheVariants.{Value}
+use Rattle.std.specs.Prelude.{Some}
 use Rattle.wire.specs.Varint.{read_f}
 use Rattle.locmaf_read_block.specs.Whole.{WholeTuple}
 use Rattle.laws.specs.Each.{AllOf}
@@ -16,6 +16,6 @@ pub record Parts (F : List Row) (o : List ℕ) : Type 0 where
   pub payload : List ℕ
   pub bytes : o ≡ header ++ (long ++ (flatten tuples ++ payload))
   pub id : ℕ
-  pub header-reads : read_f F header ≡ Value id (length header)
-  pub length-reads : read_f F long ≡ Value (length (flatten tuples)) (length long)
+  pub header-reads : read_f F header ≡ Some (id, length header)
+  pub length-reads : read_f F long ≡ Some (length (flatten tuples), length long)
   pub whole : AllOf (WholeTuple F) tuples

@@ -62,21 +62,22 @@ struct Values {
     brands: Part,
 }
 
-// The values of an object with so many bytes of payload and so many events.
+// The values of an object with so many bytes of payload and so many events. A BMDT past 64 bits counts as the greatest that they hold, which is past its
+// maximum too.
 fn values_of(delta: bool, payload: usize, events: usize, s: &[u64], index: &[u64]) -> Values
     requires { (length index.now ≡ index_len) × (length s.now ≡ share_len) }
     ensures { (t : Track) → expected_in s.now ≡ expected_by (next_time t (drop set_at s.now))
         → ValuesTold t delta payload events s.now index.now result }
 {
     let b = locmaf_read_times::bmdt::bmdt_of(index, slots::lawful::expected_of(s));
+    let bmdt = b.unwrap_or(TrackTicks(u64::MAX));
     let told = locmaf_read_times::prft::prft_of(delta, index, s);
     let brands = part_of(index, ids::BRANDS as usize);
     let most = (payload <= maxima::PAYLOAD as usize)
         & ((brands.len <= maxima::BRAND_BYTES)
             & ((events <= maxima::EVENTS) & (index[places::EVENTS_LENGTH] <= maxima::EVENT_BYTES)));
     let prft = told.prft;
-    let bmdt = b.ticks;
-    let ok = (bmdt.0 <= maxima::NUMBER) & (b.told & (told.ok & most));
+    let ok = (bmdt.0 <= maxima::NUMBER) & (told.ok & most);
     Values {
         ok,
         bmdt,

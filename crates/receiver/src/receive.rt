@@ -21,7 +21,7 @@ use event_value::ALL_WORDS;
 use field_table::lines;
 use locmaf_read_head::head::{Head, Place};
 use share_words::share;
-use share_words::share::{SHARE, TABLE};
+use share_words::share::SHARE;
 use slots::lawful;
 use slots::lawful::Side;
 use track::Track;
@@ -226,17 +226,14 @@ pub fn receive<'a>(
         (receiving (rows Rfc9000) object.now output.old)
         table.old slot }
 {
-    if table.len() != TABLE {
-        *number = 18;
-        *front = 0;
-        return &object[..0];
-    }
-    if 7 < slot {
-        *number = 1;
-        *front = 0;
-        return &object[..0];
-    }
-    let at = share::start_of(slot);
+    let at = match slots::calls::place_in(table, slot) {
+        Ok(at) => at,
+        Err(k) => {
+            *number = k;
+            *front = 0;
+            return &object[..0];
+        }
+    };
     take_object(
         Form::Rfc9000,
         object,

@@ -26,15 +26,13 @@ fn copy_set(s: &mut [u64], x: &[u64])
 {
     words::copy(x, lines::BMDT, lines::SIZES, &mut *s, share::SET);
     let mut from = lines::SIZES;
-    let mut i = 0;
-    while i < lines::LINES {
+    for i in 0..lines::LINES {
         let to = lines::place_at(i + 1);
         let at = share::SET + from;
         if (s[at] != 0) | (x[from] != 0) {
             words::copy(x, from, to - from, &mut *s, at);
         }
         from = to;
-        i += 1;
     }
 }
 

@@ -14,12 +14,10 @@ fn same_reference(table: &[u64]) -> bool {
     if table.len() < share::SHARE + share::SHARE {
         return false;
     }
-    let mut i = share::HELD;
-    while i < share::SHARE {
+    for i in share::HELD..share::SHARE {
         if table[i] != table[share::SHARE + i] {
             return false;
         }
-        i += 1;
     }
     true
 }

@@ -33,10 +33,8 @@ fn run_word<R: Env + Files + Print, E: Print>(
 pub fn given<R: Env + Files + Print, E: Print>(rt: &R, err: &E, o: Options) -> io::Result<Tally> {
     let mut t = tally::nothing();
     let n = arguments::how_many(rt);
-    let mut i = 1;
-    while i < n {
+    for i in 1..n {
         t = tally::with_track(t, run_word(rt, err, o, i)?);
-        i += 1;
     }
     Ok(t)
 }

@@ -5,13 +5,12 @@ use native.Mathlib.Omega.{arith}
 use mathlib.Core.Path.{◌≡◌, refl, sym, ap}
 use mathlib.Core.Bool.{Bool, true, false, not, ◌&&◌, ◌||◌, cond}
 use mathlib.Core.List.{List, [], ◌∷◌}
-use mathlib.Core.Option.{Option, none, some}
 use borrow.Author.Tests.{eqb-true, ne_eqb, not-false}
 use lib.Dec.{eqb}
 use lib.ListN.{length, get_or, drop}
+use Rattle.std.specs.Prelude.{Option, Some, None}
 use Rattle.constants.specs.Maxima.{samples_most}
 use Rattle.laws.proofs.TestLaws.{and_right, neither}
-use Rattle.wire.specs.declared.zigzag.Reached.TheVariants.{To}
 use Rattle.wire.specs.Zigzag.{wire_of}
 use Rattle.wire.proofs.ZigzagLaws.{back}
 use Rattle.track.specs.declared.Track.{Track}
@@ -37,7 +36,7 @@ use Rattle.reread.specs.Block.{said_if, block_says}
 use Rattle.reread.proofs.Known.{Known}
 
 -- what holds of numbers that are said, and of none, holds of those that stand under a condition
-pub said-by : (P : Option (List ℕ) → Type 0) (b : Bool) (zs : List ℕ) → (b ≡ true → P (some zs)) → (b ≡ false → P none) → P (said_if b zs)
+pub said-by : (P : Option (List ℕ) → Type 0) (b : Bool) (zs : List ℕ) → (b ≡ true → P (Some zs)) → (b ≡ false → P None) → P (said_if b zs)
 said-by P true zs h g = h refl
 said-by P false zs h g = g refl
 
@@ -91,14 +90,14 @@ module _ {s c : List ℕ} {delta : Bool} (k : Known s c delta) where
       by false = said-some (brands c)
 
   -- the count that was, or that is sent
-  count-back : n ≤ samples_most → count_reached t delta r f ≡ To n
+  count-back : n ≤ samples_most → count_reached t delta r f ≡ Some n
   unfolding block_says moof_field count_stands count_reached count_from wire_of
   count-back few = by delta (eqb n (get_or r count_at 0)) refl
     where
       by : (d e : Bool) → eqb n (get_or r count_at 0) ≡ e
-          → count_from (coding_for d) (cond (not d || not e) (some (wire_of (coding_for d) (get_or r count_at 0) n ∷ [])) none) (was_of t d r).count ≡ To n
+          → count_from (coding_for d) (cond (not d || not e) (Some (wire_of (coding_for d) (get_or r count_at 0) n ∷ [])) None) (was_of t d r).count ≡ Some n
       by false e q = back (coding_for false) 0 n samples_most few
-      by true true q = ap To (sym (eqb-true _ _ q))
+      by true true q = ap Some (sym (eqb-true _ _ q))
       by true false q = back (coding_for true) (get_or r count_at 0) n samples_most few
 
   -- all that the set is read from; brands that stand have four bytes each

@@ -4,10 +4,10 @@ use native.Mathlib.Omega.{arith}
 use mathlib.Core.Path.{◌≡◌, refl, sym, ◌∙◌, ap}
 use mathlib.Core.Bool.{Bool, true, false, cond}
 use mathlib.Core.List.{List, [], ◌∷◌}
-use mathlib.Core.Option.{none, some}
 use borrow.Author.Tests.{le-leb, lt-leb, ltb-true, not-false}
 use lib.Dec.{eqb, ltb}
 use lib.ListN.{get_or, drop}
+use Rattle.std.specs.Prelude.{Some, None}
 use Rattle.constants.specs.Ids.{id_count}
 use Rattle.laws.specs.Tests.{◌and◌}
 use Rattle.wire.specs.declared.form.Form.TheVariants.{Rfc9000}
@@ -52,7 +52,7 @@ unfolding event_items odd known ◌and◌
 events-tell [] h e = gap e done
 events-tell {f} (y ∷ ys) h e = go (times_fit F (y ∷ ys))
   where
-    go : (b : Bool) → Tells f 25 26 (cond b (some (run 25 (enc_events F (y ∷ ys)) ∷ [])) none)
+    go : (b : Bool) → Tells f 25 26 (cond b (Some (run 25 (enc_events F (y ∷ ys)) ∷ [])) None)
     go true = bytes-tell 25 _ _ refl (body-events F (lawful Rfc9000) (y ∷ ys) h) e
     go false = wide
 
@@ -63,11 +63,11 @@ unfolding every lines line_reads numeric bytes_as odd known ◌and◌
 all_read = refl
 
 -- nothing is said of a field that doesn't stand, deleted or not
-unsaid : (t : Track) (delta follow : Bool) (r x : List ℕ) (l : Line) → eqb (get_or x l.place 0) 0 ≡ true → line_says t delta follow r x l ≡ none
+unsaid : (t : Track) (delta follow : Bool) (r x : List ℕ) (l : Line) → eqb (get_or x l.place 0) 0 ≡ true → line_says t delta follow r x l ≡ None
 unfolding line_says change_of
 unsaid t delta follow r x l e = rw e (by (stood delta r l))
   where
-    by : (old : Bool) → numbers_by (cond old Deleted Omitted) (sent_numbers t delta r x l) ≡ none
+    by : (old : Bool) → numbers_by (cond old Deleted Omitted) (sent_numbers t delta r x l) ≡ None
     by true = refl
     by false = refl
 
@@ -82,14 +82,14 @@ module _ {s c : List ℕ} {delta : Bool} (k : Known s c delta) where
       line-tells _ _ _ _ _ (get_or lines i spare) (every-at line_reads lines i spare all_read (omega (arith, line-count))) (line-said k i lt)
 
   -- nothing is said of id 16, which no chunk has
-  no-sixteen : f 16 ≡ none
+  no-sixteen : f 16 ≡ None
   unfolding has lines line_for
   no-sixteen =
       line-said k 13 (omega arith)
       ∙ unsaid (track_of s) delta (leaves_out F s c delta) (drop set_at s) (fields (track_of s) c) (get_or lines iv_size_line spare) (not-false _ k.given.set.no-iv-size)
 
   -- nothing is said of an id past the last
-  past : (id : ℕ) → id_count ≤ id → f id ≡ none
+  past : (id : ℕ) → id_count ≤ id → f id ≡ None
   unfolding block_says moof_field
   past id le = rw (le-leb 1 id (omega arith), lt-leb id 16 (omega arith), le-leb id_count id le)
 
@@ -117,5 +117,5 @@ module _ {s c : List ℕ} {delta : Bool} (k : Known s c delta) where
       then tells-if 23 _ _ _ refl (bare-tells 23 (brands c) refl)
       then number-if 24 _ _ _ _ refl refl
       then events-tell _ k.sayable refl
-      then gap refl (tells-if 27 _ _ _ refl (λ e. list_tells 27 Plain 0 [] _ refl (e ∙ ap some (sym (plain-wires 0 _)))))))
+      then gap refl (tells-if 27 _ _ _ refl (λ e. list_tells 27 Plain 0 [] _ refl (e ∙ ap Some (sym (plain-wires 0 _)))))))
       k.fits past

@@ -5,12 +5,13 @@ use native.Mathlib.Omega.{arith}
 use mathlib.Core.Path.{◌≡◌, refl, sym, ◌∙◌, ap}
 use mathlib.Core.Bool.{Bool, true, false, false≢true, cond, not, ◌&&◌, ◌||◌}
 use mathlib.Core.List.{List, [], ◌∷◌}
-use mathlib.Core.Option.{none, some}
-use borrow.Author.Tests.{leb-true, eqb-true, eq-eqb, ne_eqb, not-true}
+use borrow.Author.Tests.{leb-true, eqb-true, eq-eqb, ne_eqb}
 use borrow.Table.Steps.{cases}
 use lib.Dec.{eqb}
 use lib.ListN.{length, get_or, replicate}
 use lib.Seq.{length-slice}
+use Rattle.std.specs.Prelude.{Some, None}
+use Rattle.std.proofs.lemmas.Bool.{and_left as no-left, and_right as no-right}
 use Rattle.laws.specs.Tests.{◌and◌, all_le, same}
 use Rattle.laws.proofs.TestLaws.{left, both_of, same-is}
 use Rattle.wire.specs.declared.zigzag.Coding.{Coding}
@@ -54,7 +55,7 @@ all-wide = refl
 -- a field as the object tells it: zeros keep the room of IVs that are left out
 abbrev pub told_field : Track → Bool → Bool → List ℕ → List ℕ → Line → Held
 told_field t delta follow r x l =
-    cond (stands t delta r x l && (is_ivs l.want && omits t delta follow r x l)) (some (replicate (wanted l.want (measure_of t x)) 0)) (field_in t x l)
+    cond (stands t delta r x l && (is_ivs l.want && omits t delta follow r x l)) (Some (replicate (wanted l.want (measure_of t x)) 0)) (field_in t x l)
 
 module _ {t : Track} {delta : Bool} {r x : List ℕ} (w : Writable t delta r x) (i : ℕ) (lt : i < line_count) where
   abbrev l : Line
@@ -108,7 +109,7 @@ module _ {t : Track} {delta : Bool} {r x : List ℕ} (w : Writable t delta r x) 
   wide-bound e = eqb-true _ _ (rw e at (every-at ivs_wide lines i spare all-wide (omega (arith, line-count))))
 
   -- one that is sent: IVs, a value, or a list
-  sent_back : stands t delta r x l ≡ true → cell (sent (sent_numbers t delta r x l)) ≡ well (some new)
+  sent_back : stands t delta r x l ≡ true → cell (sent (sent_numbers t delta r x l)) ≡ well (Some new)
   unfolding cell_of sent_numbers sent_list sent_one all_le
   sent_back s =
       cases (is_ivs l.want)
@@ -129,18 +130,18 @@ module _ {t : Track} {delta : Bool} {r x : List ℕ} (w : Writable t delta r x) 
       rw (a, o, eq-eqb (length (wires coding base old new)) k n, steps_back coding base l.bound old new (within s))))
 
   -- one that is deleted, or was never there, isn't there
-  none-deleted : cell deleted ≡ well none
+  none-deleted : cell deleted ≡ well None
   unfolding cell_of
   none-deleted = refl
 
-  none-there : stood delta r l ≡ false → cell omitted ≡ well none
+  none-there : stood delta r l ≡ false → cell omitted ≡ well None
   unfolding cell_of
   none-there o = rw o
 
   -- `follow` says that the IVs follow
   module _ (follow : Bool) where
     -- a field that is omitted is what it was
-    kept_back : is_ivs l.want ≡ false → omits t delta follow r x l ≡ true → cell omitted ≡ well (some new)
+    kept_back : is_ivs l.want ≡ false → omits t delta follow r x l ≡ true → cell omitted ≡ well (Some new)
     unfolding cell_of carried
     kept_back v e =
         let (s, more) = both_of (stood delta r l) (cond (is_ivs l.want) follow (same old new)) e in
@@ -149,7 +150,7 @@ module _ {t : Track} {delta : Bool} {r x : List ℕ} (w : Writable t delta r x) 
         rw (s, v, eq-eqb j k m, q)
 
     -- but for IVs, which get room
-    room_back : is_ivs l.want ≡ true → omits t delta follow r x l ≡ true → cell omitted ≡ well (some (replicate k 0))
+    room_back : is_ivs l.want ≡ true → omits t delta follow r x l ≡ true → cell omitted ≡ well (Some (replicate k 0))
     unfolding cell_of carried
     room_back v e = let s : stood delta r l ≡ true = (both_of (stood delta r l) (cond (is_ivs l.want) follow (same old new)) e).0 in rw (s, v)
 
@@ -171,17 +172,17 @@ module _ {t : Track} {delta : Bool} {r x : List ℕ} (w : Writable t delta r x) 
     said-never a o = rw (a, o)
 
     -- how it is told
-    told-room : stands t delta r x l ≡ true → is_ivs l.want ≡ true → omits t delta follow r x l ≡ true → told_field t delta follow r x l ≡ some (replicate k 0)
-    told-room a v e = λ z. cond (a z && (v z && e z)) (some (replicate k 0)) (field_in t x l)
+    told-room : stands t delta r x l ≡ true → is_ivs l.want ≡ true → omits t delta follow r x l ≡ true → told_field t delta follow r x l ≡ Some (replicate k 0)
+    told-room a v e = λ z. cond (a z && (v z && e z)) (Some (replicate k 0)) (field_in t x l)
 
     told-own : (stands t delta r x l && (is_ivs l.want && omits t delta follow r x l)) ≡ false → told_field t delta follow r x l ≡ field_in t x l
-    told-own e = ap (λ (b : Bool). cond b (some (replicate k 0)) (field_in t x l)) e
+    told-own e = ap (λ (b : Bool). cond b (Some (replicate k 0)) (field_in t x l)) e
 
-    own_new : stands t delta r x l ≡ true → field_in t x l ≡ some new
-    own_new a = ap (λ (b : Bool). cond b (some new) none) a
+    own_new : stands t delta r x l ≡ true → field_in t x l ≡ Some new
+    own_new a = ap (λ (b : Bool). cond b (Some new) None) a
 
-    own-none : stands t delta r x l ≡ false → field_in t x l ≡ none
-    own-none a = ap (λ (b : Bool). cond b (some new) none) a
+    own-none : stands t delta r x l ≡ false → field_in t x l ≡ None
+    own-none a = ap (λ (b : Bool). cond b (Some new) None) a
 
     -- whichever
     pub field_back : cell (line_saying t delta follow r x l) ≡ well (told_field t delta follow r x l)
@@ -192,22 +193,9 @@ module _ {t : Track} {delta : Bool} {r x : List ℕ} (w : Writable t delta r x) 
         (λ e.
         cases (is_ivs l.want)
         (λ v. ap cell (said-omitted a e) ∙ room_back v e ∙ sym (ap well (told-room a v e)))
-        (λ v. ap cell (said-omitted a e) ∙ kept_back v e ∙ sym (ap well (told-own (other (stands t delta r x l) (is_ivs l.want) _ v) ∙ own_new a))))
-        (λ e. ap cell (said-sent a e) ∙ sent_back a ∙ sym (ap well (told-own (last (stands t delta r x l) (is_ivs l.want) _ e) ∙ own_new a))))
+        (λ v. ap cell (said-omitted a e) ∙ kept_back v e ∙ sym (ap well (told-own (no-right _ _ (no-left _ _ v)) ∙ own_new a))))
+        (λ e. ap cell (said-sent a e) ∙ sent_back a ∙ sym (ap well (told-own (no-right _ _ (no-right _ _ e)) ∙ own_new a))))
         (λ a.
         cases (stood delta r l)
-        (λ o. ap cell (said-deleted a o) ∙ none-deleted ∙ sym (ap well (told-own (first_of a) ∙ own-none a)))
-        (λ o. ap cell (said-never a o) ∙ none-there o ∙ sym (ap well (told-own (first_of a) ∙ own-none a))))
-      where
-        never : (b : Bool) → (b && false) ≡ false
-        never true = refl
-        never false = refl
-
-        other : (b v q : Bool) → v ≡ false → (b && (v && q)) ≡ false
-        other b v q e = ap (λ (z : Bool). b && (z && q)) e ∙ never b
-
-        last : (b v q : Bool) → q ≡ false → (b && (v && q)) ≡ false
-        last b v q e = ap (λ (z : Bool). b && (v && z)) e ∙ ap (λ (z : Bool). b && z) (never v) ∙ never b
-
-        first_of : stands t delta r x l ≡ false → (stands t delta r x l && (is_ivs l.want && omits t delta follow r x l)) ≡ false
-        first_of a = ap (λ (z : Bool). z && (is_ivs l.want && omits t delta follow r x l)) a
+        (λ o. ap cell (said-deleted a o) ∙ none-deleted ∙ sym (ap well (told-own (no-left _ _ a) ∙ own-none a)))
+        (λ o. ap cell (said-never a o) ∙ none-there o ∙ sym (ap well (told-own (no-left _ _ a) ∙ own-none a))))

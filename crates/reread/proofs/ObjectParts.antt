@@ -5,14 +5,13 @@ use native.Mathlib.Omega.{arith}
 use mathlib.Core.Path.{◌≡◌, refl, sym, ◌∙◌, ap, fun_ext}
 use mathlib.Core.Bool.{Bool, true, false, ◌||◌}
 use mathlib.Core.List.{List, ◌++◌, map, append_assoc}
-use mathlib.Core.Option.{some}
 use borrow.Author.Tests.{le-leb}
 use lib.Dec.{eqb}
 use lib.ListN.{length, drop, length-append}
 use lib.Seq.{drop_at}
+use Rattle.std.specs.Prelude.{Some}
 use Rattle.laws.specs.Ladder.{Hold}
 use Rattle.wire.specs.declared.form.Form.TheVariants.{Rfc9000}
-use Rattle.wire.specs.declared.varint.Got.TheVariants.{Value}
 use Rattle.wire.specs.Form.{limit}
 use Rattle.wire.specs.Varint.{encode, size_of, read_f}
 use Rattle.wire.proofs.FormLaws.{Lawful, lawful}
@@ -75,14 +74,14 @@ module _ {s c : List ℕ} {delta : Bool} (k : Known s c delta) where
   unfolding object_of
   o_is = simp append_assoc
 
-  first : read_f F (drop 0 o) ≡ Value header (size_of F header)
+  first : read_f F (drop 0 o) ≡ Some (header, size_of F header)
   first = rw o_is (simp append_assoc (read-encode F w header header-low (encode F n ++ (block ++ payload c))))
 
   length-at : length_at F o ≡ size_of F header
   unfolding length_at number
   length-at = rw first (zero-add (size_of F header))
 
-  second : read_f F (drop (length_at F o) o) ≡ Value n (size_of F n)
+  second : read_f F (drop (length_at F o) o) ≡ Some (n, size_of F n)
   second =
       rw (length-at, o_is)
       (simp append_assoc (rw (drop-encode F w header header-low (encode F n ++ (block ++ payload c))) (read-encode F w n length-low (block ++ payload c))))
@@ -109,7 +108,7 @@ module _ {s c : List ℕ} {delta : Bool} (k : Known s c delta) where
       (rw first, (rw first (header-of delta).2, (rw (second, length-at) (le-leb _ _ fits), (rw second (le-leb _ _ k.few), tt))))
 
   -- its tuples are the items, and so it says of every id what is said
-  pub tuples-are : tuples F o ≡ some (map (entry_of F) is)
+  pub tuples-are : tuples F o ≡ Some (map (entry_of F) is)
   unfolding tuples
   tuples-are = rw (block-end, block-at, o_is) (entries-written F w pre (payload c) is ((tell-block k).all-writable length-low))
 

@@ -5,26 +5,23 @@ use native.Mathlib.Omega.{arith}
 use mathlib.Core.Path.{◌≡◌, refl, sym, ◌∙◌, ap}
 use mathlib.Core.Bool.{Bool, true, false, not, ◌||◌, cond, beq}
 use mathlib.Core.List.{List, [], ◌∷◌, ◌++◌}
-use mathlib.Core.Option.{none, some}
 use borrow.Author.Tests.{eqb-true, eqb-false, ltb-true, not-true}
 use borrow.Table.Steps.{cases}
 use lib.Dec.{eqb, ltb}
 use lib.ListN.{length, length-append}
+use Rattle.std.specs.Prelude.{Option, Some, None}
 use Rattle.constants.specs.Ids.{id_count}
+use Rattle.laws.specs.Options.{on_option}
 use Rattle.laws.specs.Tests.{◌and◌}
 use Rattle.laws.proofs.TestLaws.{left, right, alike}
 use Rattle.wire.specs.declared.form.Form.TheVariants.{Rfc9000}
 use Rattle.wire.specs.declared.zigzag.Coding.{Coding}
-use Rattle.wire.specs.declared.zigzag.Coded.{Coded}
-use Rattle.wire.specs.declared.zigzag.Coded.TheVariants.{Number, TooWide as Wide}
 use Rattle.wire.specs.Varint.{encode}
 use Rattle.wire.specs.Zigzag.{wire_of, code_of}
 use Rattle.wire.proofs.FormLaws.{lawful}
 use Rattle.wire.proofs.SizeLaws.{limit-62}
 use Rattle.wire.proofs.ZigzagLaws.{coded-inv}
-use Rattle.runs.specs.declared.Measured.{Measured}
-use Rattle.runs.specs.declared.Measured.TheVariants.{Bytes, TooWide}
-use Rattle.runs.specs.Run.{on_coded, run_of, measured}
+use Rattle.runs.specs.Run.{run_of, measured}
 use Rattle.locmaf_read_block.specs.Entries.{known, body}
 use Rattle.block_items.specs.Items.{num, run, enc_item}
 use Rattle.locmaf_read_block.specs.Written.{entry_of}
@@ -70,22 +67,22 @@ module _ {f : Says} where
   -- ---- one id
 
   -- a number
-  pub number-tells : (id : ℕ) (coding : Coding) (old new : ℕ) → numeric id ≡ true → f id ≡ some (wire_of coding old new ∷ [])
+  pub number-tells : (id : ℕ) (coding : Coding) (old new : ℕ) → numeric id ≡ true → f id ≡ Some (wire_of coding old new ∷ [])
       → Tells f id (suc id) (number_item id (code_of F coding old new))
   unfolding number_item numeric entry_of
   number-tells id coding old new k e = go (code_of F coding old new) refl
     where
-      go : (c : Coded) → code_of F coding old new ≡ c → Tells f id (suc id) (on_coded c (λ z. some (num id z ∷ [])) none)
-      go (Number z) p =
+      go : (c : Option ℕ) → code_of F coding old new ≡ c → Tells f id (suc id) (on_option c (λ z. Some (num id z ∷ [])) None)
+      go (Some z) p =
           let i = coded-inv F coding old new p in
           let low : id < id_count = ltb-true _ _ (left _ _ (right _ _ k)) in
           let even : id % 2 ≡ 0 = eqb-true _ _ (right _ _ (right _ _ k)) in
           one (z ∷ []) refl (left _ _ k) (λ n. (even, omega (arith, limit-62 Rfc9000), i.1)) (body-num F (lawful Rfc9000) id z even i.1)
-          (e ∙ ap (λ (y : ℕ). some (y ∷ [])) (sym i.0))
-      go Wide p = wide
+          (e ∙ ap (λ (y : ℕ). Some (y ∷ [])) (sym i.0))
+      go None p = wide
 
   -- bytes that say some numbers
-  pub bytes-tell : (id : ℕ) (bs zs : List ℕ) → odd id ≡ true → body F id bs ≡ some zs → f id ≡ some zs → Tells f id (suc id) (some (run id bs ∷ []))
+  pub bytes-tell : (id : ℕ) (bs zs : List ℕ) → odd id ≡ true → body F id bs ≡ Some zs → f id ≡ Some zs → Tells f id (suc id) (Some (run id bs ∷ []))
   unfolding odd enc_item entry_of
   bytes-tell id bs zs k b e =
       let low : id < id_count = ltb-true _ _ (left _ _ (right _ _ k)) in
@@ -94,20 +91,20 @@ module _ {f : Says} where
       one zs refl (left _ _ k) (λ n. (not-even id k, omega (arith, limit-62 Rfc9000), omega arith)) b e
 
   -- bytes as they are
-  pub bare-tells : (id : ℕ) (bs : List ℕ) → bytes_as true id ≡ true → f id ≡ some bs → Tells f id (suc id) (some (run id bs ∷ []))
+  pub bare-tells : (id : ℕ) (bs : List ℕ) → bytes_as true id ≡ true → f id ≡ Some bs → Tells f id (suc id) (Some (run id bs ∷ []))
   unfolding bytes_as
   bare-tells id bs k e =
       let o = left _ _ k in
       bytes-tell id bs bs o (body-raw F (lawful Rfc9000) id bs (not-even id o) (not-true _ (left _ _ (right _ _ k))) (alike _ true (right _ _ (right _ _ k)))) e
 
   -- a list of numbers
-  pub list_tells : (id : ℕ) (coding : Coding) (base : ℕ) (old new : List ℕ) → bytes_as false id ≡ true → f id ≡ some (wires coding base old new)
+  pub list_tells : (id : ℕ) (coding : Coding) (base : ℕ) (old new : List ℕ) → bytes_as false id ≡ true → f id ≡ Some (wires coding base old new)
       → Tells f id (suc id) (run_item F coding id base old new)
   unfolding run_item bytes_as
   list_tells id coding base old new k e = go (measured F coding base old new) refl
     where
-      go : (m : Measured) → measured F coding base old new ≡ m → Tells f id (suc id) (on_measured m (some (run id (run_of F coding base old new) ∷ [])))
-      go (Bytes n) p =
+      go : (m : Option ℕ) → measured F coding base old new ≡ m → Tells f id (suc id) (on_measured m (Some (run id (run_of F coding base old new) ∷ [])))
+      go (Some n) p =
           let r = run_is coding base F old new n p in
           let o = left _ _ k in
           bytes-tell id (run_of F coding base old new) (wires coding base old new) o
@@ -115,10 +112,10 @@ module _ {f : Says} where
           ∙ body-list F (lawful Rfc9000) id (wires coding base old new) (not-even id o) (not-true _ (left _ _ (right _ _ k)))
           (alike _ false (right _ _ (right _ _ k))) r.1)
           e
-      go TooWide p = wide
+      go None p = wide
 
   -- items that stand under a condition
-  pub tells-if : (id : ℕ) (b : Bool) (zs : List ℕ) (is : Items) → f id ≡ said_if b zs → (f id ≡ some zs → Tells f id (suc id) is)
+  pub tells-if : (id : ℕ) (b : Bool) (zs : List ℕ) (is : Items) → f id ≡ said_if b zs → (f id ≡ Some zs → Tells f id (suc id) is)
       → Tells f id (suc id) (items_if b is)
   unfolding items_if
   tells-if id true zs is e g = g e
@@ -131,7 +128,7 @@ module _ {f : Says} where
   -- ---- a field of the set
 
   module _ (t : Track) (delta follow : Bool) (r x : List ℕ) (l : Line) (k : line_reads l ≡ true) where
-    sent-tells : f l.id ≡ some (sent_numbers t delta r x l) → Tells f l.id (suc l.id) (sent_items t delta r x l F)
+    sent-tells : f l.id ≡ Some (sent_numbers t delta r x l) → Tells f l.id (suc l.id) (sent_items t delta r x l F)
     unfolding sent_items sent_numbers line_reads
     sent-tells e =
         cases (is_ivs l.want) (λ a. rw a (bare-tells l.id _ (rw a at k) (rw a at e)))

@@ -3,13 +3,12 @@ use Prim.Native.Nat.{ℕ, ◌+◌, ◌-◌, ◌^◌, ◌≤◌}
 use mathlib.Core.Path.{◌≡◌, refl, sym, ap}
 use mathlib.Core.Bool.{Bool, true, false, not, ◌&&◌, ◌||◌, cond, beq}
 use mathlib.Core.List.{List, [], ◌∷◌}
-use mathlib.Core.Option.{Option, none, some}
 use borrow.Author.Tests.{eqb-true, not-false}
 use borrow.Table.Steps.{cases}
 use lib.Dec.{eqb}
 use lib.ListN.{length, get_or, drop}
+use Rattle.std.specs.Prelude.{Option, Some, None}
 use Rattle.wire.specs.declared.zigzag.Coding.{Coding}
-use Rattle.wire.specs.declared.zigzag.Reached.TheVariants.{To}
 use Rattle.wire.specs.Zigzag.{wire_of}
 use Rattle.wire.proofs.ZigzagLaws.{back}
 use Rattle.laws.specs.Options.{is_some}
@@ -33,15 +32,15 @@ use Rattle.reread.proofs.Known.{Known}
 use Rattle.reread.proofs.BlockSaid.{said-by}
 
 -- a number that is omitted where it is the usual one
-unless-back : (coding : Coding) (usual v bound : ℕ) → v ≤ bound → number_of coding (said_if (not (eqb v usual)) (wire_of coding usual v ∷ [])) usual bound ≡ To v
+unless-back : (coding : Coding) (usual v bound : ℕ) → v ≤ bound → number_of coding (said_if (not (eqb v usual)) (wire_of coding usual v ∷ [])) usual bound ≡ Some v
 unfolding number_of
 unless-back coding usual v bound h =
-    said-by (λ (o : Option (List ℕ)). number_of coding o usual bound ≡ To v) (not (eqb v usual)) (wire_of coding usual v ∷ []) (λ e. back coding usual v bound h)
-    (λ e. ap To (sym (eqb-true _ _ (not-false _ e))))
+    said-by (λ (o : Option (List ℕ)). number_of coding o usual bound ≡ Some v) (not (eqb v usual)) (wire_of coding usual v ∷ []) (λ e. back coding usual v bound h)
+    (λ e. ap Some (sym (eqb-true _ _ (not-false _ e))))
 
 -- one that is sent: plain, or against the share's
 time-back : (delta : Bool) (old v bound : ℕ) → v ≤ bound
-    → number_of (coding_for delta) (some (wire_of (coding_for delta) old v ∷ [])) (kept_for delta old 0) bound ≡ To v
+    → number_of (coding_for delta) (Some (wire_of (coding_for delta) old v ∷ [])) (kept_for delta old 0) bound ≡ Some v
 unfolding number_of wire_of
 time-back true old v bound h = back (coding_for true) old v bound h
 time-back false old v bound h = back (coding_for false) 0 v bound h
@@ -86,7 +85,7 @@ module _ {s c : List ℕ} {delta : Bool} (k : Known s c delta) where
         time-back delta (get_or s media_time_at 0) p.media.0 (media_most p.version) boxed.media,
       ))
       (λ e.
-      let z : f 18 ≡ none = ap (λ (a : Bool). said_if a (wire_of (coding_for delta) (get_or s ntp_at 0) p.ntp.0 ∷ [])) e in
+      let z : f 18 ≡ None = ap (λ (a : Bool). said_if a (wire_of (coding_for delta) (get_or s ntp_at 0) p.ntp.0 ∷ [])) e in
       rw z (ap (λ (q : Prft). record { ok = true; prft = q }) (sym (boxed.none e))))
 
   -- the ids stand as they must

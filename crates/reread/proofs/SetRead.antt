@@ -4,11 +4,11 @@ use native.Mathlib.Omega.{arith}
 use mathlib.Core.Path.{◌≡◌, refl, sym, ◌∙◌, ap}
 use mathlib.Core.Bool.{Bool, true, false, not, cond}
 use mathlib.Core.List.{List, ◌∷◌}
-use mathlib.Core.Option.{none, some}
 use borrow.Author.Tests.{le-leb, eqb-true, eqb-false}
 use lib.Dec.{eqb, leb}
 use lib.ListN.{get_or, set}
 use lib.Seq.{get_or-set_other}
+use Rattle.std.specs.Prelude.{Some, None}
 use Rattle.constants.specs.Maxima.{subsamples_most}
 use Rattle.laws.specs.Tests.{sum}
 use Rattle.laws.proofs.TestLaws.{both}
@@ -75,7 +75,7 @@ module _ {t : Track} {delta follow : Bool} {r x y : List ℕ} {f : Says} (w : Wr
       mark : ℕ
       mark = get_or y (get_or lines i spare).place 0
 
-      by : (b : Bool) → eqb mark 0 ≡ b → cond (is_some (cond (not b) (some (news t delta r y (get_or lines i spare))) none)) 1 0 ≡ mark
+      by : (b : Bool) → eqb mark 0 ≡ b → cond (is_some (cond (not b) (Some (news t delta r y (get_or lines i spare))) None)) 1 0 ≡ mark
       by true e = sym (eqb-true _ _ e)
       by false e = let z : mark ≡ 0 → ⊥ = eqb-false _ _ e in omega (arith, (lawful-region t y i k.good lt).mark)
 

@@ -7,9 +7,9 @@ use mathlib.Core.Path.{◌≡◌, refl, sym, ◌∙◌, ap, subst}
 use mathlib.Core.Bool.{true, false≢true, not}
 use mathlib.Core.List.{List, [], ◌∷◌, ◌++◌, map, append_assoc, append-nil}
 use mathlib.Core.Logic.{◌⊎◌, inl, inr}
-use mathlib.Core.Option.{none, some}
 use borrow.Author.Tests.{eq-eqb, ne_eqb}
 use lib.ListN.{length, length-append}
+use Rattle.std.specs.Prelude.{Some, None}
 use Rattle.constants.specs.Ids.{id_count}
 use Rattle.laws.proofs.TestLaws.{both}
 use Rattle.wire.specs.Form.{limit}
@@ -35,11 +35,11 @@ module _ {f : Says} where
   pub done : {lo : ℕ} → Tells f lo lo nothing
   done = record { on = λ q rest r. r }
 
-  pub wide : {lo hi : ℕ} → Tells f lo hi none
+  pub wide : {lo hi : ℕ} → Tells f lo hi None
   wide = record { on = λ e. absurd (false≢true e) }
 
   -- after an id of which nothing is said
-  pub gap : {lo hi : ℕ} {is : Items} → f lo ≡ none → Tells f (suc lo) hi is → Tells f lo hi is
+  pub gap : {lo hi : ℕ} {is : Items} → f lo ≡ None → Tells f (suc lo) hi is → Tells f lo hi is
   unfolding says
   gap {lo} {hi} {is} e h =
       record {
@@ -58,7 +58,7 @@ module _ {f : Says} where
 
   -- an item that reads as what is said of its id, and can be written where it is short
   pub one : {lo : ℕ} {i : Item} (zs : List ℕ) → (entry_of F i).id ≡ lo → known lo ≡ true → (length (enc_item F i) < limit F → Writable F i)
-      → body F lo (entry_of F i).bytes ≡ some zs → f lo ≡ some zs → Tells f lo (suc lo) (some (i ∷ []))
+      → body F lo (entry_of F i).bytes ≡ Some zs → f lo ≡ Some zs → Tells f lo (suc lo) (Some (i ∷ []))
   unfolding says entry member readable lawful enc_block
   one {lo} {i} zs under known fits reads said =
       record {
@@ -80,12 +80,12 @@ module _ {f : Says} where
   infixr 40 ◌then◌
   pub ◌then◌ : {lo mid hi : ℕ} {a b : Items} → Tells f lo mid a → Tells f mid hi b → Tells f lo hi (a before b)
   unfolding ◌before◌
-  ◌then◌ {a = none} h k = wide
-  ◌then◌ {a = some xs} {b = none} h k = wide
-  ◌then◌ {a = some xs} {b = some ys} h k = record { on = λ e rest r. rw append_assoc (h.on refl (ys ++ rest) (k.on refl rest r)) }
+  ◌then◌ {a = None} h k = wide
+  ◌then◌ {a = Some xs} {b = None} h k = wide
+  ◌then◌ {a = Some xs} {b = Some ys} h k = record { on = λ e rest r. rw append_assoc (h.on refl (ys ++ rest) (k.on refl rest r)) }
 
   -- all of them, where nothing is said of an id past the last
-  pub tell-all : {lo : ℕ} {is : Items} → Tells f lo id_count is → is_some is ≡ true → ((id : ℕ) → id_count ≤ id → f id ≡ none) → Tell f lo (list_of is)
+  pub tell-all : {lo : ℕ} {is : Items} → Tells f lo id_count is → is_some is ≡ true → ((id : ℕ) → id_count ≤ id → f id ≡ None) → Tell f lo (list_of is)
   unfolding says entry member readable lawful
   tell-all h q e =
       rw append-nil at

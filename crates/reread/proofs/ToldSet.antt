@@ -3,26 +3,25 @@ use Prim.Native.Nat.{ℕ, ◌+◌, ◌*◌, ◌/◌, ◌≤◌, ◌<◌}
 use native.Mathlib.Omega.{arith}
 use mathlib.Core.Path.{◌≡◌, refl, sym, ◌∙◌, ap}
 use mathlib.Core.Logic.{◌⊎◌, inl, inr}
-use mathlib.Core.Bool.{Bool, true, false, cond, not, ◌&&◌, ◌||◌}
+use mathlib.Core.Bool.{Bool, true, false, false≢true, cond, not, ◌&&◌, ◌||◌, and-false}
 use mathlib.Core.List.{List}
-use mathlib.Core.Option.{none, some}
 use borrow.Author.Tests.{eqb-true, leb-true}
 use borrow.Table.Steps.{cases}
 use lib.Dec.{eqb, leb}
 use lib.ListN.{length, get_or, replicate, length-replicate}
 use lib.Seq.{sets, slice}
+use Rattle.std.specs.Prelude.{Some, None}
 use Rattle.laws.specs.Tests.{◌and◌, sum, same}
 use Rattle.laws.proofs.TestLaws.{either, zeros-le, all_zero-zeros}
 use Rattle.track.specs.declared.Track.{Track}
 use Rattle.field_table.specs.declared.lines.Want.{Want}
 use Rattle.field_table.specs.declared.lines.Want.TheVariants.{Ivs, One, LessOne, Count, Sum}
 use Rattle.field_table.specs.declared.lines.Line.{Line}
-use Rattle.field_table.specs.declared.lines.Measure.{Measure}
 use Rattle.field_table.specs.Lines.{lines, spare, line_for, every, wanted, ivs_at, subsamples_at, bmdt_at, set_len, line_count, u64, Small}
 use Rattle.field_table.proofs.LineLaws.{line-count, every-at}
 use Rattle.field_set.specs.Lawful.{has, count_in, values_of, measure_of, lawful}
 use Rattle.field_set.proofs.LawfulLaws.{lawful-facts}
-use Rattle.field_rules.specs.Fields.{Held, is_ivs, stood}
+use Rattle.field_rules.specs.Fields.{is_ivs, stood}
 use Rattle.field_rules.proofs.RoomLaws.{wanted_room}
 use Rattle.field_rules.proofs.SetWords.{field_in}
 use Rattle.counters.specs.Follow.{iv_words}
@@ -30,7 +29,7 @@ use Rattle.counters.proofs.OutsideLaws.{sets-there}
 use Rattle.counters.proofs.BesideLaws.{beside-word, beside-slice, beside-count, beside-counts, beside-length}
 use Rattle.counters.proofs.IvsLaws.{ivs-in}
 use Rattle.counters.proofs.RoomLaws.{beside-lawful}
-use Rattle.locmaf_write_block.specs.Changes.{stands, news, olds, omits}
+use Rattle.locmaf_write_block.specs.Changes.{stands, news, olds}
 use Rattle.reread.proofs.FieldRead.{told_field}
 
 -- the set y is what is told of the set x: lawful, of the same lengths, with each field as it is told
@@ -71,10 +70,10 @@ all_placed = refl
 -- a length of IVs
 is-ivs : (w : Want) → is_ivs w ≡ true → w ≡ Ivs
 is-ivs Ivs e = refl
-is-ivs One e = let no : ◌≡◌ {A = ℕ} 0 1 = cc in absurd (omega arith)
-is-ivs LessOne e = let no : ◌≡◌ {A = ℕ} 0 1 = cc in absurd (omega arith)
-is-ivs Count e = let no : ◌≡◌ {A = ℕ} 0 1 = cc in absurd (omega arith)
-is-ivs Sum e = let no : ◌≡◌ {A = ℕ} 0 1 = cc in absurd (omega arith)
+is-ivs One e = absurd (false≢true e)
+is-ivs LessOne e = absurd (false≢true e)
+is-ivs Count e = absurd (false≢true e)
+is-ivs Sum e = absurd (false≢true e)
 
 -- where IVs stand
 pub has-nine : (w : List ℕ) → has 9 w ≡ not (eqb (get_or w ivs_at 0) 0)
@@ -115,12 +114,8 @@ module _ (t : Track) (r x : List ℕ) (long : length x ≡ set_len) (good : lawf
   module _ (l : Line) (fits : wanted l.want (measure_of t x) ≤ l.room) where
     others : is_ivs l.want ≡ false → (l.place + 1 + l.room ≤ ivs_at) ⊎ (subsamples_at ≤ l.place) → field_in t y l ≡ told_field t true true r x l
     others v a =
-        rw (v, never (stands t true r x l), same-measure, beside-word x vs room l.place (mark a), beside-slice x vs room (l.place + 1) (l.place + 1 + wanted l.want (measure_of t x)) (values a))
+        rw (v, and-false (stands t true r x l), same-measure, beside-word x vs room l.place (mark a), beside-slice x vs room (l.place + 1) (l.place + 1 + wanted l.want (measure_of t x)) (values a))
       where
-        never : (b : Bool) → (b && false) ≡ false
-        never true = refl
-        never false = refl
-
         mark : (l.place + 1 + l.room ≤ ivs_at) ⊎ (subsamples_at ≤ l.place) → (l.place ≤ ivs_at) ⊎ (subsamples_at ≤ l.place)
         mark (inl h) = inl (omega arith)
         mark (inr h) = inr h
@@ -145,9 +140,9 @@ module _ (t : Track) (r x : List ℕ) (long : length x ≡ set_len) (good : lawf
         let was : not (eqb (get_or r l.place 0) 0) ≡ true = ap (λ (q : ℕ). not (eqb (get_or r q 0) 0)) p ∙ sym (has-nine r) ∙ old in
         let s : slice (l.place + 1) (l.place + 1 + wanted l.want (measure_of t y)) y ≡ vs =
         (λ z. slice (p z + 1) (p z + 1 + u z) y) ∙ ap (λ (q : ℕ). slice (ivs_at + 1) (ivs_at + 1 + q) y) (sym many) ∙ sets-there x vs (ivs_at + 1) (omega (arith, room, long)) in
-        (λ z. cond (not (eqb (m z) 0)) (some (s z)) none)
-        ∙ ap (λ (b : Bool). cond b (some vs) none) on
-        ∙ sym (λ z. cond (on z && (v z && (was z && cond (v z) true (same (olds t true r x l) (news t true r x l))))) (some (replicate (n z) 0)) (field_in t x l))
+        (λ z. cond (not (eqb (m z) 0)) (Some (s z)) None)
+        ∙ ap (λ (b : Bool). cond b (Some vs) None) on
+        ∙ sym (λ z. cond (on z && (v z && (was z && cond (v z) true (same (olds t true r x l) (news t true r x l))))) (Some (replicate (n z) 0)) (field_in t x l))
 
     told : placed l ≡ true → field_in t y l ≡ told_field t true true r x l
     unfolding placed

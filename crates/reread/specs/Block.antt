@@ -1,7 +1,6 @@
 -- What the block of a chunk's object says of each id: the chunk c on the share s, as a delta or in full.
 -- ==== What only proofs need
-use Rattle.std.specs.Prelude.{ℕ, Bool, cond, not, ◌&&◌, List, [], ◌∷◌, eqb, leb, length, get_or, drop}
-use Rattle.std.proofs.Math.Option.{Option, none, some}
+use Rattle.std.specs.Prelude.{ℕ, Bool, cond, not, ◌&&◌, List, [], ◌∷◌, eqb, leb, length, get_or, drop, Option, Some, None}
 use Rattle.constants.specs.Ids.{id_count}
 use Rattle.wire.specs.Zigzag.{wire_of}
 use Rattle.block_items.specs.Events.{Event, enc_events}
@@ -21,12 +20,12 @@ use Rattle.reread.specs.Sayings.{line_says}
 
 -- numbers that stand under a condition
 abbrev pub said_if : Bool → List ℕ → Option (List ℕ)
-said_if b zs = cond b (some zs) none
+said_if b zs = cond b (Some zs) None
 
 -- the records of events, where there are any
 abbrev pub event_says : List Event → Option (List ℕ)
-event_says [] = none
-event_says (e ∷ es) = some (enc_events F (e ∷ es))
+event_says [] = None
+event_says (e ∷ es) = Some (enc_events F (e ∷ es))
 
 module _ (s c : List ℕ) (delta : Bool) where
   abbrev t : Track
@@ -53,7 +52,7 @@ module _ (s c : List ℕ) (delta : Bool) where
   unfoldable pub block_says : Says
   block_says id =
       cond (moof_field id) (line_says t delta (leaves_out F s c delta) r x (line_for id lines))
-      (cond (leb id_count id) none
+      (cond (leb id_count id) None
       (cond (eqb id 10) (said_if (bmdt_stands t delta r x) (get_or x bmdt_at 0 ∷ []))
       (cond (eqb id 14) (said_if (count_stands delta r x) (against (get_or r count_at 0) (get_or x count_at 0)))
       (cond (eqb id 18) (said_if (prft c).stands (against (get_or s ntp_at 0) (prft c).ntp.0))
@@ -63,4 +62,4 @@ module _ (s c : List ℕ) (delta : Bool) where
       (cond (eqb id 24) (unless (kept_for delta (get_or s prft_flags_at 0) 0) (prft c).flags)
       (cond (eqb id 25) (event_says (events t c))
       (cond (eqb id 27) (said_if (not (eqb (length gone) 0)) gone)
-      none))))))))))
+      None))))))))))

@@ -1,8 +1,6 @@
 -- What the items of a field say of it, and what is then said of a whole set.
 -- ==== What only proofs need
-use Rattle.std.specs.Prelude.{ℕ, ◌<◌, ◌≡◌, Bool, true, cond, List, [], ◌∷◌, eqb, get_or}
-use Rattle.std.proofs.Math.Option.{Option, none, some}
-use Rattle.wire.specs.declared.zigzag.Reached.TheVariants.{To}
+use Rattle.std.specs.Prelude.{ℕ, ◌<◌, ◌≡◌, Bool, true, cond, List, [], ◌∷◌, eqb, get_or, Option, Some, None}
 use Rattle.wire.specs.Zigzag.{wire_of}
 use Rattle.runs.specs.Run.{first}
 use Rattle.locmaf_read_block.specs.Wires.{wires}
@@ -20,9 +18,9 @@ use Rattle.locmaf_write_block.specs.Fields.{is_deleted, gone_of}
 
 -- what stands of a change: the numbers of one that is sent
 abbrev pub numbers_by : Change → List ℕ → Option (List ℕ)
-numbers_by Omitted zs = none
-numbers_by Deleted zs = none
-numbers_by Sent zs = some zs
+numbers_by Omitted zs = None
+numbers_by Deleted zs = None
+numbers_by Sent zs = Some zs
 
 module _ (t : Track) (delta : Bool) (r x : List ℕ) (l : Line) where
   -- the numbers of a field that is sent: the bytes of the IVs, one number, or a list
@@ -47,5 +45,5 @@ module _ (t : Track) (delta follow : Bool) (r x : List ℕ) (l : Line) where
 pub record SetSaid (t : Track) (delta follow : Bool) (r x : List ℕ) (f : Says) : Type 0 where
   pub line : (i : ℕ) → i < line_count → f (get_or lines i spare).id ≡ line_says t delta follow r x (get_or lines i spare)
   pub gone : numbers (f 27) ≡ gone_of t delta follow r x lines
-  pub count : count_reached t delta r f ≡ To (get_or x count_at 0)
+  pub count : count_reached t delta r f ≡ Some (get_or x count_at 0)
   pub brands : brands_fit (f 23) ≡ true

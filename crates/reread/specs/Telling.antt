@@ -1,7 +1,6 @@
 -- Items that tell of each id what is said of it, the ids ascending.
 -- ==== What only proofs need
-use Rattle.std.specs.Prelude.{ℕ, ◌≤◌, ◌<◌, ◌≡◌, true, false, List, ◌++◌, map, length}
-use Rattle.std.proofs.Math.Option.{none}
+use Rattle.std.specs.Prelude.{ℕ, ◌≤◌, ◌<◌, ◌≡◌, true, false, List, ◌++◌, map, length, None}
 use Rattle.wire.specs.Form.{limit}
 use Rattle.laws.specs.Options.{is_some}
 use Rattle.locmaf_read_block.specs.Entries.{readable, member, lawful, entry, says}
@@ -13,7 +12,7 @@ use Rattle.cmaf_read_facts.specs.Given.{F}
 
 -- the items tell of every id from lo on what is said of it, and nothing of those below; they can be read, each id once; and written, where they are short
 pub record Tell (f : Says) (lo : ℕ) (is : List Item) : Type 0 where
-  pub none_below : (id : ℕ) → id < lo → (entry id (map (entry_of F) is) ≡ none) × (member id (map (entry_of F) is) ≡ false)
+  pub none_below : (id : ℕ) → id < lo → (entry id (map (entry_of F) is) ≡ None) × (member id (map (entry_of F) is) ≡ false)
   pub says-are : (id : ℕ) → lo ≤ id → says F (map (entry_of F) is) id ≡ f id
   pub all-readable : readable F (map (entry_of F) is) ≡ true
   pub all-lawful : lawful (map (entry_of F) is) ≡ true

@@ -9,18 +9,16 @@ use lib.Seq.{slice, sets, slice-cons}
 use Rattle.laws.proofs.SliceLaws.{slice-none}
 use Rattle.wire.specs.declared.form.Row.{Row}
 use Rattle.wire.specs.declared.zigzag.Coding.{Coding}
-use Rattle.runs.specs.declared.Outcome.{Outcome}
-use Rattle.runs.specs.declared.Outcome.TheVariants.{Done, Misfit, Outside}
-use Rattle.runs.specs.declared.Next.{Next}
-use Rattle.runs.specs.declared.Next.TheVariants.{Value, Cut}
-use Rattle.runs.specs.declared.Next.TheVariants.{Outside as Beyond}
-use Rattle.runs.specs.Run.{Filled, FilledAs, Filling, stop, more, filled, filled_at, next_at, outcome_of}
+use Rattle.runs.specs.declared.Misread.{Misread}
+use Rattle.runs.specs.declared.Misread.TheVariants.{Misfit}
+use Rattle.std.specs.Prelude.{Result, Ok, Err}
+use Rattle.runs.specs.Run.{Filled, FilledAs, Filling, stop, more, filled, filled_at, next_at}
 use Rattle.runs.proofs.RunLaws.{filled-outside, filled-inside, filled_none}
 use Rattle.runs.proofs.NextLaws.{on_next, by_next}
 
 module _ (F : List Row) (coding : Coding) (base bound : ℕ) (s : List ℕ) (at end : ℕ) (old out₀ : List ℕ) (to n : ℕ) where
   -- the end is past the bytes: nothing is read
-  pub past : length s < end → FilledAs (filled_at F coding base bound n old s at end) out₀ to Misfit out₀
+  pub past : length s < end → FilledAs (filled_at F coding base bound n old s at end) out₀ to (Err Misfit) out₀
   past h = rw (filled-outside F coding base bound n old s at end h) (record { answered = refl; stored = refl })
 
   -- none is read
@@ -37,7 +35,7 @@ module _ (F : List Row) (coding : Coding) (base bound : ℕ) (s : List ℕ) (at 
 
   module _ (out : List ℕ) (p i : ℕ) (h : Filling F coding base bound s at end old out₀ to n out p i) where
     -- what is left answers at once
-    stopped : (a : Outcome) → filled F coding base bound (n - i) (drop i old) (slice p end s) ≡ stop a
+    stopped : (a : Result (Unit {0}) Misread) → filled F coding base bound (n - i) (drop i old) (slice p end s) ≡ stop a
         → FilledAs (filled_at F coding base bound n old s at end) out₀ to a out
     stopped a e =
         record {
@@ -46,15 +44,15 @@ module _ (F : List Row) (coding : Coding) (base bound : ℕ) (s : List ℕ) (at 
         }
 
     -- no more values are wanted, and bytes are left or not
-    pub long : n ≤ i → p < end → FilledAs (filled_at F coding base bound n old s at end) out₀ to Misfit out
+    pub long : n ≤ i → p < end → FilledAs (filled_at F coding base bound n old s at end) out₀ to (Err Misfit) out
     long k lt =
         let e : n - i ≡ 0 = omega arith in
-        stopped Misfit (rw (e, filled_none, slice-cons p end s 0 lt h.bytes))
+        stopped (Err Misfit) (rw (e, filled_none, slice-cons p end s 0 lt h.bytes))
 
-    pub done : n ≤ i → end ≤ p → FilledAs (filled_at F coding base bound n old s at end) out₀ to Done out
+    pub done : n ≤ i → end ≤ p → FilledAs (filled_at F coding base bound n old s at end) out₀ to (Ok tt) out
     done k le =
         let e : n - i ≡ 0 = omega arith in
-        stopped Done (rw (e, filled_none, slice-none p end s le))
+        stopped (Ok tt) (rw (e, filled_none, slice-none p end s le))
 
     module _ (lt : i < n) where
       left : filled F coding base bound (n - i) (drop i old) (slice p end s)
@@ -65,18 +63,16 @@ module _ (F : List Row) (coding : Coding) (base bound : ℕ) (s : List ℕ) (at 
           rw e (by_next F coding base bound old s p end i (n - (i + 1)) h.bytes)
 
       -- no value is next
-      pub halt : (g : Next) → g ≡ next_at F coding base bound old s p end i → ((v q : ℕ) → g ≡ Value v q → ⊥)
-          → FilledAs (filled_at F coding base bound n old s at end) out₀ to (outcome_of g) out
-      halt (Value v q) e none = absurd (none v q refl)
-      halt Cut e none = stopped Misfit (rw (← e) at left)
-      halt Beyond e none = stopped Outside (rw (← e) at left)
+      pub halt : (m : Misread) → Err m ≡ next_at F coding base bound old s p end i
+          → FilledAs (filled_at F coding base bound n old s at end) out₀ to (Err m) out
+      halt m e = stopped (Err m) (rw (← e) at left)
 
       -- a value more
-      pub next : {g : Next} (v q : ℕ) → g ≡ next_at F coding base bound old s p end i → g ≡ Value v q
+      pub next : (v q : ℕ) → Ok (v, q) ≡ next_at F coding base bound old s p end i
           → Filling F coding base bound s at end old out₀ to n (set out (to + i) v) q (i + 1)
-      next v q e f =
+      next v q e =
           let others : Filled = filled F coding base bound (n - (i + 1)) (drop (i + 1) old) (slice q end s) in
-          let one : filled F coding base bound (n - i) (drop i old) (slice p end s) ≡ more v others = rw (← e, f) at left in
+          let one : filled F coding base bound (n - i) (drop i old) (slice p end s) ≡ more v others = rw (← e) at left in
           let r : to + (i + 1) ≡ suc (to + i) = omega arith in
           record {
             count = omega arith;

@@ -10,8 +10,7 @@ use Rattle.laws.specs.Writes.{Wrote}
 use Rattle.laws.proofs.WriteLaws.{wrote_none, wrote-length, wrote_as, then, more}
 use Rattle.wire.specs.declared.form.Row.{Row}
 use Rattle.wire.specs.declared.zigzag.Coding.{Coding}
-use Rattle.wire.specs.declared.zigzag.Coded.TheVariants.{Number}
-use Rattle.wire.specs.declared.zigzag.Coded.TheVariants.{TooWide as Wide}
+use Rattle.std.specs.Prelude.{Some, None}
 use Rattle.wire.specs.Varint.{encode}
 use Rattle.wire.specs.Zigzag.{code_of}
 use Rattle.runs.specs.Run.{run_of}
@@ -45,13 +44,13 @@ module _ (F : List Row) (coding : Coding) (base : ℕ) (old new out₀ : List �
 
     module _ (lt : i < length new) where
       -- a number too wide ends the run
-      pub wide : code_of F coding (get_or old i base) (get_or new i 0) ≡ Wide → Wrote out₀ at (run_of F coding base old new) out p
+      pub wide : code_of F coding (get_or old i base) (get_or new i 0) ≡ None → Wrote out₀ at (run_of F coding base old new) out p
       wide e =
           ended
           (rw (drop-cons new i 0 lt)
           (run-wide F coding base (drop i old) (drop (suc i) new) (get_or new i 0) (rw (first-drop old i base) e)))
 
-      module _ (z : ℕ) (e : code_of F coding (get_or old i base) (get_or new i 0) ≡ Number z) where
+      module _ (z : ℕ) (e : code_of F coding (get_or old i base) (get_or new i 0) ≡ Some z) where
         others : List ℕ
         others = run_of F coding base (drop (i + 1) old) (drop (i + 1) new)
 

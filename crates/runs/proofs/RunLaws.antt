@@ -8,28 +8,20 @@ use borrow.Author.Tests.{le-leb, lt-leb}
 use lib.ListN.{length, drop, length-append}
 use lib.Seq.{slice}
 use Rattle.wire.specs.declared.form.Row.{Row}
-use Rattle.wire.specs.declared.varint.Got.{Got}
-use Rattle.wire.specs.declared.varint.Got.TheVariants.{Value, Cut}
+use Rattle.runs.specs.declared.Misread.TheVariants.{Misfit, Outside}
+use Rattle.std.specs.Prelude.{Option, Some, None, Ok, Err}
 use Rattle.wire.specs.declared.zigzag.Coding.{Coding}
-use Rattle.wire.specs.declared.zigzag.Coded.{Coded}
-use Rattle.wire.specs.declared.zigzag.Coded.TheVariants.{Number}
-use Rattle.wire.specs.declared.zigzag.Coded.TheVariants.{TooWide as Wide}
-use Rattle.wire.specs.declared.zigzag.Reached.{Reached}
-use Rattle.wire.specs.declared.zigzag.Reached.TheVariants.{To}
-use Rattle.wire.specs.declared.zigzag.Reached.TheVariants.{Outside as Beyond}
 use Rattle.wire.specs.Varint.{read_f, on_got, encode, size_of}
-use Rattle.wire.specs.Zigzag.{code_of, reached, on_reached}
+use Rattle.wire.specs.Zigzag.{code_of, reached}
 use Rattle.wire.proofs.FormLaws.{Lawful}
 use Rattle.wire.proofs.VarintLaws.{length-encode, read-encode, drop-encode}
 use Rattle.wire.proofs.ZigzagLaws.{coded-inv, code-back}
-use Rattle.runs.specs.declared.Outcome.TheVariants.{Done, Misfit, Outside}
-use Rattle.runs.specs.declared.Measured.{Measured}
-use Rattle.runs.specs.declared.Measured.TheVariants.{Bytes, TooWide}
-use Rattle.runs.specs.Run.{first, rest, Filled, stop, more, ended, filled, filled_at, on_coded, plus, run_of, measured}
+use Rattle.runs.specs.Run.{first, rest, Filled, stop, more, ended, filled, filled_at, plus, run_of, measured}
+use Rattle.laws.specs.Options.{on_option}
 
 module _ (F : List Row) (coding : Coding) (base bound : ℕ) where
   -- the end is past the bytes, and it isn't
-  pub filled-outside : (n : ℕ) (old s : List ℕ) (at end : ℕ) → length s < end → filled_at F coding base bound n old s at end ≡ stop Misfit
+  pub filled-outside : (n : ℕ) (old s : List ℕ) (at end : ℕ) → length s < end → filled_at F coding base bound n old s at end ≡ stop (Err Misfit)
   unfolding filled_at
   filled-outside n old s at end h = rw (lt-leb _ _ h)
 
@@ -45,7 +37,7 @@ module _ (F : List Row) (coding : Coding) (base bound : ℕ) where
 
   -- a value more, read before the rest
   module _ (n : ℕ) (old s : List ℕ) where
-    pub filled-to : (z k v : ℕ) → read_f F s ≡ Value z k → reached coding (first base old) bound z ≡ To v
+    pub filled-to : (z k v : ℕ) → read_f F s ≡ Some (z, k) → reached coding (first base old) bound z ≡ Some v
         → filled F coding base bound (suc n) old s ≡ more v (filled F coding base bound n (rest old) (drop k s))
     unfolding filled
     filled-to z k v e t = rw (e, t)
@@ -56,32 +48,32 @@ module _ (F : List Row) (coding : Coding) (base bound : ℕ) where
   filled-length zero old s = omega arith
   filled-length (suc n) old s = go (read_f F s) _ (λ k. filled-length n (rest old) (drop k s))
     where
-      one : (t : Reached) (f : Filled) → length f.values ≤ n → length (on_reached t (λ v. more v f) (stop Outside)).values ≤ suc n
-      one (To v) f h = omega arith
-      one Beyond f h = omega arith
+      one : (t : Option ℕ) (f : Filled) → length f.values ≤ n → length (on_option t (λ v. more v f) (stop (Err Outside))).values ≤ suc n
+      one (Some v) f h = omega arith
+      one None f h = omega arith
 
-      go : (g : Got) (others : ℕ → Filled) → ((k : ℕ) → length (others k).values ≤ n)
-          → length (on_got g (λ z k. on_reached (reached coding (first base old) bound z) (λ v. more v (others k)) (stop Outside)) (stop Misfit)).values ≤ suc n
-      go (Value z k) others h = one (reached coding (first base old) bound z) (others k) (h k)
-      go Cut others h = omega arith
+      go : (g : Option (ℕ × ℕ)) (others : ℕ → Filled) → ((k : ℕ) → length (others k).values ≤ n)
+          → length (on_got g (λ z k. on_option (reached coding (first base old) bound z) (λ v. more v (others k)) (stop (Err Outside))) (stop (Err Misfit))).values ≤ suc n
+      go (Some (z, k)) others h = one (reached coding (first base old) bound z) (others k) (h k)
+      go None others h = omega arith
 
 module _ (F : List Row) (coding : Coding) (base : ℕ) where
   -- a value more of a run: its number is too wide, or stands before the rest
   module _ (old vs : List ℕ) (v : ℕ) where
-    pub run-wide : code_of F coding (first base old) v ≡ Wide → run_of F coding base old (v ∷ vs) ≡ []
+    pub run-wide : code_of F coding (first base old) v ≡ None → run_of F coding base old (v ∷ vs) ≡ []
     unfolding run_of
     run-wide e = rw e
 
-    pub run-number : (z : ℕ) → code_of F coding (first base old) v ≡ Number z
+    pub run-number : (z : ℕ) → code_of F coding (first base old) v ≡ Some z
         → run_of F coding base old (v ∷ vs) ≡ encode F z ++ run_of F coding base (rest old) vs
     unfolding run_of
     run-number z e = rw e
 
-    pub measured-wide : code_of F coding (first base old) v ≡ Wide → measured F coding base old (v ∷ vs) ≡ TooWide
+    pub measured-wide : code_of F coding (first base old) v ≡ None → measured F coding base old (v ∷ vs) ≡ None
     unfolding measured
     measured-wide e = rw e
 
-    pub measured-number : (z : ℕ) → code_of F coding (first base old) v ≡ Number z
+    pub measured-number : (z : ℕ) → code_of F coding (first base old) v ≡ Some z
         → measured F coding base old (v ∷ vs) ≡ plus (size_of F z) (measured F coding base (rest old) vs)
     unfolding measured
     measured-number z e = rw e
@@ -90,23 +82,23 @@ module _ (F : List Row) (coding : Coding) (base : ℕ) where
   pub record Counted (old : List ℕ) (v : ℕ) (vs : List ℕ) (n : ℕ) : Type 0 where
     pub number : ℕ
     pub after : ℕ
-    pub coded : code_of F coding (first base old) v ≡ Number number
-    pub others : measured F coding base (rest old) vs ≡ Bytes after
+    pub coded : code_of F coding (first base old) v ≡ Some number
+    pub others : measured F coding base (rest old) vs ≡ Some after
     pub sum : n ≡ size_of F number + after
 
   -- as it was measured
-  pub counted : (old : List ℕ) (v : ℕ) (vs : List ℕ) (n : ℕ) → measured F coding base old (v ∷ vs) ≡ Bytes n → Counted old v vs n
+  pub counted : (old : List ℕ) (v : ℕ) (vs : List ℕ) (n : ℕ) → measured F coding base old (v ∷ vs) ≡ Some n → Counted old v vs n
   unfolding measured
   counted old v vs n e = go (code_of F coding (first base old) v) (measured F coding base (rest old) vs) refl refl e
     where
-      go : (c : Coded) (m : Measured) → code_of F coding (first base old) v ≡ c → measured F coding base (rest old) vs ≡ m
-          → on_coded c (λ z. plus (size_of F z) m) TooWide ≡ Bytes n → Counted old v vs n
-      go (Number z) (Bytes k) p q d = record { number = z; after = k; coded = p; others = q; sum = cc }
-      go (Number z) TooWide p q d = let x : ◌≡◌ {A = ℕ} 0 1 = cc in absurd (omega arith)
-      go Wide m p q d = let x : ◌≡◌ {A = ℕ} 0 1 = cc in absurd (omega arith)
+      go : (c : Option ℕ) (m : Option ℕ) → code_of F coding (first base old) v ≡ c → measured F coding base (rest old) vs ≡ m
+          → on_option c (λ z. plus (size_of F z) m) None ≡ Some n → Counted old v vs n
+      go (Some z) (Some k) p q d = record { number = z; after = k; coded = p; others = q; sum = cc }
+      go (Some z) None p q d = let x : ◌≡◌ {A = ℕ} 0 1 = cc in absurd (omega arith)
+      go None m p q d = let x : ◌≡◌ {A = ℕ} 0 1 = cc in absurd (omega arith)
 
   -- a run has as many bytes as were measured
-  pub measured-length : (old vs : List ℕ) (n : ℕ) → measured F coding base old vs ≡ Bytes n → length (run_of F coding base old vs) ≡ n
+  pub measured-length : (old vs : List ℕ) (n : ℕ) → measured F coding base old vs ≡ Some n → length (run_of F coding base old vs) ≡ n
   unfolding measured run_of
   measured-length old [] n e = cc
   measured-length old (v ∷ vs) n e =
@@ -123,8 +115,8 @@ AllWithin bound (v ∷ vs) = (v ≤ bound) × AllWithin bound vs
 
 -- reading back the run that was written for a list against the same old list gives the list
 pub round_trip : (F : List Row) (coding : Coding) (base bound : ℕ) (old vs : List ℕ) (n : ℕ)
-    → Lawful 0 F → measured F coding base old vs ≡ Bytes n → AllWithin bound vs
-    → filled F coding base bound (length vs) old (run_of F coding base old vs) ≡ record { answer = Done; values = vs }
+    → Lawful 0 F → measured F coding base old vs ≡ Some n → AllWithin bound vs
+    → filled F coding base bound (length vs) old (run_of F coding base old vs) ≡ record { answer = Ok tt; values = vs }
 unfolding run_of
 round_trip F coding base bound old [] n w e b = filled_none F coding base bound old []
 round_trip F coding base bound old (v ∷ vs) n w e b =

@@ -5,18 +5,12 @@ use Rattle.std.proofs.lemmas.List.Edits.{sets}
 use Rattle.std.proofs.Math.Seq.{slice}
 use Rattle.wire.specs.declared.form.Row.{Row}
 use Rattle.wire.specs.declared.zigzag.Coding.{Coding}
-use Rattle.wire.specs.declared.zigzag.Coded.{Coded}
-use Rattle.wire.specs.declared.zigzag.Coded.TheVariants.{Number}
-use Rattle.wire.specs.declared.zigzag.Coded.TheVariants.{TooWide as Wide}
+use Rattle.runs.specs.declared.Misread.{Misread}
+use Rattle.runs.specs.declared.Misread.TheVariants.{Misfit, Outside}
+use Rattle.std.specs.Prelude.{Option, Some, None, Result, Ok, Err}
 use Rattle.wire.specs.Varint.{read_f, read_at, on_got, encode, size_of}
-use Rattle.wire.specs.Zigzag.{code_of, reached, on_reached}
-use Rattle.runs.specs.declared.Outcome.{Outcome}
-use Rattle.runs.specs.declared.Outcome.TheVariants.{Done, Misfit, Outside}
-use Rattle.runs.specs.declared.Next.{Next}
-use Rattle.runs.specs.declared.Next.TheVariants.{Value, Cut}
-use Rattle.runs.specs.declared.Next.TheVariants.{Outside as Beyond}
-use Rattle.runs.specs.declared.Measured.{Measured}
-use Rattle.runs.specs.declared.Measured.TheVariants.{Bytes, TooWide}
+use Rattle.wire.specs.Zigzag.{code_of, reached}
+use Rattle.laws.specs.Options.{on_option}
 
 -- ==== The rules
 
@@ -31,40 +25,36 @@ rest (x ∷ xs) = xs
 
 -- how reading went, and the values that were read before it ended
 pub record Filled : Type 0 where
-  pub answer : Outcome
+  pub answer : Result (Unit {0}) Misread
   pub values : List ℕ
 
-abbrev pub stop : Outcome → Filled
+abbrev pub stop : Result (Unit {0}) Misread → Filled
 stop a = record { answer = a; values = [] }
 
 abbrev pub more : ℕ → Filled → Filled
 more v f = record { answer = f.answer; values = v ∷ f.values }
 
-abbrev pub on_coded : {A : Type 0} → Coded → (ℕ → A) → A → A
-on_coded (Number z) f w = f z
-on_coded Wide f w = w
-
-abbrev pub plus : ℕ → Measured → Measured
-plus k (Bytes n) = Bytes (k + n)
-plus k TooWide = TooWide
+abbrev pub plus : ℕ → Option ℕ → Option ℕ
+plus k (Some n) = Some (k + n)
+plus k None = None
 
 module _ (F : List Row) (coding : Coding) (base : ℕ) where
   -- the bytes of the run for the new list, up to a number too wide
   unfoldable pub run_of : List ℕ → List ℕ → List ℕ
   run_of old [] = []
-  run_of old (v ∷ vs) = on_coded (code_of F coding (first base old) v) (λ z. encode F z ++ run_of (rest old) vs) []
+  run_of old (v ∷ vs) = on_option (code_of F coding (first base old) v) (λ z. encode F z ++ run_of (rest old) vs) []
 
   -- how many they are, or that a number is too wide
-  unfoldable pub measured : List ℕ → List ℕ → Measured
-  measured old [] = Bytes 0
-  measured old (v ∷ vs) = on_coded (code_of F coding (first base old) v) (λ z. plus (size_of F z) (measured (rest old) vs)) TooWide
+  unfoldable pub measured : List ℕ → List ℕ → Option ℕ
+  measured old [] = Some 0
+  measured old (v ∷ vs) = on_option (code_of F coding (first base old) v) (λ z. plus (size_of F z) (measured (rest old) vs)) None
 
 -- ==== What only mirrors the code
 
 -- the bytes have to end with the last number
-abbrev pub ended : List ℕ → Outcome
-ended [] = Done
-ended (b ∷ s) = Misfit
+abbrev pub ended : List ℕ → Result (Unit {0}) Misread
+ended [] = Ok tt
+ended (b ∷ s) = Err Misfit
 
 module _ (F : List Row) (coding : Coding) (base bound : ℕ) where
   -- n values off the front of the bytes s
@@ -72,32 +62,25 @@ module _ (F : List Row) (coding : Coding) (base bound : ℕ) where
   filled zero old s = stop (ended s)
   filled (suc n) old s =
       on_got (read_f F s)
-      (λ z k. on_reached (reached coding (first base old) bound z) (λ v. more v (filled n (rest old) (drop k s))) (stop Outside))
-      (stop Misfit)
+      (λ z k. on_option (reached coding (first base old) bound z) (λ v. more v (filled n (rest old) (drop k s))) (stop (Err Outside)))
+      (stop (Err Misfit))
 
   -- the value with the number i, whose varint stands at the place p and ends before the place end
-  unfoldable pub next_at : List ℕ → List ℕ → ℕ → ℕ → ℕ → Next
+  unfoldable pub next_at : List ℕ → List ℕ → ℕ → ℕ → ℕ → Result (ℕ × ℕ) Misread
   next_at old s p end i =
-      on_got (read_at F s p end) (λ z next. on_reached (reached coding (get_or old i base) bound z) (λ v. Value v next) Beyond) Cut
+      on_got (read_at F s p end) (λ z next. on_option (reached coding (get_or old i base) bound z) (λ v. Ok (v, next)) (Err Outside)) (Err Misfit)
 
   -- n values that fill the bytes from the place at to the place end
   unfoldable pub filled_at : ℕ → List ℕ → List ℕ → ℕ → ℕ → Filled
-  filled_at n old s at end = cond (leb end (length s)) (filled n old (slice at end s)) (stop Misfit)
-
--- what came in the way of the next value, as the answer for the run; where a value is next, nothing did
-abbrev pub outcome_of : Next → Outcome
-outcome_of (Value v next) = Done
-outcome_of Cut = Misfit
-outcome_of Beyond = Outside
+  filled_at n old s at end = cond (leb end (length s)) (filled n old (slice at end s)) (stop (Err Misfit))
 
 -- where a call told a value, it is the next one n, whose varint, at the place p, has one byte; else nothing is said
-abbrev pub OneAs : Next → ℕ → Next → Type 0
-OneAs n p (Value v q) = (Value v q ≡ n) × (q ≡ p + 1)
-OneAs n p Cut = Unit {0}
-OneAs n p Beyond = Unit {0}
+abbrev pub OneAs : Result (ℕ × ℕ) Misread → ℕ → Option ℕ → Type 0
+OneAs n p (Some v) = Ok (v, p + 1) ≡ n
+OneAs n p None = Unit {0}
 
 -- a call answered r, and left what it read from the place `to` on
-pub record FilledAs (f : Filled) (before : List ℕ) (to : ℕ) (r : Outcome) (after : List ℕ) : Type 0 where
+pub record FilledAs (f : Filled) (before : List ℕ) (to : ℕ) (r : Result (Unit {0}) Misread) (after : List ℕ) : Type 0 where
   pub answered : r ≡ f.answer
   pub stored : after ≡ sets before to f.values
 

@@ -6,25 +6,16 @@
 ghost use Rattle.std.specs.Prelude.{◌≡◌, ℕ, ◌+◌, ◌-◌, ◌≤◌, ◌<◌, List, length, get_or};
 ghost use Rattle.laws.specs.Writes.{Wrote};
 ghost use Rattle.wire.specs.Form.{rows};
-ghost use Rattle.runs.specs.Run.{FilledAs, Filling, OneAs, filled_at, next_at, outcome_of, run_of, measured};
+ghost use Rattle.runs.specs.Run.{FilledAs, Filling, OneAs, filled_at, next_at, run_of, measured};
 
 use wire::form::Form;
-use wire::varint::Got;
-use wire::zigzag::{Coded, Coding, Reached};
+use wire::zigzag::Coding;
 
-// How reading a run went: as many numbers as were wanted fill its bytes and each value is in range, or what came in the way first.
+// What comes in the way of a run: other numbers than were wanted fill its bytes, or a value is out of range.
 #[derive(Clone, Copy)]
-pub enum Outcome {
-    Done,
+pub enum Misread {
     Misfit,
     Outside,
-}
-
-// The bytes that a run takes, or that one of its numbers is too wide.
-#[derive(Clone, Copy)]
-pub enum Measured {
-    Bytes(usize),
-    TooWide,
 }
 
 // The old value at a place, or what an absent one counts as.
@@ -34,15 +25,7 @@ fn old_at(old: &[u64], i: usize, base: u64) -> u64
     if i < old.len() { old[i] } else { base }
 }
 
-// A value and the place after its varint, or what came in the way.
-#[derive(Clone, Copy)]
-enum Next {
-    Value(u64, usize),
-    Cut,
-    Outside,
-}
-
-// The value with the number i, whose varint stands at the place p.
+// The value with the number i, whose varint stands at the place p, and the place after it; or what came in the way.
 fn value_at(
     form: Form,
     coding: Coding,
@@ -53,46 +36,33 @@ fn value_at(
     i: usize,
     base: u64,
     bound: u64,
-) -> Next
+) -> Result<(u64, usize), Misread>
     ensures { result ≡ next_at (rows form) coding base bound old.now s.now p end i }
 {
-    let g = wire::varint::read(form, s, p, end);
-    let Got::Value(z, next) = g else {
-        return Next::Cut;
-    };
-    let t = wire::zigzag::reach(coding, old_at(old, i, base), bound, z);
-    let Reached::To(v) = t else {
-        return Next::Outside;
-    };
-    Next::Value(v, next)
+    let (z, next) = wire::varint::read(form, s, p, end).ok_or(Misread::Misfit)?;
+    let v = wire::zigzag::reach(coding, old_at(old, i, base), bound, z).ok_or(Misread::Outside)?;
+    Ok((v, next))
 }
 
-// What came in the way of the next value, as the answer for the run.
-fn outcome_of(g: Next) -> Outcome
-    ensures { result ≡ outcome_of g }
-{
-    match g {
-        Next::Value(v, next) => Outcome::Done,
-        Next::Cut => Outcome::Misfit,
-        Next::Outside => Outcome::Outside,
-    }
-}
-
-// The value with the number i, if its varint, which stands at the place p, has one byte.
-fn one_at(form: Form, coding: Coding, s: &[u8], p: usize, old: &[u64], i: usize, bound: u64) -> Next
+// The value with the number i, if its varint, which stands at the place p, has one byte and the value is in range.
+fn one_at(
+    form: Form,
+    coding: Coding,
+    s: &[u8],
+    p: usize,
+    old: &[u64],
+    i: usize,
+    bound: u64,
+) -> Option<u64>
     requires { (p < length s.now) × (i < length old.now) }
     ensures { (base end : ℕ) → p < end → end ≤ length s.now
         → OneAs (next_at (rows form) coding base bound old.now s.now p end i) p result }
 {
     let z = wire::varint::wide(s[p]);
     if wire::form::ones(form) <= z {
-        return Next::Cut;
+        return None;
     }
-    let t = wire::zigzag::reach(coding, old[i], bound, z);
-    let Reached::To(v) = t else {
-        return Next::Outside;
-    };
-    Next::Value(v, p + 1)
+    wire::zigzag::reach(coding, old[i], bound, z)
 }
 
 // Reads the values in front whose varints have one byte, where each of the n has an old value to go by, up to one that is out of range. Gives how many
@@ -123,16 +93,13 @@ fn fill_ones(
     if end - at < n {
         return 0;
     }
-    let mut i = 0;
-    while i < n {
-        let g = one_at(form, coding, s, at + i, old, i, bound);
-        let Next::Value(v, _) = g else {
+    for i in 0..n {
+        let Some(v) = one_at(form, coding, s, at + i, old, i, bound) else {
             return i;
         };
         out[to + i] = v;
-        i += 1;
     }
-    i
+    n
 }
 
 // Reads the values from the one with the number i on, whose varint stands at the place p: those before it are stored.
@@ -149,7 +116,7 @@ fn fill_rest(
     to: usize,
     n: usize,
     i: usize,
-) -> Outcome
+) -> Result<(), Misread>
     requires { to + n ≤ length out.old }
     ensures { (at : ℕ) (before : List ℕ)
         → Filling (rows form) coding base bound s.now at end old.now before to n
@@ -158,20 +125,15 @@ fn fill_rest(
         before to result out.new }
 {
     let mut at = p;
-    let mut k = i;
-    while k < n {
-        let g = value_at(form, coding, s, at, end, old, k, base, bound);
-        let Next::Value(v, next) = g else {
-            return outcome_of(g);
-        };
+    for k in i..n {
+        let (v, next) = value_at(form, coding, s, at, end, old, k, base, bound)?;
         out[to + k] = v;
         at = next;
-        k += 1;
     }
     if at < end {
-        return Outcome::Misfit;
+        return Err(Misread::Misfit);
     }
-    Outcome::Done
+    Ok(())
 }
 
 // Reads n values, a varint each, that have to fill the bytes from at to end, and stores them from the word `to` on.
@@ -187,14 +149,14 @@ pub fn fill(
     out: &mut [u64],
     to: usize,
     n: usize,
-) -> Outcome
+) -> Result<(), Misread>
     requires { to + n ≤ length out.old }
     ensures { FilledAs
         (filled_at (rows form) coding base bound n old.now s.now at end)
         out.old to result out.new }
 {
     if s.len() < end {
-        return Outcome::Misfit;
+        return Err(Misread::Misfit);
     }
     let i = fill_ones(form, coding, s, at, end, old, bound, &mut *out, to, n);
     fill_rest(
@@ -214,20 +176,15 @@ pub fn fill(
 }
 
 // The bytes of the run for the new list.
-pub fn measure(form: Form, coding: Coding, new: &[u64], old: &[u64], base: u64) -> Measured
+pub fn measure(form: Form, coding: Coding, new: &[u64], old: &[u64], base: u64) -> Option<usize>
     ensures { result ≡ measured (rows form) coding base old.now new.now }
 {
     let mut sum = 0;
-    let mut i = 0;
-    while i < new.len() {
-        let c = wire::zigzag::code(form, coding, old_at(old, i, base), new[i]);
-        let Coded::Number(z) = c else {
-            return Measured::TooWide;
-        };
+    for i in 0..new.len() {
+        let z = wire::zigzag::code(form, coding, old_at(old, i, base), new[i])?;
         sum += wire::varint::size(form, z);
-        i += 1;
     }
-    Measured::Bytes(sum)
+    Some(sum)
 }
 
 // Writes the run for the new list, up to a number too wide, and gives the place after it.
@@ -246,14 +203,11 @@ pub fn put(
         out.new result }
 {
     let mut p = at;
-    let mut i = 0;
-    while i < new.len() {
-        let c = wire::zigzag::code(form, coding, old_at(old, i, base), new[i]);
-        let Coded::Number(z) = c else {
+    for i in 0..new.len() {
+        let Some(z) = wire::zigzag::code(form, coding, old_at(old, i, base), new[i]) else {
             return p;
         };
         p = wire::varint::put(form, out, p, z);
-        i += 1;
     }
     p
 }

@@ -65,25 +65,12 @@ pub fn start_of(slot: u64) -> usize
     slot as usize * SHARE
 }
 
-// The words from a place up to another become 0.
-fn clear(s: &mut [u64], from: usize, to: usize)
-    requires { (from ≤ to) × (to ≤ length s.old) }
-    ensures { s.new
-        ≡ take from s.old ++ (replicate (to - from) 0 ++ drop to s.old) }
-{
-    let mut i = from;
-    while i < to {
-        s[i] = 0;
-        i += 1;
-    }
-}
-
 // The reference is dropped, with all that belongs to it.
 pub fn drop_reference(s: &mut [u64])
     requires { length s.old ≡ share_len }
     ensures { s.new ≡ dropped s.old }
 {
-    clear(s, HELD, SHARE);
+    s[HELD..].fill(0);
 }
 
 // The whole share becomes 0.
@@ -91,5 +78,5 @@ pub fn wipe(s: &mut [u64])
     requires { length s.old ≡ share_len }
     ensures { s.new ≡ fresh }
 {
-    clear(s, TRACK, SHARE);
+    s.fill(0);
 }

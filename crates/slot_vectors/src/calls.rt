@@ -50,8 +50,7 @@ pub fn ask(
 
 // The words that are not 0, up to the end of a slot's share.
 fn left<R: Print>(rt: &R, t: &[u64; WORDS], slot: u64) -> io::Result<()> {
-    let mut i = 0;
-    while i < WORDS {
+    for i in 0..WORDS {
         let v = t[i];
         if v != 0 {
             if (i / SHARE) as u64 <= slot {
@@ -59,7 +58,6 @@ fn left<R: Print>(rt: &R, t: &[u64; WORDS], slot: u64) -> io::Result<()> {
                 marked(rt, b'=', v)?;
             }
         }
-        i += 1;
     }
     Ok(())
 }
@@ -93,10 +91,8 @@ pub fn turns<R: Print>(
     slot: u64,
 ) -> io::Result<()> {
     start(rt, side, slot)?;
-    let mut i = 0;
-    while i < 8 {
+    for i in 0..8 {
         turn(rt, side, t, words, calls[i], slot)?;
-        i += 1;
     }
     item(rt, b'w', words as u64)?;
     left(rt, t, slot)

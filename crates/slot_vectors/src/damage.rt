@@ -63,8 +63,7 @@ fn moved(side: Side, t: &mut [u64; WORDS], at: usize, v: u64) -> u64 {
 // letter m what is expected moves with the word.
 fn sweep<R: Print>(rt: &R, side: Side, t: &mut [u64; WORDS], letter: u8, v: u64) -> io::Result<()> {
     let mut was = 18;
-    let mut at = 0;
-    while at < TABLE {
+    for at in 0..TABLE {
         let i = (at % SHARE) as u64;
         if i == 0 {
             start(rt, side, (at / SHARE) as u64)?;
@@ -81,7 +80,6 @@ fn sweep<R: Print>(rt: &R, side: Side, t: &mut [u64; WORDS], letter: u8, v: u64)
             marked(rt, b'=', r)?;
         }
         was = r;
-        at += 1;
     }
     Ok(())
 }
@@ -90,16 +88,12 @@ fn sweep<R: Print>(rt: &R, side: Side, t: &mut [u64; WORDS], letter: u8, v: u64)
 pub fn print<R: Print>(rt: &R, side: Side) -> io::Result<()> {
     let mut t = [0u64; WORDS];
     crate::shares::table(side, &mut t);
-    let mut k = 0;
-    while k < 23 {
+    for k in 0..23 {
         sweep(rt, side, &mut t, b'v', VALUES[k])?;
         sweep(rt, side, &mut t, b'm', VALUES[k])?;
-        k += 1;
     }
-    let mut slot: u64 = 0;
-    while slot < 8 {
+    for slot in 0u64..8 {
         turns(rt, side, &mut t, TABLE, b"bggcgobg", slot)?;
-        slot += 1;
     }
     Ok(())
 }

@@ -12,15 +12,13 @@ const TOP: u64 = 0xffff_ffff_ffff_ffff;
 // The slots and those past them, beside an unlawful share; the parameters in turn without protection, and the IV size with the other schemes
 // and with one that is none; then a fresh slot 4, and tables of a wrong length.
 pub fn print<R: Print>(rt: &R, side: Side) -> io::Result<()> {
-    let mut i: u64 = 0;
-    while i < 11 {
+    for i in 0u64..11 {
         on_slot(rt, side, TABLE, i, i)?;
         if i < 8 {
             opens(rt, side, 0, i)?;
         } else {
             opens(rt, side, i - 7, 7)?;
         }
-        i += 1;
     }
     on_slot(rt, side, TABLE, 4, 0)?;
     on_slot(rt, side, TABLE, TOP, 0)?;
@@ -42,13 +40,11 @@ fn opens<R: Print>(rt: &R, side: Side, scheme: u64, k: u64) -> io::Result<()> {
     item(rt, b's', scheme)?;
     item(rt, b'p', k)?;
     let values = [0, 1, 7, 8, 16, 31, 32, 0xffff_ffff, 0x1_0000_0000, TOP];
-    let mut j = 0;
-    while j < 10 {
+    for j in 0..10 {
         let mut t = [0u64; WORDS];
         let v = values[j];
         marked(rt, b' ', v)?;
         marked(rt, b'=', ask(side, &mut t, TABLE, b'o', 5, scheme, k, v))?;
-        j += 1;
     }
     Ok(())
 }

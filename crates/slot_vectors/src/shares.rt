@@ -243,9 +243,7 @@ pub fn table(side: Side, t: &mut [u64; WORDS]) {
         Side::Encoder => 0,
         Side::Receiver => 1,
     };
-    let mut k = 0;
-    while k < RUNS {
+    for k in 0..RUNS {
         store(t, eight, SHARES[k]);
-        k += 1;
     }
 }

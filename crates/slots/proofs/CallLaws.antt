@@ -1,6 +1,7 @@
 -- What each return of the calls on a share shows. Assumes nothing.
+use Rattle.std.specs.Prelude.{Result, Ok, Err}
 use Prim.Native.Nat.{ℕ, ◌-◌}
-use mathlib.Core.Path.{◌≡◌, ◌∙◌, ap}
+use mathlib.Core.Path.{◌≡◌, ◌∙◌, sym, ap}
 use mathlib.Core.Bool.{true, false, not}
 use mathlib.Core.List.{List, ◌++◌}
 use borrow.Author.Tests.{eq-eqb, ne_eqb}
@@ -14,7 +15,8 @@ use Rattle.slots.specs.declared.lawful.Side.{Side}
 use Rattle.share_words.specs.Share.{track_at, accepted_at, share_len, fresh, dropped}
 use Rattle.slots.specs.Share.{param_words, is_open, lawful, opened}
 use Rattle.slots.specs.Table.{out, on_share}
-use Rattle.slots.specs.Calls.{opening, closing, grouping}
+use Rattle.slots.specs.Calls.{opened_rungs, open_in, opening, closing, grouping}
+use Rattle.slots.proofs.AnswerLaws.{by_answer}
 
 -- by its first word a share is open, or isn't
 pub shut : (s : List ℕ) → get_or s track_at 0 ≡ 0 → is_open s ≡ false
@@ -53,30 +55,33 @@ module _ (side : Side) (a : Asked) (s : List ℕ) where
           passed _ 18 _ _ _ h (passed _ 3 _ _ _ (ap not (shut s e)) (passed _ 4 _ _ _ b (ap (λ (r : List ℕ). out 0 (param_words a ++ r)) z ∙ top _ _)))
 
 module _ (side : Side) (s : List ℕ) where
-  pub close-unlawful : lawful side s ≡ false → out 18 s ≡ closing side s
-  unfolding closing on_share
-  close-unlawful h = broken _ 18 _ _ _ h
+  pub unlawful : lawful side s ≡ false → Err 18 ≡ open_in side s
+  unfolding open_in
+  unlawful h = broken _ 18 _ _ _ h
 
-  pub group-unlawful : lawful side s ≡ false → out 18 s ≡ grouping side s
-  unfolding grouping on_share
-  group-unlawful h = broken _ 18 _ _ _ h
+  pub not-open : lawful side s ≡ true → get_or s track_at 0 ≡ 0 → Err 2 ≡ open_in side s
+  unfolding open_in
+  not-open h e = passed _ 18 _ _ _ h (broken _ 2 _ _ _ (shut s e))
 
-  module _ (h : lawful side s ≡ true) where
-    pub close-closed : get_or s track_at 0 ≡ 0 → out 2 s ≡ closing side s
-    unfolding closing on_share
-    close-closed e = passed _ 18 _ _ _ h (broken _ 2 _ _ _ (shut s e))
+  pub open-now : lawful side s ≡ true → (get_or s track_at 0 ≡ 0 → ⊥) → Ok tt ≡ open_in side s
+  unfolding open_in
+  open-now h e = passed _ 18 _ _ _ h (passed _ 2 _ _ _ (ajar s e) (top _ _))
 
-    pub group-closed : get_or s track_at 0 ≡ 0 → out 2 s ≡ grouping side s
-    unfolding grouping on_share
-    group-closed e = passed _ 18 _ _ _ h (broken _ 2 _ _ _ (shut s e))
+  -- the number that is given instead changes nothing
+  pub close-refused : {k : ℕ} → Err k ≡ open_in side s → out k s ≡ closing side s
+  unfolding open_in closing on_share
+  close-refused {k} e = by_answer (opened_rungs side s) tt (λ n. out n s) _ (Err k) e
 
-    module _ (e : get_or s track_at 0 ≡ 0 → ⊥) where
-      -- the share wiped is what closing leaves
-      pub close-done : out 0 fresh ≡ closing side s
-      unfolding closing on_share
-      close-done = passed _ 18 _ _ _ h (passed _ 2 _ _ _ (ajar s e) (top _ _))
+  pub group-refused : {k : ℕ} → Err k ≡ open_in side s → out k s ≡ grouping side s
+  unfolding open_in grouping on_share
+  group-refused {k} e = by_answer (opened_rungs side s) tt (λ n. out n s) _ (Err k) e
 
-      -- and without its reference, what starting a group leaves
-      pub group-done : out 0 (dropped s) ≡ grouping side s
-      unfolding grouping on_share
-      group-done = passed _ 18 _ _ _ h (passed _ 2 _ _ _ (ajar s e) (top _ _))
+  -- the share wiped is what closing leaves
+  pub close-done : {o : Unit {0}} → Ok o ≡ open_in side s → out 0 fresh ≡ closing side s
+  unfolding open_in closing on_share
+  close-done {o} e = by_answer (opened_rungs side s) tt (λ n. out n s) _ (Ok o) e
+
+  -- and without its reference, what starting a group leaves
+  pub group-done : {o : Unit {0}} → Ok o ≡ open_in side s → out 0 (dropped s) ≡ grouping side s
+  unfolding open_in grouping on_share
+  group-done {o} e = by_answer (opened_rungs side s) tt (λ n. out n s) _ (Ok o) e

@@ -1,3 +1,4 @@
+pub mod AnswerLaws
 pub mod ShareLaws
 pub mod CallLaws
 pub mod TableLaws

@@ -1,4 +1,5 @@
 -- What each return of a public call shows, for any call on a share; and what it leaves in that share. Assumes nothing.
+use Rattle.std.specs.Prelude.{Result, Ok, Err}
 use Prim.Native.Nat.{ℕ, ◌+◌, ◌-◌, ◌*◌, ◌<◌, ◌≤◌}
 use native.Mathlib.Nat.{add-sub_cancel_left}
 use native.Mathlib.Omega.{arith}
@@ -8,9 +9,10 @@ use borrow.Author.Tests.{eq-eqb, eqb-true, ne_eqb, le-leb, leb-true, lt-leb}
 use lib.ListN.{length, take, drop, replicate, length-drop, take-append-drop}
 use lib.Seq.{length-take-le, take_at, drop_at}
 use Rattle.laws.proofs.LadderLaws.{broken, passed, top, ladder-seen, climbs}
+use Rattle.slots.proofs.AnswerLaws.{by_answer, answered_ok}
 use Rattle.laws.proofs.ListLaws.{drop-replicate, take-replicate}
 use Rattle.share_words.specs.Share.{share_len, fresh, slot_count, table_len}
-use Rattle.slots.specs.Table.{Out, out, share_at, put_share, table_rungs, on_table}
+use Rattle.slots.specs.Table.{Out, out, share_at, put_share, table_rungs, place_in, on_table}
 use Rattle.slots.specs.Laws.{after, Keeps}
 
 module _ {X : Type 0} (refuse : ℕ → X) (f : List ℕ → Out X) (t : List ℕ) (slot : ℕ) where
@@ -35,6 +37,19 @@ module _ {X : Type 0} (refuse : ℕ → X) (f : List ℕ → Out X) (t : List �
       let k : at + share_len - at ≡ share_len = add-sub_cancel_left at share_len in
       rw (k, start) (ap (λ (o : Out X). out o.answer (put_share t slot o.words)) (rw (k, start) at q) ∙ right-slot e h)
 
+  -- no share was lent: the number that was given instead is the answer
+  pub no-place : {k : ℕ} → Err k ≡ place_in t slot → out (refuse k) t ≡ on_table refuse f t slot
+  unfolding on_table place_in
+  no-place {k} e = by_answer (table_rungs t slot) (slot * share_len) (λ n. out (refuse n) t) _ (Err k) e
+
+  -- the share was lent; the callee answered x and left the words s there
+  pub on-place : {at : ℕ} → Ok at ≡ place_in t slot → (x : X) (s : List ℕ) → out x s ≡ f (take (at + share_len - at) (drop at t))
+      → out x (take at t ++ (s ++ drop (at + share_len - at) (drop at t))) ≡ on_table refuse f t slot
+  unfolding place_in
+  on-place {at} e x s q =
+      let h = answered_ok (table_rungs t slot) (slot * share_len) at e in
+      on-share at h.1 x s (eqb-true _ _ h.0.0) (leb-true slot 7 h.0.1.0) q
+
   -- what holds of a table of another length, of another slot, and of the call on the share, holds of the call on the table
   pub by_cases : (P : Out X → Type 0) → P (out (refuse 18) t) → P (out (refuse 1) t)
       → (length t ≡ table_len → slot < slot_count → P (out (f (share_at t slot)).answer (put_share t slot (f (share_at t slot)).words)))
@@ -42,6 +57,22 @@ module _ {X : Type 0} (refuse : ℕ → X) (f : List ℕ → Out X) (t : List �
   unfolding on_table
   by_cases P a b c =
       climbs P (λ k. out (refuse k) t) (table_rungs t slot) _ (a, (b, tt)) (λ h. c (eqb-true _ _ h.0) (omega (arith, leb-true slot 7 h.1.0)))
+
+-- ---- where a share starts
+
+module _ (t : List ℕ) (slot : ℕ) where
+  pub place-wrong : (length t ≡ table_len → ⊥) → Err 18 ≡ place_in t slot
+  unfolding place_in
+  place-wrong h = broken _ 18 _ _ _ (ne_eqb _ _ h)
+
+  module _ (e : length t ≡ table_len) where
+    pub place_over : 7 < slot → Err 1 ≡ place_in t slot
+    unfolding place_in
+    place_over h = passed _ 18 _ _ _ (eq-eqb _ _ e) (broken _ 1 _ _ _ (lt-leb _ _ h))
+
+    pub place-right : slot ≤ 7 → {at : ℕ} → at ≡ slot * share_len → Ok at ≡ place_in t slot
+    unfolding place_in
+    place-right h i = passed _ 18 _ _ _ (eq-eqb _ _ e) (passed _ 1 _ _ _ (le-leb slot 7 h) (ap (λ (n : ℕ). Ok n) i ∙ top _ _))
 
 -- ---- a share in its place
 

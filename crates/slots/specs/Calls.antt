@@ -1,7 +1,7 @@
 -- What the three calls make of a share. 01: "Order: 18 for length, 1, 18 for the share, 2 or 3, 4."
 -- ==== The rules
-use Rattle.std.specs.Prelude.{ℕ, not, List, [], ◌∷◌}
-use Rattle.laws.specs.Ladder.{Rung, ◌else◌}
+use Rattle.std.specs.Prelude.{ℕ, not, List, [], ◌∷◌, Result, Ok, Err}
+use Rattle.laws.specs.Ladder.{Rung, ◌else◌, ladder}
 use Rattle.track.specs.declared.Asked.{Asked}
 use Rattle.track.specs.Track.{lawful as lawful_track}
 use Rattle.slots.specs.declared.lawful.Side.{Side}
@@ -16,6 +16,10 @@ open_rungs side a s = (lawful side s else 18) ∷ (not (is_open s) else 3) ∷ (
 -- 2: "slot not open" (D1, D3)
 abbrev pub opened_rungs : Side → List ℕ → List Rung
 opened_rungs side s = (lawful side s else 18) ∷ (is_open s else 2) ∷ []
+
+-- whether a slot is open, or the number that is given instead
+unfoldable pub open_in : Side → List ℕ → Result (Unit {0}) ℕ
+open_in side s = ladder (opened_rungs side s) (λ k. Err k) (Ok tt)
 
 -- 01: "open a slot with parameters"
 unfoldable pub opening : Side → Asked → List ℕ → Out ℕ

@@ -1,6 +1,6 @@
 -- A table of eight shares, and what a call on one share is on the table.
 -- ==== The rules
-use Rattle.std.specs.Prelude.{ℕ, ◌*◌, List, [], ◌∷◌, ◌++◌, eqb, leb, length, take, drop}
+use Rattle.std.specs.Prelude.{ℕ, ◌*◌, List, [], ◌∷◌, ◌++◌, Result, Ok, Err, eqb, leb, length, take, drop}
 use Rattle.laws.specs.Ladder.{Rung, ◌else◌, ladder}
 use Rattle.share_words.specs.Share.{share_len, table_len}
 
@@ -27,6 +27,10 @@ put_share t slot s = take (slot * share_len) t ++ (s ++ drop share_len (drop (sl
 -- 01: "Order: 18 for length, 1, .."
 abbrev pub table_rungs : List ℕ → ℕ → List Rung
 table_rungs t slot = (eqb (length t) table_len else 18) ∷ (leb slot 7 else 1) ∷ []
+
+-- where the share of a slot starts, or the number that is given instead
+unfoldable pub place_in : List ℕ → ℕ → Result ℕ ℕ
+place_in t slot = ladder (table_rungs t slot) (λ k. Err k) (Ok (slot * share_len))
 
 module _ {X : Type 0} where
   -- a call on a share, given by the rungs of its ladder and by what it makes of the share; a refusal changes nothing

@@ -104,7 +104,7 @@ fn set_ok(t: Track, s: &[u64]) -> bool
     }
     let d = effective::durations::durations_by(t, w, k.durations);
     let e = expected::expected_by(w[lines::BMDT], d);
-    if !expected::is_same(expected_of(s), e) {
+    if expected_of(s) != e {
         return false;
     }
     told_sizes::told::sizes_agree(t, w)

@@ -14,10 +14,8 @@ pub fn add_up(w: &[u64], from: usize, to: usize) -> u64
     ensures { result ≡ sum (slice from to w.now) }
 {
     let mut sum = 0;
-    let mut i = from;
-    while i < to {
+    for i in from..to {
         sum += w[i];
-        i += 1;
     }
     sum
 }
@@ -31,10 +29,8 @@ pub fn pair_bytes(w: &[u64], j: usize, k: usize) -> u64
     let a = lines::CLEAR + 1 + j;
     let b = lines::PROTECTED + 1 + j;
     let mut sum = 0;
-    let mut i = 0;
-    while i < k {
+    for i in 0..k {
         sum += w[a + i] + w[b + i];
-        i += 1;
     }
     sum
 }

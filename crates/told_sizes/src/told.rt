@@ -58,14 +58,12 @@ fn pairs_ok(t: Track, w: &[u64]) -> bool
     let mut ok = true;
     let mut all = 0;
     let mut j = 0;
-    let mut i = 0;
-    while i < n {
+    for i in 0..n {
         let k = w[lines::SUBSAMPLES + 1 + i] as usize;
         let bytes = sums::pair_bytes(w, j, k);
         ok = ok & may_have(t, w, i, bytes);
         all += bytes;
         j += k;
-        i += 1;
     }
     ok & (all <= maxima::PAYLOAD)
 }

@@ -14,9 +14,7 @@ use Rattle.laws.specs.Bytes.{be, de}
 use Rattle.laws.specs.Writes.{Wrote}
 use Rattle.laws.proofs.SliceLaws.{slice-none}
 use Rattle.wire.specs.declared.form.Row.{Row}
-use Rattle.wire.specs.declared.form.Found.{Found}
-use Rattle.wire.specs.declared.form.Found.TheVariants.{In}
-use Rattle.wire.specs.declared.varint.Got.TheVariants.{Value, Cut}
+use Rattle.std.specs.Prelude.{Option, Some, None}
 use Rattle.wire.specs.Form.{cap, by_first, by_value, ones, twos}
 use Rattle.wire.specs.Varint.{encode, read_f, read_at, Begins}
 use Rattle.wire.proofs.FormLaws.{Lawful}
@@ -24,9 +22,9 @@ use Rattle.wire.proofs.Reading.{short, found}
 use Rattle.wire.proofs.Writing.{room_in, wrote-in}
 
 -- a row was found, whose first bytes begin with `mark` and have `tail` bytes after them
-pub record FoundIn (f : Found) (tail mark : ℕ) : Type 0 where
+pub record FoundIn (f : Option Row) (tail mark : ℕ) : Type 0 where
   pub row : Row
-  pub found : f ≡ In row
+  pub found : f ≡ Some row
   pub tails : row.tail ≡ tail
   pub marked : row.mark ≡ mark
 
@@ -117,7 +115,7 @@ short-bytes (r ∷ q ∷ rs) w = go (eqb r.tail 0) (eqb q.tail 1)
 -- ---- reading
 
 -- a byte below `ones` at the front of a list
-pub front-one : (F : List Row) → Lawful 0 F → (b : ℕ) (s : List ℕ) → b < ones F → read_f F (b ∷ s) ≡ Value b 1
+pub front-one : (F : List Row) → Lawful 0 F → (b : ℕ) (s : List ℕ) → b < ones F → read_f F (b ∷ s) ≡ Some (b, 1)
 unfolding read_f de
 front-one F w b s lt =
     let f = one-first F b w lt in
@@ -126,7 +124,7 @@ front-one F w b s lt =
 
 module _ (F : List Row) (w : Lawful 0 F) (s : List ℕ) (at end b : ℕ) (h : Begins s at end b) where
   -- a byte below `ones` is a varint, and its value
-  pub read_one : b < ones F → Value b (at + 1) ≡ read_at F s at end
+  pub read_one : b < ones F → Some (b, at + 1) ≡ read_at F s at end
   unfolding de
   read_one lt =
       let f = one-first F b w lt in
@@ -135,19 +133,19 @@ module _ (F : List Row) (w : Lawful 0 F) (s : List ℕ) (at end b : ℕ) (h : Be
       let e : b ≡ (b - r.mark) * 256 ^ r.tail + de (slice (at + 1) (at + 1 + r.tail) s) =
       rw (z, f.marked, slice-none (at + 1) (at + 1 + 0) s (omega arith)) (omega arith) in
       let p : at + 1 ≡ at + 1 + r.tail = omega arith in
-      let q : Value b (at + 1) ≡ Value ((b - r.mark) * 256 ^ r.tail + de (slice (at + 1) (at + 1 + r.tail) s)) (at + 1 + r.tail) = cc in
+      let q : Some (b, at + 1) ≡ Some ((b - r.mark) * 256 ^ r.tail + de (slice (at + 1) (at + 1 + r.tail) s), at + 1 + r.tail) = cc in
       q ∙ found F s at end b h.first h.inside h.before r f.found (omega arith)
 
   module _ (le : ones F ≤ b) (lt : b < ones F + twos F) where
     -- the second byte isn't there
-    pub cut-two : end - at < 2 → Cut ≡ read_at F s at end
+    pub cut-two : end - at < 2 → None ≡ read_at F s at end
     cut-two few =
         let f = two-first F b w le lt in
         let o = f.tails in
         short F s at end b h.first h.inside h.before f.row f.found (omega arith)
 
     -- both are
-    pub read-two : 2 ≤ end - at → Value ((b - ones F) * 256 + get_or s (at + 1) 0) (at + 2) ≡ read_at F s at end
+    pub read-two : 2 ≤ end - at → Some ((b - ones F) * 256 + get_or s (at + 1) 0, at + 2) ≡ read_at F s at end
     unfolding de
     read-two two =
         let f = two-first F b w le lt in
@@ -159,7 +157,7 @@ module _ (F : List Row) (w : Lawful 0 F) (s : List ℕ) (at end b : ℕ) (h : Be
         let e : (b - ones F) * 256 + get_or s (at + 1) 0 ≡ (b - r.mark) * 256 ^ r.tail + de (slice (at + 1) (at + 1 + r.tail) s) =
         rw (o, f.marked, one) (omega arith) in
         let p : at + 2 ≡ at + 1 + r.tail = omega arith in
-        let q : Value ((b - ones F) * 256 + get_or s (at + 1) 0) (at + 2) ≡ Value ((b - r.mark) * 256 ^ r.tail + de (slice (at + 1) (at + 1 + r.tail) s)) (at + 1 + r.tail) = cc in
+        let q : Some ((b - ones F) * 256 + get_or s (at + 1) 0, at + 2) ≡ Some ((b - r.mark) * 256 ^ r.tail + de (slice (at + 1) (at + 1 + r.tail) s), at + 1 + r.tail) = cc in
         q ∙ found F s at end b h.first h.inside h.before r f.found (omega arith)
 
 -- ---- writing

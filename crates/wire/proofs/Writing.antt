@@ -12,18 +12,18 @@ use Rattle.laws.proofs.BytesLaws.{length-be}
 use Rattle.laws.proofs.StoreLaws.{set-sets}
 use Rattle.laws.proofs.WriteLaws.{wrote_none, wrote-sets}
 use Rattle.wire.specs.declared.form.Row.{Row}
-use Rattle.wire.specs.declared.form.Found.TheVariants.{In, Past}
+use Rattle.std.specs.Prelude.{Some, None}
 use Rattle.wire.specs.Form.{by_value}
 use Rattle.wire.specs.Varint.{encode_in, encode}
 use Rattle.wire.proofs.VarintLaws.{encode-in}
 
 module _ (F : List Row) (v : ℕ) (l : List ℕ) (at : ℕ) (room : at + length (encode F v) ≤ length l) where
   -- nothing of a number too wide
-  pub wrote-past : by_value F v ≡ Past → Wrote l at (encode F v) l at
+  pub wrote-past : by_value F v ≡ None → Wrote l at (encode F v) l at
   unfolding encode
   wrote-past e = rw e (wrote_none l at (omega arith))
 
-  module _ (r : Row) (row : by_value F v ≡ In r) where
+  module _ (r : Row) (row : by_value F v ≡ Some r) where
     -- there is room for all of it
     pub room_in : at + 1 + r.tail ≤ length l
     room_in = omega (arith, length-be r.tail v, rw (encode-in F v r row) at room)

@@ -12,8 +12,7 @@ use Rattle.wire.specs.declared.form.Form.{Form}
 use Rattle.wire.specs.declared.form.Form.TheVariants.{Rfc9000}
 use Rattle.wire.specs.declared.zigzag.Coding.{Coding}
 use Rattle.wire.specs.declared.zigzag.Coding.TheVariants.{Plain, Delta}
-use Rattle.wire.specs.declared.zigzag.Coded.TheVariants.{Number, TooWide}
-use Rattle.wire.specs.declared.zigzag.Reached.TheVariants.{To, Outside}
+use Rattle.std.specs.Prelude.{Some, None}
 use Rattle.wire.specs.Form.{rows, limit}
 use Rattle.wire.specs.Zigzag.{zigzag, unzigzag, wire_of, fitted, code_of, ranged, reached}
 
@@ -63,11 +62,11 @@ limit-64 Rfc9000 = omega arith
 
 -- a number that the form holds, and one that it doesn't
 module _ (F : List Row) where
-  pub fit-number : (z : ℕ) → z < limit F → fitted F z ≡ Number z
+  pub fit-number : (z : ℕ) → z < limit F → fitted F z ≡ Some z
   unfolding fitted
   fit-number z h = rw (lt-ltb _ _ h)
 
-  pub fit_wide : (z : ℕ) → limit F ≤ z → fitted F z ≡ TooWide
+  pub fit_wide : (z : ℕ) → limit F ≤ z → fitted F z ≡ None
   unfolding fitted
   fit_wide z h = rw (le-ltb _ _ h)
 
@@ -82,11 +81,11 @@ module _ (F : List Row) where
   code-plain old new = refl
 
   -- a number was given: it stands for the new value, and the form holds it
-  pub coded-inv : (coding : Coding) (old new : ℕ) {z : ℕ} → code_of F coding old new ≡ Number z → (z ≡ wire_of coding old new) × (z < limit F)
+  pub coded-inv : (coding : Coding) (old new : ℕ) {z : ℕ} → code_of F coding old new ≡ Some z → (z ≡ wire_of coding old new) × (z < limit F)
   unfolding code_of fitted
   coded-inv coding old new {z} = go (ltb (wire_of coding old new) (limit F)) refl
     where
-      go : (t : Bool) → ltb (wire_of coding old new) (limit F) ≡ t → cond t (Number (wire_of coding old new)) TooWide ≡ Number z
+      go : (t : Bool) → ltb (wire_of coding old new) (limit F) ≡ t → cond t (Some (wire_of coding old new)) None ≡ Some z
           → (z ≡ wire_of coding old new) × (z < limit F)
       go true e h =
           let same : z ≡ wire_of coding old new = cc in
@@ -95,32 +94,32 @@ module _ (F : List Row) where
       go false e h = let no : ◌≡◌ {A = ℕ} 0 1 = cc in absurd (omega arith)
 
   -- none was given: the form does not hold the one that stands for the new value
-  pub coded-wide : (coding : Coding) (old new : ℕ) → code_of F coding old new ≡ TooWide → limit F ≤ wire_of coding old new
+  pub coded-wide : (coding : Coding) (old new : ℕ) → code_of F coding old new ≡ None → limit F ≤ wire_of coding old new
   unfolding code_of fitted
   coded-wide coding old new = go (ltb (wire_of coding old new) (limit F)) refl
     where
-      go : (t : Bool) → ltb (wire_of coding old new) (limit F) ≡ t → cond t (Number (wire_of coding old new)) TooWide ≡ TooWide
+      go : (t : Bool) → ltb (wire_of coding old new) (limit F) ≡ t → cond t (Some (wire_of coding old new)) None ≡ None
           → limit F ≤ wire_of coding old new
       go true e h = let no : ◌≡◌ {A = ℕ} 0 1 = cc in absurd (omega arith)
       go false e h = ltb-false _ _ e
 
 -- a value up to the bound, and one past it
 module _ (bound v : ℕ) where
-  in-range : v ≤ bound → ranged bound (pos v) ≡ To v
+  in-range : v ≤ bound → ranged bound (pos v) ≡ Some v
   unfolding ranged
   in-range h = rw (le-leb _ _ h)
 
-  past-range : bound < v → ranged bound (pos v) ≡ Outside
+  past-range : bound < v → ranged bound (pos v) ≡ None
   unfolding ranged
   past-range h = rw (lt-leb _ _ h)
 
 -- a number that stands for itself, up to the bound and past it
 module _ (old bound v : ℕ) where
-  pub plain_in : v ≤ bound → reached Plain old bound v ≡ To v
+  pub plain_in : v ≤ bound → reached Plain old bound v ≡ Some v
   unfolding reached
   plain_in h = in-range bound v h
 
-  pub plain-past : bound < v → reached Plain old bound v ≡ Outside
+  pub plain-past : bound < v → reached Plain old bound v ≡ None
   unfolding reached
   plain-past h = past-range bound v h
 
@@ -139,28 +138,28 @@ module _ (old bound z : ℕ) where
   unfolding reached
   down e h = let same : old - suc (z / 2) ≡ old - z / 2 - 1 = omega arith in rw (odd z e, le-ltb old (suc (z / 2)) h, same)
 
-  pub below-zero : (z % 2 ≡ 0 → ⊥) → old ≤ z / 2 → reached Delta old bound z ≡ Outside
+  pub below-zero : (z % 2 ≡ 0 → ⊥) → old ≤ z / 2 → reached Delta old bound z ≡ None
   unfolding reached ranged
   below-zero e h = let lt : old < suc (z / 2) = omega arith in rw (odd z e, lt-ltb old (suc (z / 2)) lt)
 
 -- the number on the wire for a value that is within the bound leads back to it
-pub back : (coding : Coding) (old new bound : ℕ) → new ≤ bound → reached coding old bound (wire_of coding old new) ≡ To new
+pub back : (coding : Coding) (old new bound : ℕ) → new ≤ bound → reached coding old bound (wire_of coding old new) ≡ Some new
 unfolding wire_of reached
 back Plain old new bound h = in-range bound new h
 back Delta old new bound h =
     rw (unzigzag-zigzag, +ℤ_comm (pos old), -ℤ-+ℤ_cancel (pos new)) (in-range bound new h)
 
 -- so does what was given for it
-pub code-back : (F : List Row) (coding : Coding) (old new bound : ℕ) {z : ℕ} → code_of F coding old new ≡ Number z → new ≤ bound
-    → reached coding old bound z ≡ To new
+pub code-back : (F : List Row) (coding : Coding) (old new bound : ℕ) {z : ℕ} → code_of F coding old new ≡ Some z → new ≤ bound
+    → reached coding old bound z ≡ Some new
 code-back F coding old new bound e h = rw (coded-inv F coding old new e).0 (back coding old new bound h)
 
 -- a value that was reached doesn't pass its bound
-ranged-most : (bound : ℕ) (n : ℤ) (v : ℕ) → ranged bound n ≡ To v → v ≤ bound
+ranged-most : (bound : ℕ) (n : ℤ) (v : ℕ) → ranged bound n ≡ Some v → v ≤ bound
 unfolding ranged
 ranged-most bound (pos x) v e = go (leb x bound) refl e
   where
-    go : (b : Bool) → leb x bound ≡ b → cond b (To x) Outside ≡ To v → v ≤ bound
+    go : (b : Bool) → leb x bound ≡ b → cond b (Some x) None ≡ Some v → v ≤ bound
     go true q d =
         let same : x ≡ v = cc in
         let most : x ≤ bound = leb-true _ _ q in
@@ -168,17 +167,17 @@ ranged-most bound (pos x) v e = go (leb x bound) refl e
     go false q d = let z : ◌≡◌ {A = ℕ} 0 1 = cc in absurd (omega arith)
 ranged-most bound (negsuc m) v e = let z : ◌≡◌ {A = ℕ} 0 1 = cc in absurd (omega arith)
 
-pub reached-most : (coding : Coding) (old bound z v : ℕ) → reached coding old bound z ≡ To v → v ≤ bound
+pub reached-most : (coding : Coding) (old bound z v : ℕ) → reached coding old bound z ≡ Some v → v ≤ bound
 unfolding reached
 reached-most Plain old bound z v e = ranged-most bound (pos z) v e
 reached-most Delta old bound z v e = ranged-most bound (pos old +ℤ unzigzag z) v e
 
 -- a number that stands for itself is the value
-pub plain-inv : (old bound z v : ℕ) → reached Plain old bound z ≡ To v → v ≡ z
+pub plain-inv : (old bound z v : ℕ) → reached Plain old bound z ≡ Some v → v ≡ z
 unfolding reached ranged
 plain-inv old bound z v e = go (leb z bound) e
   where
-    go : (b : Bool) → cond b (To z) Outside ≡ To v → v ≡ z
+    go : (b : Bool) → cond b (Some z) None ≡ Some v → v ≡ z
     go true d = let same : v ≡ z = cc in same
     go false d = let y : ◌≡◌ {A = ℕ} 0 1 = cc in absurd (omega arith)
 
@@ -186,11 +185,11 @@ plain-inv old bound z v e = go (leb z bound) e
 
 module _ (F : List Row) (z : ℕ) where
   -- a number was given: it is this one, and the form holds it
-  pub fitted-inv : {v : ℕ} → fitted F z ≡ Number v → (v ≡ z) × (z < limit F)
+  pub fitted-inv : {v : ℕ} → fitted F z ≡ Some v → (v ≡ z) × (z < limit F)
   unfolding wire_of
   fitted-inv e = let p = coded-inv F Plain 0 z (code-plain F 0 z ∙ e) in (p.0, omega (arith, p.0, p.1))
 
   -- none was given: the form does not hold it
-  pub fitted_wide : fitted F z ≡ TooWide → limit F ≤ z
+  pub fitted_wide : fitted F z ≡ None → limit F ≤ z
   unfolding wire_of
   fitted_wide e = coded-wide F Plain 0 z (code-plain F 0 z ∙ e)

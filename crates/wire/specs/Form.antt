@@ -6,8 +6,7 @@ use Rattle.std.specs.Prelude.{ℕ, ◌+◌, ◌*◌, ◌^◌, max, suc, cond, Li
 use Rattle.wire.specs.declared.form.Row.{Row}
 use Rattle.wire.specs.declared.form.Form.{Form}
 use Rattle.wire.specs.declared.form.Form.TheVariants.{Rfc9000}
-use Rattle.wire.specs.declared.form.Found.{Found}
-use Rattle.wire.specs.declared.form.Found.TheVariants.{In, Past}
+use Rattle.std.specs.Prelude.{Option, Some, None}
 
 abbrev pub row : ℕ → ℕ → ℕ → Row
 row tail mark width = record { tail = tail; mark = mark; width = width }
@@ -24,14 +23,14 @@ abbrev pub cap : Row → ℕ
 cap r = r.width * 256 ^ r.tail
 
 -- the row that a first byte is in
-unfoldable pub by_first : List Row → ℕ → Found
-by_first [] b = Past
-by_first (r ∷ rs) b = cond (ltb b (r.mark + r.width)) (In r) (by_first rs b)
+unfoldable pub by_first : List Row → ℕ → Option Row
+by_first [] b = None
+by_first (r ∷ rs) b = cond (ltb b (r.mark + r.width)) (Some r) (by_first rs b)
 
 -- the first row that holds v
-unfoldable pub by_value : List Row → ℕ → Found
-by_value [] v = Past
-by_value (r ∷ rs) v = cond (ltb v (cap r)) (In r) (by_value rs v)
+unfoldable pub by_value : List Row → ℕ → Option Row
+by_value [] v = None
+by_value (r ∷ rs) v = cond (ltb v (cap r)) (Some r) (by_value rs v)
 
 -- the values that a table holds are those below this
 unfoldable pub limit : List Row → ℕ
@@ -42,11 +41,6 @@ limit (r ∷ rs) = max (cap r) (limit rs)
 unfoldable pub longest : List Row → ℕ
 longest [] = 0
 longest (r ∷ rs) = max (suc r.tail) (longest rs)
-
--- what is said of the row that was found, or else
-abbrev pub on_found : {A : Type 0} → Found → (Row → A) → A → A
-on_found (In r) f z = f r
-on_found Past f z = z
 
 -- ==== What only mirrors the code
 

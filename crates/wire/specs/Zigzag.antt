@@ -4,10 +4,7 @@ use Rattle.std.specs.Prelude.{ℕ, suc, ◌*◌, ◌-◌, ◌/◌, ◌%◌, cond
 use Rattle.wire.specs.declared.form.Row.{Row}
 use Rattle.wire.specs.declared.zigzag.Coding.{Coding}
 use Rattle.wire.specs.declared.zigzag.Coding.TheVariants.{Plain, Delta}
-use Rattle.wire.specs.declared.zigzag.Coded.{Coded}
-use Rattle.wire.specs.declared.zigzag.Coded.TheVariants.{Number, TooWide}
-use Rattle.wire.specs.declared.zigzag.Reached.{Reached}
-use Rattle.wire.specs.declared.zigzag.Reached.TheVariants.{To, Outside}
+use Rattle.std.specs.Prelude.{Option, Some, None}
 use Rattle.wire.specs.Form.{limit}
 
 -- 01: "Zigzag: n at or above 0 gives 2n, below gives -2n-1." `negsuc m` is the number -(m + 1).
@@ -25,23 +22,18 @@ wire_of Plain old new = new
 wire_of Delta old new = zigzag (pos new -ℤ pos old)
 
 -- 01: "any number on the wire, 2^62-1": a number that the form holds
-unfoldable pub fitted : List Row → ℕ → Coded
-fitted F z = cond (ltb z (limit F)) (Number z) TooWide
+unfoldable pub fitted : List Row → ℕ → Option ℕ
+fitted F z = cond (ltb z (limit F)) (Some z) None
 
-unfoldable pub code_of : List Row → Coding → ℕ → ℕ → Coded
+unfoldable pub code_of : List Row → Coding → ℕ → ℕ → Option ℕ
 code_of F coding old new = fitted F (wire_of coding old new)
 
 -- a number that has to be from 0 to the bound
-unfoldable pub ranged : ℕ → ℤ → Reached
-ranged bound (pos v) = cond (leb v bound) (To v) Outside
-ranged bound (negsuc m) = Outside
+unfoldable pub ranged : ℕ → ℤ → Option ℕ
+ranged bound (pos v) = cond (leb v bound) (Some v) None
+ranged bound (negsuc m) = None
 
 -- the value that the number z on the wire stands for
-unfoldable pub reached : Coding → ℕ → ℕ → ℕ → Reached
+unfoldable pub reached : Coding → ℕ → ℕ → ℕ → Option ℕ
 reached Plain old bound z = ranged bound (pos z)
 reached Delta old bound z = ranged bound (pos old +ℤ unzigzag z)
-
--- what is said of a value that was reached, or else
-abbrev pub on_reached : {A : Type 0} → Reached → (ℕ → A) → A → A
-on_reached (To v) f z = f v
-on_reached Outside f z = z

@@ -1,6 +1,6 @@
 // The forms that a varint can have, each a table of rows.
 // Letters: `b` a number, `v` a number.
-ghost use Rattle.std.specs.Prelude.{◌≡◌, suc};
+ghost use Rattle.std.specs.Prelude.{◌≡◌, suc, Some};
 ghost use Rattle.wire.specs.Form.{rows, by_first, by_value, limit, row, longest, ones, twos};
 
 // The form of a track's varints. Each function of this crate takes one, so that a second form is a second table.
@@ -17,21 +17,14 @@ pub struct Row {
     pub width: u64,
 }
 
-// The row that was looked for, or that the table has none.
-#[derive(Clone, Copy)]
-pub enum Found {
-    In(Row),
-    Past,
-}
-
-fn in_row(tail: usize, mark: u64, width: u64) -> Found
-    ensures { result ≡ Found.In (row tail mark width) }
+fn in_row(tail: usize, mark: u64, width: u64) -> Option<Row>
+    ensures { result ≡ Some (row tail mark width) }
 {
-    Found::In(Row { tail, mark, width })
+    Some(Row { tail, mark, width })
 }
 
 // The row that a first byte is in.
-pub fn by_first(form: Form, b: u64) -> Found
+pub fn by_first(form: Form, b: u64) -> Option<Row>
     ensures { result ≡ by_first (rows form) b }
 {
     match form {
@@ -39,7 +32,7 @@ pub fn by_first(form: Form, b: u64) -> Found
     }
 }
 
-fn rfc9000_by_first(b: u64) -> Found
+fn rfc9000_by_first(b: u64) -> Option<Row>
     ensures { result ≡ by_first (rows Form.Rfc9000) b }
 {
     if b < 64 {
@@ -54,11 +47,11 @@ fn rfc9000_by_first(b: u64) -> Found
     if b < 256 {
         return in_row(7, 192, 64);
     }
-    Found::Past
+    None
 }
 
 // The first row that holds v.
-pub fn by_value(form: Form, v: u64) -> Found
+pub fn by_value(form: Form, v: u64) -> Option<Row>
     ensures { result ≡ by_value (rows form) v }
 {
     match form {
@@ -66,7 +59,7 @@ pub fn by_value(form: Form, v: u64) -> Found
     }
 }
 
-fn rfc9000_by_value(v: u64) -> Found
+fn rfc9000_by_value(v: u64) -> Option<Row>
     ensures { result ≡ by_value (rows Form.Rfc9000) v }
 {
     if v < 0x40 {
@@ -81,7 +74,7 @@ fn rfc9000_by_value(v: u64) -> Found
     if v < 0x4000_0000_0000_0000 {
         return in_row(7, 192, 64);
     }
-    Found::Past
+    None
 }
 
 // The largest number that the form holds.

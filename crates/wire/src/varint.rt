@@ -8,14 +8,7 @@ ghost use Rattle.laws.specs.Writes.{Wrote};
 ghost use Rattle.wire.specs.Form.{rows, ones, twos};
 ghost use Rattle.wire.specs.Varint.{encode, size_of, read_at, Begins};
 
-use crate::form::{Form, Found};
-
-// What reading finds: the value and the place after its bytes, or that the bytes end too early.
-#[derive(Clone, Copy)]
-pub enum Got {
-    Value(u64, usize),
-    Cut,
-}
+use crate::form::Form;
 
 // A byte as a number.
 pub fn wide(b: u8) -> u64
@@ -31,62 +24,56 @@ fn join(s: &[u8], from: usize, to: usize, acc: u64) -> u64
     ensures { result ≡ acc * 256 ^ (to - from) + de (slice from to s.now) }
 {
     let mut v = acc;
-    let mut i = from;
-    while i < to {
+    for i in from..to {
         v = v * 256 + wide(s[i]);
-        i += 1;
     }
     v
 }
 
 // The varint of two bytes, of which b is the first.
-fn two_at(form: Form, s: &[u8], at: usize, end: usize, b: u64) -> Got
+fn two_at(form: Form, s: &[u8], at: usize, end: usize, b: u64) -> Option<(u64, usize)>
     requires begins { Begins s.now at end b }
     requires form_bound { (ones (rows form) ≤ b) × (b < ones (rows form) + twos (rows form)) }
     ensures { result ≡ read_at (rows form) s.now at end }
 {
     if end <= at + 1 {
-        return Got::Cut;
+        return None;
     }
     let above = b - crate::form::ones(form);
     let low = wide(s[at + 1]);
-    Got::Value(above * 256 + low, at + 2)
+    Some((above * 256 + low, at + 2))
 }
 
 // The varint of which b is the first byte, by the row that this is in.
-fn more_at(form: Form, s: &[u8], at: usize, end: usize, b: u64) -> Got
+fn more_at(form: Form, s: &[u8], at: usize, end: usize, b: u64) -> Option<(u64, usize)>
     requires { Begins s.now at end b }
     ensures { result ≡ read_at (rows form) s.now at end }
 {
-    let f = crate::form::by_first(form, b);
-    let Found::In(r) = f else {
-        return Got::Cut;
-    };
+    let r = crate::form::by_first(form, b)?;
     let n = r.tail;
-    let mark = r.mark;
     let from = at + 1;
     if end - from < n {
-        return Got::Cut;
+        return None;
     }
-    let v = join(s, from, from + n, b - mark);
-    Got::Value(v, from + n)
+    let v = join(s, from, from + n, b - r.mark);
+    Some((v, from + n))
 }
 
 // The varint from the place at, that ends before the place end: any bytes and any places are taken. Most have one byte and nearly all others two,
 // so these are asked for before the table.
-pub fn read(form: Form, s: &[u8], at: usize, end: usize) -> Got
+pub fn read(form: Form, s: &[u8], at: usize, end: usize) -> Option<(u64, usize)>
     ensures { result ≡ read_at (rows form) s.now at end }
 {
     if s.len() < end {
-        return Got::Cut;
+        return None;
     }
     if end <= at {
-        return Got::Cut;
+        return None;
     }
     let b = wide(s[at]);
     let ones = crate::form::ones(form);
     if b < ones {
-        return Got::Value(b, at + 1);
+        return Some((b, at + 1));
     }
     if b < ones + crate::form::twos(form) {
         return two_at(form, s, at, end, b);
@@ -98,12 +85,10 @@ pub fn read(form: Form, s: &[u8], at: usize, end: usize) -> Got
 pub fn size(form: Form, v: u64) -> usize
     ensures { result ≡ size_of (rows form) v }
 {
-    let f = crate::form::by_value(form, v);
-    let Found::In(r) = f else {
+    let Some(r) = crate::form::by_value(form, v) else {
         return crate::form::most(form);
     };
-    let n = r.tail;
-    n + 1
+    r.tail + 1
 }
 
 // Stores the n low bytes of v from the place at on, the highest first, and gives what is left of v.
@@ -112,9 +97,7 @@ fn put_low(out: &mut [u8], at: usize, n: usize, v: u64) -> u64
     ensures { (out.new ≡ sets out.old at (be n v)) × (result ≡ v / 256 ^ n) }
 {
     let mut x = v;
-    let mut j = n;
-    while 0 < j {
-        j -= 1;
+    for j in (0..n).rev() {
         out[at + j] = (x % 256) as u8;
         x /= 256;
     }
@@ -137,15 +120,12 @@ fn put_more(form: Form, out: &mut [u8], at: usize, v: u64) -> usize
     requires { at + length (encode (rows form) v) ≤ length out.old }
     ensures { Wrote out.old at (encode (rows form) v) out.new result }
 {
-    let f = crate::form::by_value(form, v);
-    let Found::In(r) = f else {
+    let Some(r) = crate::form::by_value(form, v) else {
         return at;
     };
-    let n = r.tail;
-    let mark = r.mark;
-    let x = put_low(&mut *out, at + 1, n, v);
-    out[at] = (mark + x) as u8;
-    at + 1 + n
+    let x = put_low(&mut *out, at + 1, r.tail, v);
+    out[at] = (r.mark + x) as u8;
+    at + 1 + r.tail
 }
 
 // Stores the shortest varint of v at the place at, and gives the place after it. Nothing is stored of a number too wide.

@@ -13,48 +13,28 @@ pub enum Coding {
     Delta,
 }
 
-// The number on the wire, or that the form has no varint for it.
-#[derive(Clone, Copy)]
-pub enum Coded {
-    Number(u64),
-    TooWide,
-}
-
-// The value that a number on the wire stands for, or that it is outside its range.
-#[derive(Clone, Copy)]
-pub enum Reached {
-    To(u64),
-    Outside,
-}
-
-fn fit(form: Form, z: u64) -> Coded
+fn fit(form: Form, z: u64) -> Option<u64>
     ensures { result ≡ fitted (rows form) z }
 {
     if z <= crate::form::largest(form) {
-        return Coded::Number(z);
+        return Some(z);
     }
-    Coded::TooWide
+    None
 }
 
-fn distance(form: Form, old: u64, new: u64) -> Coded
+fn distance(form: Form, old: u64, new: u64) -> Option<u64>
     ensures { result ≡ code_of (rows form) Coding.Delta old new }
 {
     if new < old {
         let below = old - new - 1;
-        if 0x7fff_ffff_ffff_ffff < below {
-            return Coded::TooWide;
-        }
-        return fit(form, below * 2 + 1);
+        return fit(form, below.checked_mul(2)? + 1);
     }
     let above = new - old;
-    if 0x7fff_ffff_ffff_ffff < above {
-        return Coded::TooWide;
-    }
-    fit(form, above * 2)
+    fit(form, above.checked_mul(2)?)
 }
 
 // The number that stands on the wire for the new value.
-pub fn code(form: Form, coding: Coding, old: u64, new: u64) -> Coded
+pub fn code(form: Form, coding: Coding, old: u64, new: u64) -> Option<u64>
     ensures { result ≡ code_of (rows form) coding old new }
 {
     match coding {
@@ -63,36 +43,27 @@ pub fn code(form: Form, coding: Coding, old: u64, new: u64) -> Coded
     }
 }
 
-fn within(v: u64, bound: u64) -> Reached
+fn within(v: u64, bound: u64) -> Option<u64>
     ensures { result ≡ reached Coding.Plain 0 bound v }
 {
     if v <= bound {
-        return Reached::To(v);
+        return Some(v);
     }
-    Reached::Outside
+    None
 }
 
-fn moved(old: u64, bound: u64, z: u64) -> Reached
+fn moved(old: u64, bound: u64, z: u64) -> Option<u64>
     ensures { result ≡ reached Coding.Delta old bound z }
 {
     let h = z / 2;
     if z % 2 == 0 {
-        if bound < old {
-            return Reached::Outside;
-        }
-        if bound - old < h {
-            return Reached::Outside;
-        }
-        return Reached::To(old + h);
+        return within(old.checked_add(h)?, bound);
     }
-    if old <= h {
-        return Reached::Outside;
-    }
-    within(old - h - 1, bound)
+    within(old.checked_sub(h + 1)?, bound)
 }
 
 // The value, from 0 to the bound, that the number z on the wire stands for.
-pub fn reach(coding: Coding, old: u64, bound: u64, z: u64) -> Reached
+pub fn reach(coding: Coding, old: u64, bound: u64, z: u64) -> Option<u64>
     ensures { result ≡ reached coding old bound z }
 {
     match coding {

@@ -4,15 +4,14 @@ use native.Mathlib.Nat.{le-max_left, le-max_right}
 use Rattle.laws.proofs.BytesLaws.{length-be}
 use Rattle.wire.specs.declared.form.Row.{Row}
 use Rattle.wire.specs.declared.form.Form.TheVariants.{Rfc9000}
-use Rattle.wire.specs.declared.form.Found.TheVariants.{In}
+use Rattle.std.specs.Prelude.{Option, Some, None}
 use Rattle.wire.specs.declared.zigzag.Coding.{Coding}
-use Rattle.wire.specs.declared.zigzag.Coded.{Coded}
-use Rattle.wire.specs.declared.zigzag.Coded.TheVariants.{Number, TooWide}
-use Rattle.wire.specs.Form.{rows, cap, by_value, longest, on_found}
+use Rattle.wire.specs.Form.{rows, cap, by_value, longest}
 use Rattle.wire.specs.Varint.{encode_in, encode}
 use Rattle.wire.specs.Zigzag.{code_of}
 use Rattle.runs.specs.Run.{first, rest, run_of}
 use Rattle.runs.proofs.RunLaws.{run-wide, run-number}
+use Rattle.laws.specs.Options.{on_option}
 
 -- no varint is longer than the table's longest
 encode-longest : (F : List Row) (v : ℕ) → length (encode F v) ≤ longest F
@@ -21,7 +20,7 @@ encode-longest [] v = zero-le
 encode-longest (q ∷ rs) v = go (ltb v (cap q)) (encode-longest rs v)
   where
     go : (t : Bool) → length (encode rs v) ≤ longest rs
-        → length (on_found (cond t (In q) (by_value rs v)) (λ r. encode_in r v) []) ≤ max (suc q.tail) (longest rs)
+        → length (on_option (cond t (Some q) (by_value rs v)) (λ r. encode_in r v) []) ≤ max (suc q.tail) (longest rs)
     go true ih = rw length-be (le-max_left (suc q.tail) (longest rs))
     go false ih = le_trans ih (le-max_right (suc q.tail) (longest rs))
 
@@ -34,8 +33,8 @@ unfolding run_of
 run_room coding base old [] = zero-le
 run_room coding base old (v ∷ vs) = go (code_of (rows Rfc9000) coding (first base old) v) refl (run_room coding base (rest old) vs)
   where
-    go : (k : Coded) → code_of (rows Rfc9000) coding (first base old) v ≡ k
+    go : (k : Option ℕ) → code_of (rows Rfc9000) coding (first base old) v ≡ k
         → length (run_of (rows Rfc9000) coding base (rest old) vs) ≤ 8 * length vs
         → length (run_of (rows Rfc9000) coding base old (v ∷ vs)) ≤ 8 * suc (length vs)
-    go (Number z) e ih = rw (run-number (rows Rfc9000) coding base old vs v z e, length-append) (omega (arith, varint-room z))
-    go TooWide e ih = rw (run-wide (rows Rfc9000) coding base old vs v e) zero-le
+    go (Some z) e ih = rw (run-number (rows Rfc9000) coding base old vs v z e, length-append) (omega (arith, varint-room z))
+    go None e ih = rw (run-wide (rows Rfc9000) coding base old vs v e) zero-le

@@ -24,7 +24,7 @@ fn made<R: Print>(
     hex(rt, text::MADE, s, 0, shown)?;
     worded(rt, text::AT_PLACE, at as u64)?;
     word(rt, text::AGAINST)?;
-    words(rt, old, 0, old.len())?;
+    words(rt, old)?;
     kind(rt, coding, base)?;
     word(rt, text::LINE)?;
     read_back(rt, coding, s, at, last, old, base, bound, n)
@@ -61,45 +61,25 @@ pub fn empty<R: Print>(rt: &R) -> io::Result<()> {
     plain(rt, s, 5, 1, 4, 1)
 }
 
-// The zigzag z of one distance: from the old value, or from the base where the list has none, so that the count is 0.
-fn distance<R: Print>(
-    rt: &R,
-    z: u64,
-    count: usize,
-    old: u64,
-    base: u64,
-    bound: u64,
-) -> io::Result<()> {
+// The zigzag z of one distance: from the old value, or from the base where there is none.
+fn distance<R: Print>(rt: &R, z: u64, old: &[u64], base: u64, bound: u64) -> io::Result<()> {
     let mut s = [0u8; 8];
     let last = wire::varint::put(Form::Rfc9000, &mut s, 0, z);
-    let list = [old];
-    let k = count % 2;
-    made(
-        rt,
-        Coding::Delta,
-        &s,
-        last,
-        0,
-        last,
-        &list[..k],
-        base,
-        bound,
-        1,
-    )
+    made(rt, Coding::Delta, &s, last, 0, last, old, base, bound, 1)
 }
 
 // Distances of one, and of none, that end at 0 or at the bound, and past each; then the widest, down and up.
 pub fn distances<R: Print>(rt: &R) -> io::Result<()> {
-    distance(rt, 1, 0, 0, 0, 9)?;
-    distance(rt, 1, 0, 0, P31, 0xffff_ffff)?;
-    distance(rt, 1, 1, 1, 0, 9)?;
-    distance(rt, 2, 1, 8, 0, 9)?;
-    distance(rt, 2, 1, 9, 0, 9)?;
-    distance(rt, 0, 1, 10, 0, 9)?;
-    distance(rt, 1, 1, 11, 0, 9)?;
-    distance(rt, 2, 1, TOP, 0, TOP)?;
-    distance(rt, P62 - 1, 1, P61, 0, 9)?;
-    distance(rt, P62 - 1, 1, P61 - 1, 0, 9)?;
-    distance(rt, P62 - 2, 1, 1, 0, P61)?;
-    distance(rt, P62 - 2, 1, 1, 0, P61 - 1)
+    distance(rt, 1, &[], 0, 9)?;
+    distance(rt, 1, &[], P31, 0xffff_ffff)?;
+    distance(rt, 1, &[1], 0, 9)?;
+    distance(rt, 2, &[8], 0, 9)?;
+    distance(rt, 2, &[9], 0, 9)?;
+    distance(rt, 0, &[10], 0, 9)?;
+    distance(rt, 1, &[11], 0, 9)?;
+    distance(rt, 2, &[TOP], 0, TOP)?;
+    distance(rt, P62 - 1, &[P61], 0, 9)?;
+    distance(rt, P62 - 1, &[P61 - 1], 0, 9)?;
+    distance(rt, P62 - 2, &[1], 0, P61)?;
+    distance(rt, P62 - 2, &[1], 0, P61 - 1)
 }

@@ -5,26 +5,23 @@ use crate::text::hex;
 use printing::{word, worded};
 use std::io;
 use wire::form::Form;
-use wire::varint::Got;
 
-fn got<R: Print>(rt: &R, g: Got) -> io::Result<()> {
+fn got<R: Print>(rt: &R, g: Option<(u64, usize)>) -> io::Result<()> {
     match g {
-        Got::Value(v, next) => {
+        Some((v, next)) => {
             worded(rt, text::READS, v)?;
             worded(rt, text::NEXT, next as u64)
         }
-        Got::Cut => word(rt, text::CUT),
+        None => word(rt, text::CUT),
     }
 }
 
 // What is read from the place `from` up to the last end, and up to each end before that.
 fn ends<R: Print>(rt: &R, s: &[u8; 16], from: usize, last: usize) -> io::Result<()> {
     got(rt, wire::varint::read(Form::Rfc9000, s, from, last))?;
-    let mut e = from;
-    while e < last {
+    for e in from..last {
         worded(rt, text::END, e as u64)?;
         got(rt, wire::varint::read(Form::Rfc9000, s, from, e))?;
-        e += 1;
     }
     word(rt, text::LINE)
 }
@@ -43,13 +40,11 @@ fn vector<R: Print>(rt: &R, place: usize, v: u64) -> io::Result<()> {
 
 // The powers of two, and the numbers beside each.
 pub fn powers<R: Print>(rt: &R) -> io::Result<()> {
-    let mut k: u64 = 0;
-    while k < 64 {
+    for k in 0u64..64 {
         let p = 1u64 << k;
         vector(rt, 3, std::num::wrapping_sub_u64(p, 1))?;
         vector(rt, 3, p)?;
         vector(rt, 3, std::num::wrapping_add_u64(p, 1))?;
-        k += 1;
     }
     Ok(())
 }
@@ -71,8 +66,8 @@ pub fn edges<R: Print>(rt: &R) -> io::Result<()> {
 fn one<R: Print>(rt: &R, s: &[u8], at: usize) -> io::Result<usize> {
     let g = wire::varint::read(Form::Rfc9000, s, at, s.len());
     let next = match g {
-        Got::Value(_, n) => n,
-        Got::Cut => s.len(),
+        Some((_, n)) => n,
+        None => s.len(),
     };
     hex(rt, text::LONE_BYTES, s, at, next)?;
     got(rt, g)?;
@@ -83,44 +78,46 @@ fn one<R: Print>(rt: &R, s: &[u8], at: usize) -> io::Result<usize> {
 // n varints, each where the one before it ends.
 fn chain<R: Print>(rt: &R, s: &[u8], n: usize) -> io::Result<()> {
     let mut at = 0;
-    let mut i = 0;
-    while i < n {
+    for _ in 0..n {
         at = one(rt, s, at)?;
-        i += 1;
     }
     Ok(())
 }
 
-// Varints one after another, 17 bytes for each row of them. First the examples of RFC 9000, A.1, of which the last is 37 in two bytes. Then,
-// in each longer form: 0, 1, 37 and 63, which one byte would hold; 64, 15293 and 16383, which two would; 16384, 494878333 and 2^30 - 1, which
-// four would.
-const PADDED: [u8; 187] = *b"\
-    \xc2\x19\x7c\x5e\xff\x14\xe8\x8c\x9d\x7f\x3e\x7d\x7b\xbd\x25\x40\x25\
-    \x40\x00\x80\x00\x00\x00\xc0\x00\x00\x00\x00\x00\x00\x00---\
-    \x40\x01\x80\x00\x00\x01\xc0\x00\x00\x00\x00\x00\x00\x01---\
-    \x40\x25\x80\x00\x00\x25\xc0\x00\x00\x00\x00\x00\x00\x25---\
-    \x40\x3f\x80\x00\x00\x3f\xc0\x00\x00\x00\x00\x00\x00\x3f---\
-    \x80\x00\x00\x40\xc0\x00\x00\x00\x00\x00\x00\x40-----\
-    \x80\x00\x3b\xbd\xc0\x00\x00\x00\x00\x00\x3b\xbd-----\
-    \x80\x00\x3f\xff\xc0\x00\x00\x00\x00\x00\x3f\xff-----\
-    \xc0\x00\x00\x00\x00\x00\x40\x00---------\
-    \xc0\x00\x00\x00\x1d\x7f\x3e\x7d---------\
-    \xc0\x00\x00\x00\x3f\xff\xff\xff---------";
-
-// How many varints each row has, and in the last two digits how many bytes they take.
-const ROWS: [usize; 11] = [517, 314, 314, 314, 314, 212, 212, 212, 108, 108, 108];
-
+// Varints one after another. First the examples of RFC 9000, A.1, of which the last is 37 in two bytes. Then, in each longer form: 0, 1, 37 and
+// 63, which one byte would hold; 64, 15293 and 16383, which two would; 16384, 494878333 and 2^30 - 1, which four would.
 pub fn padded<R: Print>(rt: &R) -> io::Result<()> {
-    let bytes = PADDED;
-    let mut i = 0;
-    while i < 11 {
-        let row = ROWS[i];
-        let from = 17 * i;
-        let last = from + row % 100 % 18;
-        chain(rt, &bytes[from..last], row / 100)?;
-        i += 1;
-    }
-    Ok(())
+    chain(
+        rt,
+        b"\xc2\x19\x7c\x5e\xff\x14\xe8\x8c\x9d\x7f\x3e\x7d\x7b\xbd\x25\x40\x25",
+        5,
+    )?;
+    chain(
+        rt,
+        b"\x40\x00\x80\x00\x00\x00\xc0\x00\x00\x00\x00\x00\x00\x00",
+        3,
+    )?;
+    chain(
+        rt,
+        b"\x40\x01\x80\x00\x00\x01\xc0\x00\x00\x00\x00\x00\x00\x01",
+        3,
+    )?;
+    chain(
+        rt,
+        b"\x40\x25\x80\x00\x00\x25\xc0\x00\x00\x00\x00\x00\x00\x25",
+        3,
+    )?;
+    chain(
+        rt,
+        b"\x40\x3f\x80\x00\x00\x3f\xc0\x00\x00\x00\x00\x00\x00\x3f",
+        3,
+    )?;
+    chain(rt, b"\x80\x00\x00\x40\xc0\x00\x00\x00\x00\x00\x00\x40", 2)?;
+    chain(rt, b"\x80\x00\x3b\xbd\xc0\x00\x00\x00\x00\x00\x3b\xbd", 2)?;
+    chain(rt, b"\x80\x00\x3f\xff\xc0\x00\x00\x00\x00\x00\x3f\xff", 2)?;
+    chain(rt, b"\xc0\x00\x00\x00\x00\x00\x40\x00", 1)?;
+    chain(rt, b"\xc0\x00\x00\x00\x1d\x7f\x3e\x7d", 1)?;
+    chain(rt, b"\xc0\x00\x00\x00\x3f\xff\xff\xff", 1)
 }
 
 // The last place that a number can name.
@@ -137,10 +134,8 @@ fn place<R: Print>(rt: &R, at: usize, last: usize) -> io::Result<()> {
 
 // Every place up to two past the three bytes with every such end, and the farthest.
 pub fn places<R: Print>(rt: &R) -> io::Result<()> {
-    let mut k = 0;
-    while k < 36 {
+    for k in 0..36 {
         place(rt, k / 6, k % 6)?;
-        k += 1;
     }
     place(rt, 0, FARTHEST)?;
     place(rt, FARTHEST, 3)?;

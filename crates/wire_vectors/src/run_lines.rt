@@ -3,7 +3,7 @@
 use crate::text;
 use crate::text::hex;
 use printing::{word, worded};
-use runs::{Measured, Outcome};
+use runs::Misread;
 use std::io;
 use wire::form::Form;
 use wire::zigzag::Coding;
@@ -17,19 +17,14 @@ const TO: usize = 2;
 // What the words hold before reading; no list has it.
 const UNREAD: u64 = 0xeeee_eeee_eeee_eeee;
 
-// The words from one place to another, with `_` for one that nothing was read into.
-pub fn words<R: Print>(rt: &R, list: &[u64], from: usize, to: usize) -> io::Result<()> {
-    let mut i = from;
-    while i < to {
-        if i < list.len() {
-            let v = list[i];
-            if v == UNREAD {
-                word(rt, text::BLANK)?;
-            } else {
-                worded(rt, text::SPACE, v)?;
-            }
+// The words, with `_` for one that nothing was read into.
+pub fn words<R: Print>(rt: &R, list: &[u64]) -> io::Result<()> {
+    for v in list {
+        if *v == UNREAD {
+            word(rt, text::BLANK)?;
+        } else {
+            worded(rt, text::SPACE, *v)?;
         }
-        i += 1;
     }
     Ok(())
 }
@@ -69,15 +64,15 @@ pub fn read_back<R: Print>(
         n,
     );
     answer(rt, r)?;
-    words(rt, &out, TO, TO + n)?;
+    words(rt, &out[TO..TO + n])?;
     word(rt, text::LINE)
 }
 
-fn answer<R: Print>(rt: &R, r: Outcome) -> io::Result<()> {
+fn answer<R: Print>(rt: &R, r: Result<(), Misread>) -> io::Result<()> {
     let w = match r {
-        Outcome::Done => text::DONE,
-        Outcome::Misfit => text::MISFIT,
-        Outcome::Outside => text::OUTSIDE,
+        Ok(()) => text::DONE,
+        Err(Misread::Misfit) => text::MISFIT,
+        Err(Misread::Outside) => text::OUTSIDE,
     };
     word(rt, w)
 }
@@ -136,11 +131,11 @@ pub fn kind<R: Print>(rt: &R, coding: Coding, base: u64) -> io::Result<()> {
     worded(rt, text::BASE, base)
 }
 
-fn measured<R: Print>(rt: &R, m: Measured) -> io::Result<()> {
+fn measured<R: Print>(rt: &R, m: Option<usize>) -> io::Result<()> {
     word(rt, text::MEASURE)?;
     match m {
-        Measured::Bytes(k) => worded(rt, text::SPACE, k as u64),
-        Measured::TooWide => {
+        Some(k) => worded(rt, text::SPACE, k as u64),
+        None => {
             word(rt, text::TOO)?;
             word(rt, text::WIDE)
         }

@@ -151,12 +151,10 @@ pub fn totalled(w: &[u64], from: usize, to: usize) -> Total
 {
     let mut bits = 0;
     let mut sum = 0;
-    let mut i = from;
-    while i < to {
+    for i in from..to {
         let v = w[i];
         bits = bits | v;
         sum += v % 0x1_0000_0000;
-        i += 1;
     }
     Total { bits, sum }
 }

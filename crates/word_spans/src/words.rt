@@ -9,9 +9,5 @@ pub fn copy(r: &[u64], from: usize, n: usize, x: &mut [u64], to: usize)
     requires { (from + n ≤ length r.now) × (to + n ≤ length x.old) }
     ensures { x.new ≡ sets x.old to (slice from (from + n) r.now) }
 {
-    let mut i = 0;
-    while i < n {
-        x[to + i] = r[from + i];
-        i += 1;
-    }
+    x[to..to + n].copy_from_slice(&r[from..from + n]);
 }

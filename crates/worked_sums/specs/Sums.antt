@@ -1,8 +1,7 @@
 -- The numbers that document 01 works out, a line each: what the definitions compute, and what the document states.
 -- ==== The rules
 use Rattle.std.specs.Prelude.{ℕ, ◌-◌, ◌^◌, List, [], ◌∷◌, ℤ, pos, neg_ℤ}
-use Rattle.wire.specs.declared.varint.Got.{Got}
-use Rattle.wire.specs.declared.varint.Got.TheVariants.{Value, Cut}
+use Rattle.std.specs.Prelude.{Option, Some, None}
 use Rattle.wire.specs.Form.{rfc9000}
 use Rattle.wire.specs.Varint.{encode, read_f}
 use Rattle.wire.specs.Zigzag.{zigzag}
@@ -20,9 +19,9 @@ abbrev pub minus : ℕ → ℤ
 minus n = neg_ℤ (pos n)
 
 -- what reading finds: the value, and how many bytes it took
-abbrev pub found : Got → List ℕ
-found (Value v k) = v ∷ k ∷ []
-found Cut = []
+abbrev pub found : Option (ℕ × ℕ) → List ℕ
+found (Some (v, k)) = v ∷ k ∷ []
+found None = []
 
 -- 01: "Proved, as a single table under one claim: zigzag 0, -1, 1, -2, -2^61 give 0, 1, 2, 3, 2^62-1; varints 63, 64, 16383, 16384 give
 -- `3f`, `4040`, `7fff`, `80004000`; `4025` reads 37; flags 3, 4, 31 give 0x01010000, 0x02000000, 0x03C10000."

@@ -1,5 +1,5 @@
 -- `runs::fill_rest` meets its contract, by the laws of `proofs/FillLoop.antt`.
-use Prim.Native.Nat.{ℕ, ◌-◌}
+use Prim.Native.Nat.{ℕ}
 use mathlib.Core.Path.{◌≡◌}
 use mathlib.Core.List.{List}
 use lib.ListN.{length}
@@ -13,6 +13,3 @@ invariant-loop-k l =
     × ((at : ℕ) (before : List ℕ)
     → Filling (rows l.form) l.coding l.base l.bound l.s at l.end l.old before l.to l.n l.initial.out l.p l.i
     → Filling (rows l.form) l.coding l.base l.bound l.s at l.end l.old before l.to l.n l.out l.at l.k)
-
-abbrev pub decreases-loop-k : goal.decreases-loop-k
-decreases-loop-k l = l.n - l.k

@@ -1,12 +1,7 @@
 -- `runs::measure` meets its contract, by the laws of `proofs/MeasureLoop.antt`.
-use Prim.Native.Nat.{◌-◌}
-use lib.ListN.{length}
 use Rattle.wire.specs.Form.{rows}
 use Rattle.runs.proofs.MeasureLoop.{Measuring}
 use Rattle.runs.proofs.measure.Given as goal
 
 abbrev pub invariant-loop-i : goal.invariant-loop-i
 invariant-loop-i l = Measuring (rows l.form) l.coding l.base l.old l.new l.sum l.i
-
-abbrev pub decreases-loop-i : goal.decreases-loop-i
-decreases-loop-i l = length l.new - l.i

@@ -9,13 +9,8 @@ use Rattle.runs.proofs.one_at.Goals as goal
 pub returns-then-ones-z : goal.returns-then-ones-z
 returns-then-ones-z c = λ base end here bytes. tt
 
-pub returns-in_default : goal.returns-in_default
-returns-in_default c = λ base end here bytes. tt
-
 pub returns : goal.returns
 returns c =
-    λ base end here bytes. (
-      next_one (rows c.args.form) _ base _ _ _ _ end _ (lawful c.args.form) (record { before = here; inside = bytes; first = refl }) c.requires.1
-          c.wide-z.ensures (omega (arith, c.ones.ensures, c.if-ones-z.false)) c.reach-t.ensures c.in-To.is,
-      refl,
-    )
+    λ base end here bytes.
+    next_one (rows c.args.form) _ base _ _ _ _ end _ (lawful c.args.form) (record { before = here; inside = bytes; first = refl }) c.requires.1
+    c.wide-z.ensures (omega (arith, c.ones.ensures, c.if-ones-z.false)) c.reach.ensures

@@ -1,29 +1,17 @@
 -- `cmaf_read_boxes::right::pairs_in` meets its contract: the boxes lie in the chunk, and its tests are the definition's.
 use mathlib.Core.Bool.{◌&&◌, not}
-use Rattle.cmaf_read_boxes.proofs.BoxLaws.{BoxesIn, found_in, pairs-wrong, pairs-read}
+use Rattle.cmaf_read_boxes.proofs.BoxLaws.{found_in, pairs-wrong, pairs-read}
 use mathlib.Core.Path.{ap}
 use Rattle.cmaf_read_boxes.proofs.right.pairs_in.Goals as goal
 
-lie : (c : goal.After-senc-1) → BoxesIn c.args.c.now c.args.top c.args.f
-lie c = found_in c.args.c.now c.args.top c.args.f c.requires.top_value.0 c.requires.top_value.1
-
-lie-2 : (c : goal.After-outer_ok) → BoxesIn c.args.c.now c.args.top c.args.f
-lie-2 c = found_in c.args.c.now c.args.top c.args.f c.requires.top_value.0 c.requires.top_value.1
-
-lie-3 : (c : goal.After-samples_ok) → BoxesIn c.args.c.now c.args.top c.args.f
-lie-3 c = found_in c.args.c.now c.args.top c.args.f c.requires.top_value.0 c.requires.top_value.1
-
-lie-4 : (c : goal.Else-not-outer_ok-samples_ok) → BoxesIn c.args.c.now c.args.top c.args.f
-lie-4 c = found_in c.args.c.now c.args.top c.args.f c.requires.top_value.0 c.requires.top_value.1
-
 pub outer_ok-requires : goal.outer_ok-requires
-outer_ok-requires c = let i = lie c in (i.prft-in, i.emsgs-in)
+outer_ok-requires c = let i = found_in c.args.c.now c.args.top c.args.f c.requires.top_value.0 c.requires.top_value.1 in (i.prft-in, i.emsgs-in)
 
 pub samples_ok-requires : goal.samples_ok-requires
-samples_ok-requires c = let i = lie-2 c in record { inside = (i.mfhd-in, i.tfhd-in); inside_2 = (i.tfdt-in, i.trun-in) }
+samples_ok-requires c = let i = found_in c.args.c.now c.args.top c.args.f c.requires.top_value.0 c.requires.top_value.1 in record { inside = (i.mfhd-in, i.tfhd-in); inside_2 = (i.tfdt-in, i.trun-in) }
 
 pub sizes_ok-requires : goal.sizes_ok-requires
-sizes_ok-requires c = let i = lie-3 c in (i.saiz-in, i.saio-in)
+sizes_ok-requires c = let i = found_in c.args.c.now c.args.top c.args.f c.requires.top_value.0 c.requires.top_value.1 in (i.saiz-in, i.saio-in)
 
 pub returns-then-not-outer_ok-samples_ok : goal.returns-then-not-outer_ok-samples_ok
 returns-then-not-outer_ok-samples_ok c =
@@ -31,7 +19,7 @@ returns-then-not-outer_ok-samples_ok c =
     (λ j. c.outer_ok.ensures j && (c.samples_ok.ensures j && c.sizes_ok.ensures j)) (ap not c.if-not-outer_ok-samples_ok.true)
 
 pub senc_read-requires : goal.senc_read-requires
-senc_read-requires c = (lie-4 c).senc-in
+senc_read-requires c = (found_in c.args.c.now c.args.top c.args.f c.requires.top_value.0 c.requires.top_value.1).senc-in
 
 pub returns : goal.returns
 returns c =

@@ -35,15 +35,15 @@ module _ {w : List ℕ} (z : w ≡ replicate (events_len + set_len) 0) where
     as-long = omega (arith, length-append ys (drop events_len w), length-drop events_len w, l, front-of, long)
 
 -- what `settle` did, with the words of the events as `count` left them
-settled : (c : goal.After-refused-then-not-settle) → SettledAs c.args.t c.args.c.now c.args.top c.args.f c.count-counts.new.events c.settle.result (drop events_len c.settle.new.words)
+settled : (c : goal.After-refused-then-not-settle) → SettledAs c.args.t c.args.c.now c.args.top c.args.f c.count.new.events c.settle.result (drop events_len c.settle.new.words)
 settled c =
     subst (λ (ws : List ℕ). SettledAs c.args.t c.args.c.now c.args.top c.args.f ws c.settle.result (drop events_len c.settle.new.words))
-    (front c.requires.words_value _ c.count-counts.auto.events) c.settle.ensures.0
+    (front c.requires.words_value _ c.count.auto.events) c.settle.ensures.0
 
-settled-2 : (c : goal.After-taken) → SettledAs c.args.t c.args.c.now c.args.top c.args.f c.count-counts.new.events c.settle.result (drop events_len c.settle.new.words)
+settled-2 : (c : goal.After-taken) → SettledAs c.args.t c.args.c.now c.args.top c.args.f c.count.new.events c.settle.result (drop events_len c.settle.new.words)
 settled-2 c =
     subst (λ (ws : List ℕ). SettledAs c.args.t c.args.c.now c.args.top c.args.f ws c.settle.result (drop events_len c.settle.new.words))
-    (front c.requires.words_value _ c.count-counts.auto.events) c.settle.ensures.0
+    (front c.requires.words_value _ c.count.auto.events) c.settle.ensures.0
 
 pub slice_bounds-count-end : goal.slice_bounds-count-end
 slice_bounds-count-end c = front-in events_len set_len c.args.words.now (long c.requires.words_value)
@@ -51,34 +51,33 @@ slice_bounds-count-end c = front-in events_len set_len c.args.words.now (long c.
 pub slice_bounds-count-end-2 : goal.slice_bounds-count-end-2
 slice_bounds-count-end-2 c = sym (front-of c.requires.words_value)
 
-pub count-counts-requires : goal.count-counts-requires
-count-counts-requires c = record {
+pub count-requires : goal.count-requires
+count-requires c = record {
   top_value = c.requires.top_value;
   c_value = (c.requires.iv_size_bound.2, front-of c.requires.words_value);
   pairs_value = c.requires.pairs_value;
 }
 
-pub returns-then-counts-ne0 : goal.returns-then-counts-ne0
-returns-then-counts-ne0 c =
+pub returns-in_default : goal.returns-in_default
+returns-in_default c =
     let a = c.args in
-    counted-break (rows a.form) a.t a.c.now c.requires.iv_size_bound.1 c.requires.iv_size_bound.2 c.count-counts.ensures c.refused.ensures c.if-counts-ne0.true
+    counted-break (rows a.form) a.t a.c.now c.requires.iv_size_bound.1 c.requires.iv_size_bound.2 c.in_default.ensures c.refused.ensures
 
 pub settle-requires : goal.settle-requires
 settle-requires c =
     let a = c.args in
     let x = c.requires.top_value.0 in
     let y = c.requires.top_value.1 in
-    let z = c.if-counts-ne0.false in
-    let h = c.count-counts.ensures in
-    let l = c.count-counts.auto.events in
-    let k = counts-kept (rows a.form) a.t a.c.now h z in
+    let h = c.in-Some.ensures in
+    let l = c.count.auto.events in
+    let k = counts-kept (rows a.form) a.t a.c.now h in
     record {
       right = (
         right_is a.t a.c.now _ _ x y c.requires.iv_size_bound.2 k,
         gatherable a.t a.c.now _ _ x y c.requires.iv_size_bound.2 k c.requires.iv_size_bound.0,
       );
       events_bound = (
-        omega (arith, events-there (rows a.form) a.t a.c.now h z x, l, front-of c.requires.words_value),
+        omega (arith, events-there (rows a.form) a.t a.c.now h x, l, front-of c.requires.words_value),
         as-long c.requires.words_value _ l,
         rest c.requires.words_value _ l ∙ zeros-rest events_len set_len c.requires.words_value,
       );
@@ -87,7 +86,7 @@ settle-requires c =
 pub returns-then-not-settle : goal.returns-then-not-settle
 returns-then-not-settle c =
     let a = c.args in
-    rules-break (rows a.form) a.t a.c.now c.requires.iv_size_bound.1 c.requires.iv_size_bound.2 c.count-counts.ensures c.if-counts-ne0.false
+    rules-break (rows a.form) a.t a.c.now c.requires.iv_size_bound.1 c.requires.iv_size_bound.2 c.in-Some.ensures
     c.requires.top_value.0 c.requires.top_value.1 (settled c) c.refused-then-not-settle.ensures (ap not c.if-not-settle.true)
 
 pub taken-requires : goal.taken-requires
@@ -98,6 +97,6 @@ taken-requires c =
 pub returns : goal.returns
 returns c =
     let a = c.args in
-    rw (c.settle.ensures.1 ∙ front c.requires.words_value _ c.count-counts.auto.events)
-    (rules-keep (rows a.form) a.t a.c.now c.requires.iv_size_bound.1 c.requires.iv_size_bound.2 c.count-counts.ensures c.if-counts-ne0.false
+    rw (c.settle.ensures.1 ∙ front c.requires.words_value _ c.count.auto.events)
+    (rules-keep (rows a.form) a.t a.c.now c.requires.iv_size_bound.1 c.requires.iv_size_bound.2 c.in-Some.ensures
     c.requires.top_value.0 c.requires.top_value.1 (settled-2 c) c.taken.ensures (ap not c.if-not-settle.false))

@@ -1,5 +1,4 @@
 -- `cmaf_read_rules::all::clocks_ok` meets its contract, by the row of tests that is left.
-use Prim.Native.Nat.{◌-◌}
 use mathlib.Core.List.{[]}
 use Rattle.laws.proofs.RowLaws.{Tested}
 use Rattle.event_value.specs.Events.{events_from}
@@ -8,6 +7,3 @@ use Rattle.cmaf_read_rules.proofs.all.clocks_ok.Given as goal
 
 abbrev pub invariant-loop-i : goal.invariant-loop-i
 invariant-loop-i l = Tested (λ n j. clocks_ok (events_from [] l.events n j)) l.k l.ok l.i
-
-abbrev pub decreases-loop-i : goal.decreases-loop-i
-decreases-loop-i l = l.k - l.i

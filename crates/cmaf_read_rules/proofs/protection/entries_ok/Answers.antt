@@ -46,9 +46,6 @@ overflow_add-p c =
     let z = checking-len _ _ _ _ _ g c.loop-i-test.true _ _ k m in
     search rules
 
-pub overflow_add-i : goal.overflow_add-i
-overflow_add-i c = search rules
-
 pub loop-i-preserved : goal.loop-i-preserved
 loop-i-preserved c =
     let m = c.map_length.ensures in

@@ -1,4 +1,3 @@
-use Prim.Native.Nat.{◌-◌}
 use borrow.Author.Rules.{rules}
 use Rattle.cmaf_read_tree.proofs.NumberLaws.{spelling-start, spelling-fits, spelling-next, spelling-end}
 use Rattle.cmaf_read_tree.proofs.numbers.u64_at.Goals as goal

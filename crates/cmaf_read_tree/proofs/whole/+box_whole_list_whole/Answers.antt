@@ -1,9 +1,8 @@
 -- `cmaf_read_tree::whole::list_whole` and `cmaf_read_tree::whole::box_whole` meet their contracts, whatever the budget.
-use borrow.Author.Rules.{rules}
 use native.Mathlib.Omega.{arith}
 use mathlib.Core.Path.{sym, ◌∙◌}
 use lib.ListN.{length-take, length-drop}
-use Rattle.cmaf_read_tree.proofs.HeadLaws.{HeadAt, head_at}
+use Rattle.cmaf_read_tree.proofs.HeadLaws.{head_at}
 use Rattle.cmaf_read_tree.proofs.PlaceLaws.{passed_none, passed-all, passed-broken, whole-boxwise, box-off, box-on, box-leaf, box-list}
 use Rattle.cmaf_read_tree.proofs.whole.+box_whole_list_whole.Goals as goal
 
@@ -32,45 +31,20 @@ list_whole-loop-at-init t c = passed_none _
 
 pub list_whole-returns-in_default : goal.list_whole-returns-in_default
 list_whole-returns-in_default t c =
-    passed-broken whole-boxwise c.loop-at.invariant c.loop-at-test.true (sym c.in_default.is ∙ c.head_at-h.ensures)
-
-pub list_whole-overflow_add-end : goal.list_whole-overflow_add-end
-list_whole-overflow_add-end t c =
-    let h : HeadAt c.args.b.now c.loop-at.at c.in-Stands.size c.in-Stands.field-1 = head_at _ _ _ _ (sym c.in-Stands.is ∙ c.head_at-h.ensures) in
-    search rules
-
-pub list_whole-slice_bounds-box_whole-count : goal.list_whole-slice_bounds-box_whole-count
-list_whole-slice_bounds-box_whole-count t c =
-    let h : HeadAt c.args.b.now c.loop-at.at c.in-Stands.size c.in-Stands.field-1 = head_at _ _ _ _ (sym c.in-Stands.is ∙ c.head_at-h.ensures) in
-    omega arith
-
-pub list_whole-slice_bounds-box_whole-start : goal.list_whole-slice_bounds-box_whole-start
-list_whole-slice_bounds-box_whole-start t c =
-    let h : HeadAt c.args.b.now c.loop-at.at c.in-Stands.size c.in-Stands.field-1 = head_at _ _ _ _ (sym c.in-Stands.is ∙ c.head_at-h.ensures) in
-    omega arith
-
-pub list_whole-slice_bounds-box_whole-end : goal.list_whole-slice_bounds-box_whole-end
-list_whole-slice_bounds-box_whole-end t c =
-    let h : HeadAt c.args.b.now c.loop-at.at c.in-Stands.size c.in-Stands.field-1 = head_at _ _ _ _ (sym c.in-Stands.is ∙ c.head_at-h.ensures) in
-    omega arith
+    passed-broken whole-boxwise c.loop-at.invariant c.loop-at-test.true c.in_default.ensures.head
 
 pub list_whole-box_whole-requires : goal.list_whole-box_whole-requires
 list_whole-box_whole-requires t c =
-    let h : HeadAt c.args.b.now c.loop-at.at c.in-Stands.size c.in-Stands.field-1 = head_at _ _ _ _ (sym c.in-Stands.is ∙ c.head_at-h.ensures) in
-    (simp (length-take, length-drop) (omega arith), simp (length-take, length-drop) (omega arith))
+    let r = c.in-Some.ensures.room in
+    (simp (length-take, length-drop) (omega (arith, r)), simp (length-take, length-drop) (omega (arith, r)))
 
 pub list_whole-returns-then-not-box_whole : goal.list_whole-returns-then-not-box_whole
 list_whole-returns-then-not-box_whole t c =
-    box-off (head_at _ _ _ _ (sym c.in-Stands.is ∙ c.head_at-h.ensures)) c.loop-at.invariant (sym c.box_whole.ensures ∙ c.if-not-box_whole.true)
-
-pub list_whole-loop-at-smaller : goal.list_whole-loop-at-smaller
-list_whole-loop-at-smaller t c =
-    let h : HeadAt c.args.b.now c.loop-at.at c.in-Stands.size c.in-Stands.field-1 = head_at _ _ _ _ (sym c.in-Stands.is ∙ c.head_at-h.ensures) in
-    omega arith
+    box-off (head_at _ _ _ _ c.in-Some.ensures.head) c.loop-at.invariant (sym c.box_whole.ensures ∙ c.if-not-box_whole.true)
 
 pub list_whole-loop-at-preserved : goal.list_whole-loop-at-preserved
 list_whole-loop-at-preserved t c =
-    box-on (head_at _ _ _ _ (sym c.in-Stands.is ∙ c.head_at-h.ensures)) c.loop-at.invariant (sym c.box_whole.ensures ∙ c.if-not-box_whole.false)
+    box-on (head_at _ _ _ _ c.in-Some.ensures.head) c.loop-at.invariant (sym c.box_whole.ensures ∙ c.if-not-box_whole.false)
 
 pub list_whole-returns : goal.list_whole-returns
 list_whole-returns t c = passed-all whole-boxwise c.loop-at.invariant c.loop-at-test.false

@@ -5,6 +5,3 @@ use Rattle.cmaf_write_emsg.proofs.emsg.emsgs_length.Given as goal
 
 abbrev pub invariant-loop-i : goal.invariant-loop-i
 invariant-loop-i l = Adding l.events l.k l.sum l.i
-
-abbrev pub decreases-loop-i : goal.decreases-loop-i
-decreases-loop-i l = l.k - l.i

@@ -6,7 +6,6 @@ use lib.ListN.{length, length-append}
 use Rattle.laws.proofs.LeftLaws.{left-all, left-none, left-room, left-same, left_less}
 use Rattle.laws.proofs.WriteLaws.{wrote_as}
 use Rattle.cmaf_write_emsg.specs.Emsg.{emsg_box}
-use Rattle.event_value.specs.Events.{EventFits}
 use Rattle.event_value.proofs.LentLaws.{lent-event, lent_fits}
 use Rattle.cmaf_write_emsg.proofs.EmsgLaws.{events-end, events-next}
 use Rattle.cmaf_write_emsg.proofs.emsg.put_emsgs.Goals as goal
@@ -14,41 +13,26 @@ use Rattle.cmaf_write_emsg.proofs.emsg.put_emsgs.Goals as goal
 pub loop-i-init : goal.loop-i-init
 loop-i-init c = (omega arith, rw sub-zero (left-all _ _ _ c.requires.k_in_bounds))
 
--- the words of the next event are there, and point into the object
-there : (c : goal.In-loop-i)
-    → let a = c.args in EventFits a.o.now a.events.now c.loop-i.i
-there c = c.requires.events_fit.each _ c.loop-i-test.true
-
--- the words of the next event are there, and point into the object
-there-2 : (c : goal.After-put_emsg-arg-in-loop-i-1)
-    → let a = c.args in EventFits a.o.now a.events.now c.loop-i.i
-there-2 c = c.requires.events_fit.each _ c.loop-i-test.true
-
--- the words of the next event are there, and point into the object
-there-3 : (c : goal.After-slice_known-in-loop-i-1)
-    → let a = c.args in EventFits a.o.now a.events.now c.loop-i.i
-there-3 c = c.requires.events_fit.each _ c.loop-i-test.true
-
 pub overflow_mul-from : goal.overflow_mul-from
-overflow_mul-from c = let e = (there c).there in search rules
+overflow_mul-from c = let e = (c.requires.events_fit.each _ c.loop-i-test.true).there in search rules
 
 pub overflow_add-from : goal.overflow_add-from
-overflow_add-from c = let e = (there c).there in search rules
+overflow_add-from c = let e = (c.requires.events_fit.each _ c.loop-i-test.true).there in search rules
 
 pub offset_bounds-events-from : goal.offset_bounds-events-from
-offset_bounds-events-from c = let e = (there c).there in search rules
+offset_bounds-events-from c = let e = (c.requires.events_fit.each _ c.loop-i-test.true).there in search rules
 
 pub slice_bounds-put_emsg-start : goal.slice_bounds-put_emsg-start
-slice_bounds-put_emsg-start c = let e = (there c).there in search rules
+slice_bounds-put_emsg-start c = let e = (c.requires.events_fit.each _ c.loop-i-test.true).there in search rules
 
 pub slice_bounds-put_emsg-end : goal.slice_bounds-put_emsg-end
-slice_bounds-put_emsg-end c = let e = (there c).there in search rules
+slice_bounds-put_emsg-end c = let e = (c.requires.events_fit.each _ c.loop-i-test.true).there in search rules
 
 pub put_emsg-p-requires : goal.put_emsg-p-requires
 put_emsg-p-requires c =
     let a = c.args in
     let i = c.loop-i.i in
-    let f = there-2 c in
+    let f = c.requires.events_fit.each _ c.loop-i-test.true in
     let n = ap length (events-next a.o.now a.events.now a.k i c.loop-i-test.true) in
     record { event_fits = lent_fits _ _ f.there _ f; event_in_bounds = rw (lent-event a.events.now i f.there a.o.now) (omega (arith, left-room c.loop-i.invariant.1, simp length-append at n)) }
 
@@ -58,7 +42,7 @@ loop-i-preserved c =
     let i = c.loop-i.i in (
       omega arith,
       left_less c.loop-i.invariant.1 _ (events-next a.o.now a.events.now a.k i c.loop-i-test.true)
-          (wrote_as (ap emsg_box (lent-event a.events.now i (there-3 c).there a.o.now)) c.put_emsg-p.ensures),
+          (wrote_as (ap emsg_box (lent-event a.events.now i (c.requires.events_fit.each _ c.loop-i-test.true).there a.o.now)) c.put_emsg-p.ensures),
     )
 
 pub shape_of-out : goal.shape_of-out

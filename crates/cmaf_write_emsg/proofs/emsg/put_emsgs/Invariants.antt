@@ -7,6 +7,3 @@ use Rattle.cmaf_write_emsg.proofs.emsg.put_emsgs.Given as goal
 
 abbrev pub invariant-loop-i : goal.invariant-loop-i
 invariant-loop-i l = (l.i ≤ l.k) × Left l.initial.out l.at (emsg_boxes (events_from l.o l.events l.k 0)) l.out l.p (emsg_boxes (events_from l.o l.events (l.k - l.i) l.i))
-
-abbrev pub decreases-loop-i : goal.decreases-loop-i
-decreases-loop-i l = l.k - l.i

@@ -6,6 +6,3 @@ use Rattle.cmaf_write_moof.proofs.moof.put_rows.Given as goal
 
 abbrev pub invariant-loop-i : goal.invariant-loop-i
 invariant-loop-i l = (l.i ≤ l.n) × Left l.initial.out l.at (rows_by l.w l.last l.n 0) l.out l.p (rows_by l.w l.last (l.n - l.i) l.i)
-
-abbrev pub decreases-loop-i : goal.decreases-loop-i
-decreases-loop-i l = l.n - l.i

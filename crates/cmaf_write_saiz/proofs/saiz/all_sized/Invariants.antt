@@ -6,6 +6,3 @@ use Rattle.cmaf_write_saiz.proofs.saiz.all_sized.Given as goal
 
 abbrev pub invariant-loop-i : goal.invariant-loop-i
 invariant-loop-i l = all_sized l.t l.w l.v (l.n - l.i) l.i ≡ all_sized l.t l.w l.v l.n 0
-
-abbrev pub decreases-loop-i : goal.decreases-loop-i
-decreases-loop-i l = l.n - l.i

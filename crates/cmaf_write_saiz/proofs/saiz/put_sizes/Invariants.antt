@@ -6,6 +6,3 @@ use Rattle.cmaf_write_saiz.proofs.saiz.put_sizes.Given as goal
 
 abbrev pub invariant-loop-i : goal.invariant-loop-i
 invariant-loop-i l = Left l.initial.out l.at (info_sizes l.t l.w l.n 0) l.out l.p (info_sizes l.t l.w (l.n - l.i) l.i)
-
-abbrev pub decreases-loop-i : goal.decreases-loop-i
-decreases-loop-i l = l.n - l.i

@@ -6,6 +6,3 @@ use Rattle.cmaf_write_senc.proofs.senc.pairs.Given as goal
 
 abbrev pub invariant-loop-i : goal.invariant-loop-i
 invariant-loop-i l = (l.i ≤ l.n) × (l.sum + pairs_left l.w l.n l.i ≡ pairs_left l.w l.n 0)
-
-abbrev pub decreases-loop-i : goal.decreases-loop-i
-decreases-loop-i l = l.n - l.i

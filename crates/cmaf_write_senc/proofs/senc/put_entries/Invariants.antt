@@ -17,6 +17,3 @@ invariant-loop-i l =
     (l.j + pairs_left l.w l.n l.i ≤ subsamples_most)
     × ((t : Track) → l.ivs ≡ flag_when (has 9 l.w) (t.iv_size / 8) → l.at + length (senc_entries t l.w l.n 0 0) ≤ length l.initial.out
     → Left l.initial.out l.at (senc_entries t l.w l.n 0 0) l.out l.p (senc_entries t l.w (l.n - l.i) l.i l.j))
-
-abbrev pub decreases-loop-i : goal.decreases-loop-i
-decreases-loop-i l = l.n - l.i

@@ -6,6 +6,3 @@ use Rattle.cmaf_write_senc.proofs.senc.put_subsamples.Given as goal
 
 abbrev pub invariant-loop-j : goal.invariant-loop-j
 invariant-loop-j l = Left l.initial.out l.at (subsamples l.w l.k l.i) l.out l.p (subsamples l.w (l.end - l.j) l.j)
-
-abbrev pub decreases-loop-j : goal.decreases-loop-j
-decreases-loop-j l = l.end - l.j

@@ -7,6 +7,3 @@ use Rattle.counters.proofs.follow.all_follow.Given as goal
 
 abbrev pub invariant-loop-i : goal.invariant-loop-i
 invariant-loop-i l = Walked l.k l.x × Place l.x l.v l.i × ((m : ℕ) → Counts l.k m l.initial.v.c → Following l.t l.k m l.last l.x l.v l.i)
-
-abbrev pub decreases-loop-i : goal.decreases-loop-i
-decreases-loop-i l = l.n - l.i

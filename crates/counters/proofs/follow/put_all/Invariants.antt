@@ -9,6 +9,3 @@ use Rattle.counters.proofs.follow.put_all.Given as goal
 
 abbrev pub invariant-loop-i : goal.invariant-loop-i
 invariant-loop-i l = Walked l.k l.initial.x × Place l.initial.x l.v l.i × Put l.k l.initial.x l.x l.i × ((m : ℕ) → Counts l.k m l.initial.v.c → l.initial.v.c.ok ≡ true → Deriving l.t l.k m l.last l.initial.x l.x l.v l.i)
-
-abbrev pub decreases-loop-i : goal.decreases-loop-i
-decreases-loop-i l = l.n - l.i

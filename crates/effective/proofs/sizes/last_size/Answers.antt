@@ -1,6 +1,7 @@
 -- `effective::sizes::last_size` meets its contract, case by case as `size_of` has them.
 use native.Mathlib.Omega.{arith}
-use mathlib.Core.Path.{sym, ◌∙◌}
+use Prim.Native.Nat.{ℕ, ◌-◌}
+use mathlib.Core.Path.{sym, ◌∙◌, ap}
 use Rattle.field_table.specs.Lines.{lines, line_for}
 use Rattle.field_set.specs.Lawful.{has}
 use Rattle.field_set.proofs.ValueLaws.{has_no, has-yes, listed}
@@ -10,12 +11,18 @@ use Rattle.effective.proofs.sizes.last_size.Goals as goal
 pub returns-then-n-le1 : goal.returns-then-n-le1
 returns-then-n-le1 c = sym (last-lone _ _ _ c.if-n-le1.true)
 
-pub left_of-requires : goal.left_of-requires
+pub add_up-requires : goal.add_up-requires
 unfolding has lines line_for
-left_of-requires c =
+add_up-requires c =
     let w = c.args.w.now in
     let e = listed w c.if-n-le1.false (has-yes 1 w c.if-w-ne0.true) in
-    record { to_in_bounds = omega (arith, c.requires.w_len.0, c.requires.w_len.1); w_bound = rw e at c.requires.sized.sizes }
+    (omega (arith, c.requires.w_len.0, c.requires.w_len.1), omega (arith, rw e at c.requires.sized.sizes, c.requires.sized.few))
+
+pub overflow_sub-result : goal.overflow_sub-result
+unfolding has lines line_for
+overflow_sub-result c =
+    let e = listed c.args.w.now c.if-n-le1.false (has-yes 1 c.args.w.now c.if-w-ne0.true) in
+    omega (arith, c.add_up.ensures, rw e at c.requires.sized.sizes)
 
 pub returns-then-w-ne0 : goal.returns-then-w-ne0
 unfolding has lines line_for
@@ -23,7 +30,7 @@ returns-then-w-ne0 c =
     let w = c.args.w.now in
     let h = has-yes 1 w c.if-w-ne0.true in
     let e = listed w c.if-n-le1.false h in
-    c.left_of.ensures ∙ rw (← e) (sym (last_rest _ w _ c.if-n-le1.false h))
+    ap (λ (n : ℕ). c.args.payload - n) c.add_up.ensures ∙ rw (← e) (sym (last_rest _ w _ c.if-n-le1.false h))
 
 pub returns-then-w-ne0-2 : goal.returns-then-w-ne0-2
 unfolding has lines line_for

@@ -5,6 +5,3 @@ use Rattle.effective.proofs.sums.protected_ok.Given as goal
 
 abbrev pub invariant-loop-i : goal.invariant-loop-i
 invariant-loop-i l = Matching l.w l.n l.last l.ok l.j l.i
-
-abbrev pub decreases-loop-i : goal.decreases-loop-i
-decreases-loop-i l = l.n - l.i

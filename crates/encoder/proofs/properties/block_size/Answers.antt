@@ -1,6 +1,7 @@
 -- `encoder::properties::block_size` meets its contract: its parts weighed together.
 use native.Mathlib.Omega.{arith}
 use mathlib.Core.Path.{sym, ◌∙◌}
+use Rattle.locmaf_write_tuples.proofs.ItemLaws.{weighed-both}
 use Rattle.locmaf_write_block.proofs.LinesLaws.{keep-gone}
 use Rattle.encoder.proofs.GivenLaws.{basis-own, writable, expected-is, kept-share, brands-inside, recorded}
 use Rattle.encoder.proofs.BrandLaws.{names-length}
@@ -48,51 +49,60 @@ bounds-kept-14 c = omega (arith, c.set_size-fields.ensures.1.lines.long)
 
 pub both-requires : goal.both-requires
 both-requires c =
-    let events = (c.events_size-happened.ensures _ (recorded c.requires.read_of_one.1)).small in
-    let gone = (c.deletions_size-gone.ensures c.args.t).small in
-    (omega arith, omega arith)
+    let events = c.events_size-happened.ensures _ (recorded c.requires.read_of_one.1) in
+    let gone = c.deletions_size-gone.ensures c.args.t in
+    (omega (arith, events.small), omega (arith, gone.small))
 
 pub both-last-requires : goal.both-last-requires
 both-last-requires c =
-    let events = (c.events_size-happened.ensures _ (recorded c.requires.read_of_one.1)).small in
-    let gone = (c.deletions_size-gone.ensures c.args.t).small in
-    (omega arith, omega arith)
+    let events = c.events_size-happened.ensures _ (recorded c.requires.read_of_one.1) in
+    let gone = c.deletions_size-gone.ensures c.args.t in
+    let both = weighed-both events gone c.both.ensures in
+    (omega (arith, c.flags_size-flags.ensures.small), omega (arith, both.small))
 
 pub both-requires-2 : goal.both-requires-2
 both-requires-2 c =
     let o = c.requires.read_of_one.0 in
     let h = c.requires.read_of_one.1 in
-    let brands = (c.brands_size-names.ensures _ (names-length o _ h.brand-bytes (brands-inside h))).small in
-    let events = (c.events_size-happened.ensures o (recorded h)).small in
-    let gone = (c.deletions_size-gone.ensures c.args.t).small in
-    (omega arith, omega arith)
+    let brands = c.brands_size-names.ensures _ (names-length o _ h.brand-bytes (brands-inside h)) in
+    let events = c.events_size-happened.ensures o (recorded h) in
+    let gone = c.deletions_size-gone.ensures c.args.t in
+    let last = weighed-both c.flags_size-flags.ensures (weighed-both events gone c.both.ensures) c.both-last.ensures in
+    (omega (arith, brands.small), omega (arith, last.small))
 
 pub both-requires-3 : goal.both-requires-3
 both-requires-3 c =
     let o = c.requires.read_of_one.0 in
     let h = c.requires.read_of_one.1 in
-    let brands = (c.brands_size-names.ensures _ (names-length o _ h.brand-bytes (brands-inside h))).small in
-    let events = (c.events_size-happened.ensures o (recorded h)).small in
-    let gone = (c.deletions_size-gone.ensures c.args.t).small in
-    (omega arith, omega arith)
+    let brands = c.brands_size-names.ensures _ (names-length o _ h.brand-bytes (brands-inside h)) in
+    let events = c.events_size-happened.ensures o (recorded h) in
+    let gone = c.deletions_size-gone.ensures c.args.t in
+    let last = weighed-both c.flags_size-flags.ensures (weighed-both events gone c.both.ensures) c.both-last.ensures in
+    let both = weighed-both brands last c.both-2.ensures in
+    (omega (arith, c.version_size-version.ensures.small), omega (arith, both.small))
 
 pub both-requires-4 : goal.both-requires-4
 both-requires-4 c =
     let o = c.requires.read_of_one.0 in
     let h = c.requires.read_of_one.1 in
-    let brands = (c.brands_size-names.ensures _ (names-length o _ h.brand-bytes (brands-inside h))).small in
-    let events = (c.events_size-happened.ensures o (recorded h)).small in
-    let gone = (c.deletions_size-gone.ensures c.args.t).small in
-    (omega arith, omega arith)
+    let brands = c.brands_size-names.ensures _ (names-length o _ h.brand-bytes (brands-inside h)) in
+    let events = c.events_size-happened.ensures o (recorded h) in
+    let gone = c.deletions_size-gone.ensures c.args.t in
+    let last = weighed-both c.flags_size-flags.ensures (weighed-both events gone c.both.ensures) c.both-last.ensures in
+    let both = weighed-both c.version_size-version.ensures (weighed-both brands last c.both-2.ensures) c.both-3.ensures in
+    (omega (arith, c.times_size-times.ensures.small), omega (arith, both.small))
 
 pub both-requires-5 : goal.both-requires-5
 both-requires-5 c =
     let o = c.requires.read_of_one.0 in
     let h = c.requires.read_of_one.1 in
-    let brands = (c.brands_size-names.ensures _ (names-length o _ h.brand-bytes (brands-inside h))).small in
-    let events = (c.events_size-happened.ensures o (recorded h)).small in
-    let gone = (c.deletions_size-gone.ensures c.args.t).small in
-    (omega (arith, c.set_size-fields.ensures.0.small), omega arith)
+    let brands = c.brands_size-names.ensures _ (names-length o _ h.brand-bytes (brands-inside h)) in
+    let events = c.events_size-happened.ensures o (recorded h) in
+    let gone = c.deletions_size-gone.ensures c.args.t in
+    let last = weighed-both c.flags_size-flags.ensures (weighed-both events gone c.both.ensures) c.both-last.ensures in
+    let late = weighed-both c.version_size-version.ensures (weighed-both brands last c.both-2.ensures) c.both-3.ensures in
+    let both = weighed-both c.times_size-times.ensures late c.both-4.ensures in
+    (omega (arith, c.set_size-fields.ensures.0.small), omega (arith, both.small))
 
 pub returns : goal.returns
 returns c =
@@ -103,7 +113,7 @@ returns c =
           (c.brands_size-names.ensures _ (names-length o _ h.brand-bytes (brands-inside h))) c.flags_size-flags.ensures
           (c.events_size-happened.ensures o (recorded h)) (c.deletions_size-gone.ensures _) _ _ _ _ _ _ c.both.ensures c.both-last.ensures
           c.both-2.ensures c.both-3.ensures c.both-4.ensures c.both-5.ensures,
-      kept-share c.args.s.now b (keep-gone _ _ _ _ _ _ c.set_size-fields.ensures.1 (c.deletions_size-gone.ensures _)),
+      kept-share c.args.s.now b (keep-gone _ _ _ _ _ _ c.set_size-fields.ensures.1 (c.deletions_size-gone.ensures _) c.unwrap_or.ensures),
     )
 
 pub shape_of-kept : goal.shape_of-kept

@@ -9,7 +9,7 @@ use Rattle.encoder.proofs.properties.brands_size.Goals as goal
 pub returns-then-delta-n : goal.returns-then-delta-n
 returns-then-delta-n c =
     λ names e.
-    weighed-as (sym (brands-none c.args.form c.requires names e _ c.if-delta-n.true)) (weighed-nothing c.whole.ensures)
+    weighed-as (sym (brands-none c.args.form c.requires names e _ c.if-delta-n.true)) weighed-nothing
 
 pub overflow_sub-n : goal.overflow_sub-n
 overflow_sub-n c =
@@ -22,4 +22,4 @@ body_size-requires c = omega (arith, c.requires.few)
 pub returns : goal.returns
 returns c =
     λ names e.
-    brands-weighed c.args.form c.requires names e _ c.if-delta-n.false c.body_size.ensures c.whole-2.ensures
+    brands-weighed c.args.form c.requires names e _ c.if-delta-n.false c.body_size.ensures

@@ -6,6 +6,3 @@ use Rattle.field_set.proofs.lawful.regions_ok.Given as goal
 
 abbrev pub invariant-loop-i : goal.invariant-loop-i
 invariant-loop-i l = Scanning l.m l.w l.ok l.rest l.free l.i
-
-abbrev pub decreases-loop-i : goal.decreases-loop-i
-decreases-loop-i l = line_count - l.i

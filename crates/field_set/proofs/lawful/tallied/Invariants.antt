@@ -5,6 +5,3 @@ use Rattle.field_set.proofs.lawful.tallied.Given as goal
 
 abbrev pub invariant-loop-i : goal.invariant-loop-i
 invariant-loop-i l = Tallying l.w l.from l.to l.most l.ok l.sum l.i
-
-abbrev pub decreases-loop-i : goal.decreases-loop-i
-decreases-loop-i l = l.to - l.i

@@ -8,6 +8,3 @@ use Rattle.field_table.proofs.marks.none_stands.Given as goal
 
 abbrev pub invariant-loop-i : goal.invariant-loop-i
 invariant-loop-i live = Gathering (λ (l : Line). get_or live.w l.place 0) live.all live.i
-
-abbrev pub decreases-loop-i : goal.decreases-loop-i
-decreases-loop-i l = line_count - l.i

@@ -5,7 +5,7 @@ use lib.Dec.{leb}
 use Rattle.laws.proofs.TestLaws.{and_right}
 use Rattle.wire.specs.Form.{rows}
 use Rattle.wire.proofs.FormLaws.{lawful}
-use Rattle.locmaf_read_block.proofs.ReadLaws.{Found, found}
+use Rattle.locmaf_read_block.proofs.ReadLaws.{found}
 use Rattle.locmaf_read_block.proofs.OnesLaws.{count_ones}
 use Rattle.locmaf_read_block.proofs.CountLoop.{past, start, done, cut, next}
 use Rattle.locmaf_read_block.proofs.numbers.count.Goals as goal
@@ -30,24 +30,19 @@ returns-then-all_ones c =
 pub loop-p-init : goal.loop-p-init
 loop-p-init c = start _ _ _ _ c.if-s-end.false
 
-pub returns-in_default : goal.returns-in_default
-returns-in_default c =
-    cut _ _ _ _ _ _ c.loop-p.invariant c.loop-p-test.true
-    (sym c.in_default.is ∙ c.read-g.ensures)
-
--- the varint that was read
-one_of : (c : goal.In-Value)
-    → let a = c.args in Found (rows a.form) a.s.now c.loop-p.p a.end c.in-Value.field-0 c.in-Value.next
-one_of c = found _ _ _ _ _ _ (sym c.in-Value.is ∙ c.read-g.ensures)
+pub returns-in_err-next : goal.returns-in_err-next
+returns-in_err-next c = rw c.from_residual.ensures (cut _ _ _ _ _ _ c.loop-p.invariant c.loop-p-test.true c.in_err-next.ensures)
 
 pub overflow_add-n : goal.overflow_add-n
-overflow_add-n c = omega (arith, c.loop-p.invariant.few, c.loop-p.invariant.bytes, (one_of c).some, (one_of c).within)
+overflow_add-n c =
+    let f = found _ _ _ _ _ _ c.in_ok-next.ensures in
+    omega (arith, c.loop-p.invariant.few, c.loop-p.invariant.bytes, f.some, f.within)
 
 pub loop-p-smaller : goal.loop-p-smaller
-loop-p-smaller c = omega (arith, (one_of c).some, (one_of c).within)
+loop-p-smaller c = let f = found _ _ _ _ _ _ c.in_ok-next.ensures in omega (arith, f.some, f.within)
 
 pub loop-p-preserved : goal.loop-p-preserved
-loop-p-preserved c = next _ _ _ _ _ _ c.loop-p.invariant _ _ (one_of c)
+loop-p-preserved c = next _ _ _ _ _ _ c.loop-p.invariant _ _ (found _ _ _ _ _ _ c.in_ok-next.ensures)
 
 pub returns : goal.returns
 returns c = done _ _ _ _ _ _ c.loop-p.invariant c.loop-p-test.false

@@ -14,7 +14,7 @@ returns-then-not-mark c =
 pub returns-in_default : goal.returns-in_default
 returns-in_default c =
     let p = c.requires in
-    refuse-count _ _ _ _ _ _ _ c.base_of-a.ensures _ c.count_of-g.ensures p.r_len.0 p.r_len.1 p.r_len.2
+    refuse-count _ _ _ _ _ _ _ c.base_of-a.ensures _ c.count_of.ensures p.r_len.0 p.r_len.1 p.r_len.2
     c.in_default.is _ _ c.mark.ensures (ap not c.if-not-mark.false) _ p.r_len.3
 
 pub bounds-x-1 : goal.bounds-x-1
@@ -23,11 +23,11 @@ bounds-x-1 c = omega (arith, zeros-long c.requires.r_len.3)
 pub take_fields-requires : goal.take_fields-requires
 take_fields-requires c =
     let p = c.requires in
-    let en = c.in-To.is in record {
-      readable = readable _ _ _ _ _ _ _ c.base_of-a.ensures _ c.count_of-g.ensures p.r_len.0 p.r_len.1 p.r_len.2 _ en p.telling _ _ c.mark.ensures (ap not c.if-not-mark.false);
+    let en = c.in-Some.is in record {
+      readable = readable _ _ _ _ _ _ _ c.base_of-a.ensures _ c.count_of.ensures p.r_len.0 p.r_len.1 p.r_len.2 _ en p.telling _ _ c.mark.ensures (ap not c.if-not-mark.false);
       n_le_samples_most = (
-        found-few _ _ _ _ c.base_of-a.ensures p.r_len.1 p.r_len.2 _ _ c.count_of-g.ensures _ en,
-        found-count _ _ _ _ _ _ _ c.base_of-a.ensures _ c.count_of-g.ensures p.r_len.0 p.r_len.1 p.r_len.2 _ en,
+        found-few _ _ _ _ c.base_of-a.ensures p.r_len.1 p.r_len.2 _ _ c.count_of.ensures _ en,
+        found-count _ _ _ _ _ _ _ c.base_of-a.ensures _ c.count_of.ensures p.r_len.0 p.r_len.1 p.r_len.2 _ en,
         words-start-at _ _ p.r_len.3,
       );
     }
@@ -38,5 +38,5 @@ shape_of-x c = c.take_fields.ensures.long ∙ sym (zeros-long c.requires.r_len.3
 pub returns : goal.returns
 returns c =
     let p = c.requires in
-    read-on _ _ _ _ _ _ _ c.base_of-a.ensures _ c.count_of-g.ensures p.r_len.0 p.r_len.1 p.r_len.2 _ c.in-To.is
+    read-on _ _ _ _ _ _ _ c.base_of-a.ensures _ c.count_of.ensures p.r_len.0 p.r_len.1 p.r_len.2 _ c.in-Some.is
     _ _ c.mark.ensures (ap not c.if-not-mark.false) _ _ c.take_fields.ensures

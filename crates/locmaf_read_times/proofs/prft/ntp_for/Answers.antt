@@ -1,15 +1,9 @@
--- `locmaf_read_times::prft::ntp_for` meets its contract, by the kind of object.
-use Rattle.media.specs.Clocks.{as_ntp}
-use Rattle.locmaf_read_said.specs.Said.{scalar_in}
-use Rattle.locmaf_read_times.proofs.PrftLaws.{for-delta, for-full}
+-- `locmaf_read_times::prft::ntp_for` meets its contract: the time that is kept, or the one that is sent.
+use Rattle.locmaf_read_times.proofs.PrftLaws.{ntp-kept, ntp-sent}
 use Rattle.locmaf_read_times.proofs.prft.ntp_for.Goals as goal
 
-pub returns-then-delta : goal.returns-then-delta
-returns-then-delta c =
-    let a = c.args in
-    for-delta a.delta (scalar_in a.index.now) 18 _ _ _ as_ntp _ c.if-delta.true c.ntp_time.ensures
+pub returns-then-index-eq0 : goal.returns-then-index-eq0
+returns-then-index-eq0 c = ntp-kept _ c.args.index.now _ _ c.base-coding.ensures c.if-index-eq0.true
 
 pub returns : goal.returns
-returns c =
-    let a = c.args in
-    for-full a.delta (scalar_in a.index.now) 18 _ _ _ as_ntp _ c.if-delta.false c.ntp_time-2.ensures
+returns c = ntp-sent _ c.args.index.now _ _ c.base-coding.ensures c.if-index-eq0.false _ c.reach.ensures

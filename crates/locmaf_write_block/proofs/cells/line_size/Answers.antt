@@ -21,7 +21,7 @@ returns-then-x-place-eq0 c =
     let a = c.args in
     weighed-as
     (absent-at (rows a.form) a.t a.b.delta a.b.follow a.r.now a.x.now _ c.requires.i_lt_chunk_lines _ c.place_at-place.ensures c.if-x-place-eq0.true)
-    (weighed-nothing c.whole.ensures)
+    weighed-nothing
 
 pub change_of-change-requires : goal.change_of-change-requires
 change_of-change-requires c =
@@ -46,7 +46,7 @@ returns-in-Omitted c =
     (line-unsent (rows a.form) a.t a.b.delta a.b.follow a.r.now a.x.now _ _ c.line_at-l.ensures
     _ (c.change_of-change.ensures a.t c.requires.based)
     (λ e. elim c.in-Omitted.is [ inl p ↦ cc | inr p ↦ cc ]))
-    (weighed-nothing c.whole-in-Omitted.ensures)
+    weighed-nothing
 
 pub returns-in-Sent : goal.returns-in-Sent
 returns-in-Sent c =

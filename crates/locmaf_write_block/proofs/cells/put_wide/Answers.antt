@@ -9,18 +9,18 @@ use Rattle.locmaf_write_tuples.specs.Items.{wide_bytes}
 use Rattle.locmaf_write_block.proofs.WideLaws.{then-wide}
 use Rattle.locmaf_write_block.proofs.cells.put_wide.Goals as goal
 
-pub loop-i-init : goal.loop-i-init
+pub loop-w-init : goal.loop-w-init
 unfolding wide_bytes
-loop-i-init c = (search rules, search rules, search rules, wrote_none _ _ (omega arith))
+loop-w-init c = (search rules, search rules, search rules, wrote_none _ _ (omega arith))
 
-pub loop-i-preserved : goal.loop-i-preserved
+pub loop-w-preserved : goal.loop-w-preserved
 unfolding be
-loop-i-preserved c =
+loop-w-preserved c =
     let ws = c.args.ws.now in
-    (omega arith, omega arith, omega arith, then-wide ws c.loop-i.i (omega arith) c.loop-i.invariant.3 c.put_u64-p.ensures)
+    (omega arith, omega arith, omega arith, then-wide ws c.loop-w.w-index (omega arith) c.loop-w.invariant.3 c.put_u64-p.ensures)
 
 pub returns : goal.returns
 returns c =
     let a = c.args in
-    let all : take c.loop-i.i a.ws.now ≡ a.ws.now = take_all c.loop-i.i a.ws.now (omega arith) in
-    rw all at c.loop-i.invariant.3
+    let all : take c.loop-w.w-index a.ws.now ≡ a.ws.now = take_all c.loop-w.w-index a.ws.now (omega arith) in
+    rw all at c.loop-w.invariant.3

@@ -21,7 +21,7 @@ returns-then-is_ivs c =
     let f = chunk-field _ _ _ _ _ c.requires.based c.requires.chunk_line in
     let a = c.args in
     weighed-ivs f _ c.length_of-k.ensures (sym c.is_ivs.ensures ∙ c.if-is_ivs.true)
-    a.form _ c.body_size.ensures c.whole.ensures
+    a.form _ c.body_size.ensures
 
 pub coded_size-requires : goal.coded_size-requires
 coded_size-requires c =

@@ -8,7 +8,7 @@ pub returns-then-n-eq0 : goal.returns-then-n-eq0
 returns-then-n-eq0 c =
     λ t.
     weighed-as (none-gone t _ _ _ _ _ _ (c.deleted-n.ensures.all t).0 c.if-n-eq0.true)
-    (weighed-nothing c.whole.ensures)
+    weighed-nothing
 
 pub slice_bounds-run_size-end : goal.slice_bounds-run_size-end
 slice_bounds-run_size-end c = gone-many c.deleted-n.ensures

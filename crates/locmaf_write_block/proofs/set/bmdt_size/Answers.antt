@@ -7,7 +7,7 @@ use mathlib.Core.Bool.{not}
 use Rattle.locmaf_write_block.proofs.set.bmdt_size.Goals as goal
 
 pub returns-then-not-stands : goal.returns-then-not-stands
-returns-then-not-stands c = weighed-as (sym (no-bmdt _ _ _ (ap not c.if-not-stands.true))) (weighed-nothing c.whole.ensures)
+returns-then-not-stands c = weighed-as (sym (no-bmdt _ _ _ (ap not c.if-not-stands.true))) weighed-nothing
 
 pub number_size-requires : goal.number_size-requires
 number_size-requires c = (omega arith, made-is _ _ _ _ _ c.code-c.ensures)

@@ -7,7 +7,7 @@ use mathlib.Core.Bool.{not}
 use Rattle.locmaf_write_block.proofs.set.count_size.Goals as goal
 
 pub returns-then-not-count_stands : goal.returns-then-not-count_stands
-returns-then-not-count_stands c = weighed-as (sym (no-count _ _ _ _ c.count_stands.ensures (ap not c.if-not-count_stands.true))) (weighed-nothing c.whole.ensures)
+returns-then-not-count_stands c = weighed-as (sym (no-count _ _ _ _ c.count_stands.ensures (ap not c.if-not-count_stands.true))) weighed-nothing
 
 pub number_size-requires : goal.number_size-requires
 number_size-requires c = (omega arith, made-is _ _ _ _ _ c.code-c.ensures)

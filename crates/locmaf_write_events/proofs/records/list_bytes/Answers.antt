@@ -1,7 +1,6 @@
 use native.Mathlib.Omega.{arith}
 use mathlib.Core.Path.{◌∙◌}
 use borrow.Author.Rules.{rules}
-use Rattle.locmaf_write_events.specs.Records.{EventWords}
 use Rattle.locmaf_write_events.proofs.LentLaws.{lent-bytes, lent-words}
 use Rattle.locmaf_write_events.proofs.SumLoop.{adding-none, adding-next, adding-end}
 use Rattle.locmaf_write_events.proofs.records.list_bytes.Goals as goal
@@ -9,35 +8,23 @@ use Rattle.locmaf_write_events.proofs.records.list_bytes.Goals as goal
 pub loop-i-init : goal.loop-i-init
 loop-i-init c = adding-none _ _ _ _ _
 
--- the words of the next event are there
-there : (c : goal.In-loop-i) → EventWords c.args.events.now c.loop-i.i
-there c = c.requires.each _ c.loop-i-test.true
-
--- the words of the next event are there
-there-2 : (c : goal.After-record_bytes-arg-1) → EventWords c.args.events.now c.loop-i.i
-there-2 c = c.requires.each _ c.loop-i-test.true
-
--- the words of the next event are there
-there-3 : (c : goal.After-record_bytes-sum) → EventWords c.args.events.now c.loop-i.i
-there-3 c = c.requires.each _ c.loop-i-test.true
-
 pub overflow_mul-p : goal.overflow_mul-p
-overflow_mul-p c = let e = (there c).there in search rules
+overflow_mul-p c = let e = (c.requires.each _ c.loop-i-test.true).there in search rules
 
 pub overflow_add-p : goal.overflow_add-p
-overflow_add-p c = let e = (there c).there in search rules
+overflow_add-p c = let e = (c.requires.each _ c.loop-i-test.true).there in search rules
 
 pub offset_bounds-events-p : goal.offset_bounds-events-p
-offset_bounds-events-p c = let e = (there c).there in search rules
+offset_bounds-events-p c = let e = (c.requires.each _ c.loop-i-test.true).there in search rules
 
 pub slice_bounds-record_bytes-start : goal.slice_bounds-record_bytes-start
-slice_bounds-record_bytes-start c = let e = (there c).there in search rules
+slice_bounds-record_bytes-start c = let e = (c.requires.each _ c.loop-i-test.true).there in search rules
 
 pub slice_bounds-record_bytes-end : goal.slice_bounds-record_bytes-end
-slice_bounds-record_bytes-end c = let e = (there c).there in search rules
+slice_bounds-record_bytes-end c = let e = (c.requires.each _ c.loop-i-test.true).there in search rules
 
 pub record_bytes-sum-requires : goal.record_bytes-sum-requires
-record_bytes-sum-requires c = let e = there-2 c in lent-words _ _ e.there e
+record_bytes-sum-requires c = let e = c.requires.each _ c.loop-i-test.true in lent-words _ _ e.there e
 
 pub overflow_add-sum : goal.overflow_add-sum
 overflow_add-sum c =
@@ -51,7 +38,7 @@ overflow_add-sum c =
 
 pub loop-i-preserved : goal.loop-i-preserved
 loop-i-preserved c =
-    let e = there-3 c in
+    let e = c.requires.each _ c.loop-i-test.true in
     adding-next _ _ _ _ _ _ _ c.loop-i.invariant _ c.loop-i-test.true (c.record_bytes-sum.ensures.0 ∙ lent-bytes _ _ e.there _ _ _)
     c.record_bytes-sum.ensures.1
 

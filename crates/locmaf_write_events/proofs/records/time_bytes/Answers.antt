@@ -8,9 +8,9 @@ use Rattle.wire.proofs.SizeLaws.{wide-size}
 use Rattle.locmaf_write_events.proofs.records.time_bytes.Goals as goal
 
 pub returns-in_default : goal.returns-in_default
-returns-in_default c = c.most.ensures ∙ sym (wide-size _ _ (sym c.time_number-c.ensures ∙ c.in_default.is))
+returns-in_default c = c.most.ensures ∙ sym (wide-size _ _ (sym c.time_number.ensures ∙ c.in_default.is))
 
 pub returns : goal.returns
 returns c =
-    let f = fitted-inv _ _ (sym c.time_number-c.ensures ∙ c.in-Number.is) in
+    let f = fitted-inv _ _ (sym c.time_number.ensures ∙ c.in-Some.is) in
     c.size.ensures ∙ ap (λ (z : ℕ). size_of (rows c.args.form) z) f.0

@@ -1,17 +1,15 @@
 -- `locmaf_write_prft::prft::put_version` meets its contract: an id that stands in a `prft` unless it is what its absence means.
-use Rattle.locmaf_write_tuples.proofs.PutLaws.{put-none, put-needs, put_as}
-use Rattle.locmaf_write_prft.proofs.TimeLaws.{no-version, version-is}
+use native.Mathlib.Omega.{arith}
+use Rattle.locmaf_write_prft.specs.Prft.{version_items}
 use Rattle.locmaf_write_prft.proofs.prft.put_version.Goals as goal
 
-pub returns-then-not-p : goal.returns-then-not-p
-returns-then-not-p c = put-none _ _ _ (no-version _ _ _ _ c.if-not-p.true) c.requires.room_for
+pub if_absent-usual-requires : goal.if_absent-usual-requires
+if_absent-usual-requires c = omega (arith, c.requires.s_len)
 
-pub put_number-requires : goal.put_number-requires
-put_number-requires c =
-    let k = version-is _ _ _ _ c.if-not-p.false c.usual_version-old.ensures c.coding_for.ensures c.code-c.ensures in
-    let h = put-needs _ k _ _ c.requires.p_value c.requires.room_for in
-    record { c_value = h.0; room_for = h.1 }
+pub put_unless-requires : goal.put_unless-requires
+unfolding version_items
+put_unless-requires c = record { v_value = rw c.if_absent-usual.ensures c.requires.p_value; room_for = rw c.if_absent-usual.ensures c.requires.room_for }
 
 pub returns : goal.returns
-returns c =
-    put_as _ (version-is _ _ _ _ c.if-not-p.false c.usual_version-old.ensures c.coding_for.ensures c.code-c.ensures) c.put_number.ensures
+unfolding version_items
+returns c = rw c.if_absent-usual.ensures at c.put_unless.ensures

@@ -6,7 +6,7 @@ use Rattle.locmaf_write_prft.proofs.TimeLaws.{no-times, times-are}
 use Rattle.locmaf_write_prft.proofs.prft.times_size.Goals as goal
 
 pub returns-then-not-p : goal.returns-then-not-p
-returns-then-not-p c = weighed-as (sym (no-times _ _ _ _ c.if-not-p.true)) (weighed-nothing c.whole.ensures)
+returns-then-not-p c = weighed-as (sym (no-times _ _ _ _ c.if-not-p.true)) weighed-nothing
 
 pub number_size-a-requires : goal.number_size-a-requires
 number_size-a-requires c = (omega arith, made-is _ _ _ _ _ c.ntp_number-n.ensures)

@@ -4,12 +4,11 @@ use mathlib.Core.Bool.{◌&&◌}
 use lib.Dec.{leb}
 use lib.ListN.{get_or, drop}
 use Rattle.constants.specs.Maxima.{number_most, payload_most, brand_bytes_most, events_most, event_bytes_most}
+use Rattle.media.specs.declared.clocks.TrackTicks.{TrackTicks}
 use Rattle.share_words.specs.Share.{set_at}
 use Rattle.locmaf_read_index.specs.Places.{number_at}
-use Rattle.locmaf_read_said.specs.Said.{scalar_in}
-use Rattle.locmaf_read_times.specs.Bmdt.{bmdt_of}
 use Rattle.locmaf_read_times.specs.declared.prft.Told.{Told}
-use Rattle.receiver.proofs.JudgeLaws.{bmdt-small, bmdt-told}
+use Rattle.locmaf_read_times.proofs.BmdtLaws.{bmdt-small, bmdt-told}
 use Rattle.receiver.proofs.judge.values_of.Goals as goal
 
 pub returns : goal.returns
@@ -19,16 +18,16 @@ returns c =
     λ t h.
     let e = c.bmdt_of-b.ensures t (drop set_at a.s.now) (c.expected_of.ensures ∙ h) in
     record {
-      start = bmdt-told e;
+      start = λ small. ap (λ (u : TrackTicks). u.0) c.unwrap_or-bmdt.ensures ∙ bmdt-told _ _ e small;
       time = ap (λ (u : Told). u.prft) r.ensures;
       named = c.part_of-brands.ensures;
       tested =
-          bmdt-small e _
-          ∙ ap
-          (λ (u : Told).
-          leb (bmdt_of t (scalar_in a.index.now 10) (drop set_at a.s.now)) number_most
-          && (u.ok
+          ap
+          (λ (u : TrackTicks).
+          leb u.0 number_most
+          && (r.result.ok
           && (leb a.payload payload_most
           && (leb c.part_of-brands.result.len brand_bytes_most && (leb a.events events_most && leb (get_or a.index.now (number_at 25) 0) event_bytes_most)))))
-          r.ensures;
+          c.unwrap_or-bmdt.ensures
+          ∙ rw (bmdt-small _ _ e, r.ensures);
     }

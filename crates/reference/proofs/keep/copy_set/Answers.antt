@@ -1,25 +1,25 @@
-use Prim.Native.Nat.{◌-◌}
+use Prim.Native.Nat.{ℕ, ◌-◌}
 use native.Mathlib.Omega.{arith}
-use mathlib.Core.Path.{◌∙◌, ap}
-use mathlib.Core.List.{◌++◌}
+use mathlib.Core.Path.{◌≡◌, ◌∙◌, ap}
+use mathlib.Core.List.{List, ◌++◌}
+use lib.ListN.{length, drop}
+use Rattle.field_table.specs.Lines.{set_len}
+use Rattle.field_set.specs.Lawful.{Tidy}
+use Rattle.share_words.specs.Share.{set_at, share_len}
 use Rattle.reference.proofs.KeepLaws.{Copyable, begun, start, end, further, copied, unmarked-both, stays}
 use borrow.Author.Rules.{rules}
 use Rattle.reference.proofs.keep.copy_set.Goals as goal
 use Rattle.reference.proofs.keep.copy_set.Goals.{then-s-at, else-s-at}
 
 -- the words are like that
-copyable : (c : goal.After-slice_known-2-1) → let a = c.args in Copyable a.x.now a.s.now
-copyable c = let p = c.requires in record { share = p.s_len.0; long = p.s_len.1; old = p.tidy.0; new = p.tidy.1 }
-
--- the words are like that
-copyable-2 : (c : goal.After-loop-i) → let a = c.args in Copyable a.x.now a.s.now
-copyable-2 c = let p = c.requires in record { share = p.s_len.0; long = p.s_len.1; old = p.tidy.0; new = p.tidy.1 }
+copyable : {x s : List ℕ} → (length s ≡ share_len) × (length x ≡ set_len) → Tidy (drop set_at s) × Tidy x → Copyable x s
+copyable l t = record { share = l.0; long = l.1; old = t.0; new = t.1 }
 
 pub copy-requires : goal.copy-requires
 copy-requires c = let p = c.requires in (omega (arith, p.s_len.1), omega (arith, p.s_len.0))
 
 pub loop-i-init : goal.loop-i-init
-loop-i-init c = start _ _ (copyable c) _ c.copy.ensures
+loop-i-init c = start _ _ (copyable c.requires.s_len c.requires.tidy) _ c.copy.ensures
 
 pub overflow_add-at : goal.overflow_add-at
 overflow_add-at c = search rules
@@ -65,4 +65,4 @@ pub returns : goal.returns
 returns c =
     let l = c.loop-i.invariant in
     let x = c.args.x.now in
-    end _ _ _ _ _ l.moves c.loop-i-test.false ∙ ap (λ z. z ++ x) (l.front ∙ begun _ _ (copyable-2 c) _ c.copy.ensures)
+    end _ _ _ _ _ l.moves c.loop-i-test.false ∙ ap (λ z. z ++ x) (l.front ∙ begun _ _ (copyable c.requires.s_len c.requires.tidy) _ c.copy.ensures)

@@ -6,6 +6,3 @@ use Rattle.reference.proofs.keep.copy_set.Given as goal
 
 abbrev pub invariant-loop-i : goal.invariant-loop-i
 invariant-loop-i l = Turning l.x l.initial.s l.s l.from l.i
-
-abbrev pub decreases-loop-i : goal.decreases-loop-i
-decreases-loop-i l = line_count - l.i

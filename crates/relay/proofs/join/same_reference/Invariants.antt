@@ -2,6 +2,3 @@
 use Rattle.std.proofs.Common.{◌-◌}
 use Rattle.share_words.specs.Share.{share_len}
 use Rattle.relay.proofs.join.same_reference.Given as goal
-
-abbrev pub decreases-loop-i : goal.decreases-loop-i
-decreases-loop-i l = share_len - l.i

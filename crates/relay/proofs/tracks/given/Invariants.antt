@@ -1,6 +1,3 @@
 -- `relay::tracks::given` is safe and ends: one word fewer is left after each turn.
 use Rattle.std.proofs.Common.{◌-◌}
 use Rattle.relay.proofs.tracks.given.Given as goal
-
-abbrev pub decreases-loop-i : goal.decreases-loop-i
-decreases-loop-i g l = l.n - l.i

@@ -5,6 +5,3 @@ use Rattle.slot_vectors.proofs.calls.left.Given as goal
 
 abbrev pub invariant-loop-i : goal.invariant-loop-i
 invariant-loop-i g l = l.i ≤ table_len + 1
-
-abbrev pub decreases-loop-i : goal.decreases-loop-i
-decreases-loop-i g l = table_len + 1 - l.i

@@ -4,6 +4,3 @@ use Rattle.slot_vectors.proofs.calls.turns.Given as goal
 
 abbrev pub invariant-loop-i : goal.invariant-loop-i
 invariant-loop-i g l = l.i ≤ 8
-
-abbrev pub decreases-loop-i : goal.decreases-loop-i
-decreases-loop-i g l = 8 - l.i

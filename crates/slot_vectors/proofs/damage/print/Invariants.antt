@@ -5,11 +5,5 @@ use Rattle.slot_vectors.proofs.damage.print.Given as goal
 abbrev pub invariant-loop-k : goal.invariant-loop-k
 invariant-loop-k g l = l.k ≤ 23
 
-abbrev pub decreases-loop-k : goal.decreases-loop-k
-decreases-loop-k g l = 23 - l.k
-
 abbrev pub invariant-loop-slot : goal.invariant-loop-slot
 invariant-loop-slot g l = l.slot ≤ 8
-
-abbrev pub decreases-loop-slot : goal.decreases-loop-slot
-decreases-loop-slot g l = 8 - l.slot

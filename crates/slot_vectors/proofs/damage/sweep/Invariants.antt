@@ -5,6 +5,3 @@ use Rattle.slot_vectors.proofs.damage.sweep.Given as goal
 
 abbrev pub invariant-loop-at : goal.invariant-loop-at
 invariant-loop-at g l = l.at ≤ table_len
-
-abbrev pub decreases-loop-at : goal.decreases-loop-at
-decreases-loop-at g l = table_len - l.at

@@ -4,6 +4,3 @@ use Rattle.slot_vectors.proofs.fresh.opens.Given as goal
 
 abbrev pub invariant-loop-j : goal.invariant-loop-j
 invariant-loop-j g l = l.j ≤ 10
-
-abbrev pub decreases-loop-j : goal.decreases-loop-j
-decreases-loop-j g l = 10 - l.j

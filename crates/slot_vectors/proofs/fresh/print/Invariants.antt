@@ -4,6 +4,3 @@ use Rattle.slot_vectors.proofs.fresh.print.Given as goal
 
 abbrev pub invariant-loop-i : goal.invariant-loop-i
 invariant-loop-i g l = l.i ≤ 11
-
-abbrev pub decreases-loop-i : goal.decreases-loop-i
-decreases-loop-i g l = 11 - l.i

@@ -4,6 +4,3 @@ use Rattle.slot_vectors.proofs.shares.table.Given as goal
 
 abbrev pub invariant-loop-k : goal.invariant-loop-k
 invariant-loop-k l = l.k ≤ 178
-
-abbrev pub decreases-loop-k : goal.decreases-loop-k
-decreases-loop-k l = 178 - l.k

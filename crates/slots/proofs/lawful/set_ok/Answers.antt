@@ -1,6 +1,7 @@
 -- `slots::lawful::set_ok` meets its contract, by what its tests come to.
 use mathlib.Core.Path.{refl, sym, ◌∙◌}
 use borrow.Author.Rules.{rules}
+use borrow.Author.Tests.{not-true, not-false}
 use borrow.Author.Rules.{part_to_end}
 use Rattle.laws.proofs.GateLaws.{failed, held}
 use Rattle.share_words.specs.Share.{set_at}
@@ -38,11 +39,11 @@ durations_by-d-requires c =
 pub bounds-w-0 : goal.bounds-w-0
 bounds-w-0 c = let l = lent-long c.args.s.now c.requires.0 in search rules
 
-pub returns-then-not-is_same : goal.returns-then-not-is_same
-returns-then-not-is_same c =
+pub returns-then-ne : goal.returns-then-ne
+returns-then-ne c =
     let s = c.args.s.now in
     expected-unlawful _ s _ (part_to_end s set_at) _ _ c.expected_of.ensures _ c.durations_by-d.ensures c.expected_by-e.ensures
-    (sym c.is_same.ensures ∙ c.if-not-is_same.true)
+    (not-true _ (sym c.ne.ensures ∙ c.if-ne.true))
 
 pub sizes_agree-requires : goal.sizes_agree-requires
 sizes_agree-requires c = lawful-summable _ _ (lent-long c.args.s.now c.requires.0) (held c.test_set-k.ensures.right c.if-not-k.false)
@@ -52,4 +53,4 @@ returns c =
     let s = c.args.s.now in
     set-lawful _ s _ (part_to_end s set_at) _ _ c.expected_of.ensures _ c.durations_by-d.ensures c.expected_by-e.ensures
     (held c.test_set-k.ensures.right c.if-not-k.false) (sym c.last_fits.ensures ∙ c.if-not-last_fits.false)
-    (sym c.is_same.ensures ∙ c.if-not-is_same.false) _ c.sizes_agree.ensures
+    (not-false _ (sym c.ne.ensures ∙ c.if-ne.false)) _ c.sizes_agree.ensures

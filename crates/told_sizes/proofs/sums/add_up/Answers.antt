@@ -1,4 +1,3 @@
-use Prim.Native.Nat.{◌-◌}
 use native.Mathlib.Omega.{arith}
 use Rattle.told_sizes.proofs.SumLaws.{add_start, add-fits, add-more, add-end}
 use Rattle.told_sizes.proofs.sums.add_up.Goals as goal

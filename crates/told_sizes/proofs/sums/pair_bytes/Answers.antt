@@ -1,4 +1,3 @@
-use Prim.Native.Nat.{◌-◌}
 use native.Mathlib.Omega.{arith}
 use Rattle.told_sizes.proofs.SumLaws.{pair-start, pair_fits, pair-more, pair_end}
 use Rattle.told_sizes.proofs.sums.pair_bytes.Goals as goal

@@ -1,4 +1,3 @@
-use Prim.Native.Nat.{◌-◌}
 use native.Mathlib.Omega.{arith}
 use Rattle.field_table.specs.Lines.{lines, line_for}
 use Rattle.told_sizes.proofs.ToldLaws.{agree-start, agree-fits, agree-small, agree-next, agree-end}

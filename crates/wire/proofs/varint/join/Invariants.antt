@@ -1,10 +1,6 @@
 -- `wire::varint::join` meets its contract, by the laws of `proofs/JoinLoop.antt`.
-use Prim.Native.Nat.{◌-◌}
 use Rattle.wire.proofs.JoinLoop.{Joined}
 use Rattle.wire.proofs.varint.join.Given as goal
 
 abbrev pub invariant-loop-i : goal.invariant-loop-i
 invariant-loop-i l = Joined l.s l.from l.to l.acc l.v l.i
-
-abbrev pub decreases-loop-i : goal.decreases-loop-i
-decreases-loop-i l = l.to - l.i

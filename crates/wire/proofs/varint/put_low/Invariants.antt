@@ -4,6 +4,3 @@ use Rattle.wire.proofs.varint.put_low.Given as goal
 
 abbrev pub invariant-loop-j : goal.invariant-loop-j
 invariant-loop-j l = Put l.initial.out l.at l.n l.v l.out l.x l.j
-
-abbrev pub decreases-loop-j : goal.decreases-loop-j
-decreases-loop-j l = l.j

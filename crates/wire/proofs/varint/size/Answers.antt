@@ -1,9 +1,8 @@
 -- `wire::varint::size` meets its contract, by the row that `by_value` found.
 use native.Mathlib.Omega.{arith}
 use native.Mathlib.Numerals.{add-one}
-use mathlib.Core.Path.{◌≡◌, sym, ◌∙◌}
-use Rattle.wire.specs.declared.form.Found.TheVariants.{In}
-use Rattle.wire.specs.Form.{rows, by_value}
+use mathlib.Core.Path.{sym, ◌∙◌}
+use Rattle.wire.specs.Form.{rows}
 use Rattle.wire.proofs.FormLaws.{lawful, by-value}
 use Rattle.wire.proofs.VarintLaws.{size_in, size-past}
 use Rattle.wire.proofs.varint.size.Goals as goal
@@ -12,19 +11,14 @@ pub returns-in_default : goal.returns-in_default
 returns-in_default c =
     let a = c.args in
     c.most.ensures
-    ∙ sym (size-past (rows a.form) a.v (sym c.by_value-f.ensures ∙ c.in_default.is))
-
--- the row that was found
-row_of : (c : goal.In-In)
-    → let a = c.args in by_value (rows a.form) a.v ≡ In c.in-In.r
-row_of c = sym c.by_value-f.ensures ∙ c.in-In.is
+    ∙ sym (size-past (rows a.form) a.v (sym c.by_value.ensures ∙ c.in_default.is))
 
 pub overflow_add-result : goal.overflow_add-result
 overflow_add-result c =
     let a = c.args in
-    omega (arith, (by-value (rows a.form) 0 a.v _ (lawful a.form) (row_of c)).short)
+    omega (arith, (by-value (rows a.form) 0 a.v _ (lawful a.form) (sym c.by_value.ensures ∙ c.in-Some.is)).short)
 
 pub returns : goal.returns
 returns c =
     let a = c.args in
-    rw add-one (sym (size_in (rows a.form) a.v _ (row_of c)))
+    rw add-one (sym (size_in (rows a.form) a.v _ (sym c.by_value.ensures ∙ c.in-Some.is)))

@@ -8,20 +8,23 @@ use Rattle.wire.specs.Zigzag.{wire_of}
 use Rattle.wire.proofs.ZigzagLaws.{wire-below, wire-above, limit-64, code_is, fit_wide}
 use Rattle.wire.proofs.zigzag.distance.Goals as goal
 
-pub returns-then-below-gt9223372036854775807 : goal.returns-then-below-gt9223372036854775807
-returns-then-below-gt9223372036854775807 c =
+pub returns-in_err-checked_mul : goal.returns-in_err-checked_mul
+returns-in_err-checked_mul c =
     let a = c.args in
     let e : wire_of Delta a.old a.new ≡ (a.old - a.new - 1) * 2 + 1 = wire-below _ _ c.if-new-old.true in
-    sym (code_is _ _ _ _ e ∙ fit_wide _ _ (omega (arith, limit-64 a.form)))
+    c.from_residual.ensures ∙ sym (code_is _ _ _ _ e ∙ fit_wide _ _ (omega (arith, limit-64 a.form, c.in_err-checked_mul.ensures)))
 
 pub returns-then-new-old : goal.returns-then-new-old
-returns-then-new-old c = c.fit.ensures ∙ sym (code_is _ _ _ _ (wire-below _ _ c.if-new-old.true ∙ omega arith))
+returns-then-new-old c =
+    c.fit.ensures ∙ sym (code_is _ _ _ _ (wire-below _ _ c.if-new-old.true ∙ omega (arith, c.in_ok-checked_mul.ensures.1)))
 
-pub returns-then-above-gt9223372036854775807 : goal.returns-then-above-gt9223372036854775807
-returns-then-above-gt9223372036854775807 c =
+pub returns-in_err-checked_mul-2 : goal.returns-in_err-checked_mul-2
+returns-in_err-checked_mul-2 c =
     let a = c.args in
     let e : wire_of Delta a.old a.new ≡ (a.new - a.old) * 2 = wire-above _ _ c.if-new-old.false in
-    sym (code_is _ _ _ _ e ∙ fit_wide _ _ (omega (arith, limit-64 a.form)))
+    c.from_residual-in_err-checked_mul-2.ensures
+    ∙ sym (code_is _ _ _ _ e ∙ fit_wide _ _ (omega (arith, limit-64 a.form, c.in_err-checked_mul-2.ensures)))
 
 pub returns : goal.returns
-returns c = c.fit-2.ensures ∙ sym (code_is _ _ _ _ (wire-above _ _ c.if-new-old.false ∙ omega arith))
+returns c =
+    c.fit-2.ensures ∙ sym (code_is _ _ _ _ (wire-above _ _ c.if-new-old.false ∙ omega (arith, c.in_ok-checked_mul-2.ensures.1)))

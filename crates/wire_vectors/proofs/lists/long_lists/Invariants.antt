@@ -4,6 +4,3 @@ use Rattle.wire_vectors.proofs.lists.long_lists.Given as goal
 
 abbrev pub invariant-loop-i : goal.invariant-loop-i
 invariant-loop-i g l = (length l.new ≡ 66) × (length l.old ≡ 66) × (l.up < 20000) × (l.about < 20011) × (l.i ≤ 66)
-
-abbrev pub decreases-loop-i : goal.decreases-loop-i
-decreases-loop-i g l = 66 - l.i
