@@ -10,8 +10,8 @@ args = [a for a in sys.argv[1:] if a != "-v"]
 root = args[0] if args else os.path.join(os.path.dirname(os.path.abspath(__file__)), "..")
 show = "-v" in sys.argv
 sources = {os.path.relpath(f, f"{root}/crates"): open(f).read() for f in sorted(glob.glob(f"{root}/crates/*/src/**/*.rt", recursive=True))}
-# in these, small numbers are the format's own
-FORMAT = {"field_table", "field_rules", "wire", "cmaf_write_saiz"}
+# in these, small numbers are the format's own, or the table of the numbers itself
+FORMAT = {"field_table", "field_rules", "wire", "cmaf_write_saiz", "refusal"}
 PROGRAMS = {"inputs", "printing", "accounts", "wire_vectors", "commands", "mfhd_numbers", "slot_vectors", "relay", "codec_vectors", "locmaf_c"}
 
 

@@ -1,28 +1,30 @@
 // What is counted: of a chunk, of a track and of all of them.
-// Letters: `t` what was counted, `p` how a chunk passed, `a` what was counted, `b` what is added to it.
-use crate::counts::{first, more};
-use crate::joins;
-use crate::joins::Join;
+ghost use Rattle.std.specs.Prelude.{◌≡◌, ◌↔◌, IsTrue, None};
+ghost use Rattle.accounts.specs.Counts.{saturating_add};
+ghost use Rattle.accounts.specs.Joins.{with_track};
+ghost use Rattle.accounts.specs.Tally.{of_chunk, sums};
 
-// One chunk's way. With the number 0: whether the object is a delta, the bytes of the heads (all but the payload) before and after, those of the payload, and
-// whether the rebuilt chunk gave the same object again; whether the chunk has IVs, and the bytes of those that the object left at home.
+use crate::joins::{Join, Joins};
+
+// A chunk that became an object: whether that is a delta, the bytes of the heads (all but the payload) before and after, those of the payload, and whether the
+// rebuilt chunk gave the same object again; of a chunk with IVs also the bytes of those that the object left at home, 0 where it has them.
 #[derive(Clone, Copy)]
-pub struct Passed {
-    pub number: u64,
+pub struct Sent {
     pub delta: bool,
     pub cmaf: u64,
     pub locmaf: u64,
     pub payload: u64,
     pub same: bool,
-    pub ivs: bool,
-    pub home: u64,
+    pub home: Option<u64>,
 }
 
-// Sums over chunks. `ivs` counts those that have IVs, `home` those that left them at home, `spared` the bytes of these. `bad` counts tracks with a bad file, `differs` is the number of the first chunk whose object differed, counted from 1, or 0.
-#[derive(Clone, Copy)]
+// A chunk's way: it became an object, or was refused with a number.
+pub type Passed = Result<Sent, u64>;
+
+// Sums over chunks. `ivs` counts those that have IVs, `home` those that left them at home, `spared` the bytes of these; `differs` is the first chunk whose object
+// differed, counted from 1.
+#[derive(Clone, Copy, Default)]
 pub struct Tally {
-    pub tracks: u64,
-    pub bad: u64,
     pub chunks: u64,
     pub full: u64,
     pub delta: u64,
@@ -30,88 +32,111 @@ pub struct Tally {
     pub cmaf: u64,
     pub locmaf: u64,
     pub payload: u64,
-    pub differs: u64,
+    pub differs: Option<u64>,
     pub ivs: u64,
     pub home: u64,
     pub spared: u64,
+}
+
+impl Tally {
+    // One chunk alone, as the one with the number i.
+    fn of_chunk(i: u64, passed: &Passed) -> Tally
+        ensures { result ≡ of_chunk i passed.now }
+    {
+        match passed {
+            Ok(sent) => {
+                let spared = sent.home.unwrap_or(0);
+                Tally {
+                    chunks: 1,
+                    full: !sent.delta as u64,
+                    delta: sent.delta as u64,
+                    refused: 0,
+                    cmaf: sent.cmaf,
+                    locmaf: sent.locmaf,
+                    payload: sent.payload,
+                    differs: if sent.same { None } else { Some(i) },
+                    ivs: sent.home.is_some() as u64,
+                    home: (spared != 0) as u64,
+                    spared,
+                }
+            }
+            Err(_) => Tally {
+                chunks: 1,
+                full: 0,
+                delta: 0,
+                refused: 1,
+                cmaf: 0,
+                locmaf: 0,
+                payload: 0,
+                differs: None,
+                ivs: 0,
+                home: 0,
+                spared: 0,
+            },
+        }
+    }
+
+    // A further chunk.
+    pub fn count(&mut self, passed: &Passed)
+        ensures { self.new ≡ sums self.old (of_chunk self.new.chunks passed.now) }
+    {
+        let i = self.chunks.saturating_add(1);
+        self.add(&Tally::of_chunk(i, passed));
+    }
+
+    // The chunks of another track; of `differs` only whether there is one counts then.
+    pub fn add(&mut self, other: &Tally)
+        ensures { self.new ≡ sums self.old other.now }
+    {
+        self.chunks = self.chunks.saturating_add(other.chunks);
+        self.full = self.full.saturating_add(other.full);
+        self.delta = self.delta.saturating_add(other.delta);
+        self.refused = self.refused.saturating_add(other.refused);
+        self.cmaf = self.cmaf.saturating_add(other.cmaf);
+        self.locmaf = self.locmaf.saturating_add(other.locmaf);
+        self.payload = self.payload.saturating_add(other.payload);
+        self.differs = self.differs.or(other.differs);
+        self.ivs = self.ivs.saturating_add(other.ivs);
+        self.home = self.home.saturating_add(other.home);
+        self.spared = self.spared.saturating_add(other.spared);
+    }
+}
+
+// A track: its chunks, and what came of a second receiver.
+#[derive(Clone, Copy, Default)]
+pub struct Track {
+    pub tally: Tally,
     pub join: Join,
 }
 
-pub fn nothing() -> Tally {
-    let join = joins::nothing();
-    Tally {
-        tracks: 0,
-        bad: 0,
-        chunks: 0,
-        full: 0,
-        delta: 0,
-        refused: 0,
-        cmaf: 0,
-        locmaf: 0,
-        payload: 0,
-        differs: 0,
-        ivs: 0,
-        home: 0,
-        spared: 0,
-        join,
-    }
+// All tracks: how many there were, how many were left out for a bad file, and the sums over the others.
+#[derive(Clone, Copy, Default)]
+pub struct Total {
+    pub tracks: u64,
+    pub bad: u64,
+    pub tally: Tally,
+    pub joins: Joins,
 }
 
-// A track whose files are bad.
-pub fn spoiled() -> Tally {
-    let mut t = nothing();
-    t.bad = 1;
-    t
-}
+impl Total {
+    pub fn add(&mut self, track: &Track)
+        ensures { self.new ≡ record self.old { tracks = saturating_add self.old.tracks 1; tally = sums self.old.tally track.now.tally; joins = with_track self.old.joins track.now.join } }
+    {
+        self.tracks = self.tracks.saturating_add(1);
+        self.tally.add(&track.tally);
+        self.joins.add(&track.join);
+    }
 
-// A further chunk of a track.
-pub fn with_chunk(t: Tally, p: Passed) -> Tally {
-    let mut r = t;
-    r.chunks = more(t.chunks, 1);
-    if p.number != 0 {
-        r.refused = more(t.refused, 1);
-        return r;
+    // A track that is left out.
+    pub fn leave_out(&mut self)
+        ensures { self.new ≡ record self.old { bad = saturating_add self.old.bad 1 } }
+    {
+        self.bad = self.bad.saturating_add(1);
     }
-    if p.delta {
-        r.delta = more(t.delta, 1);
-    } else {
-        r.full = more(t.full, 1);
-    }
-    r.cmaf = more(t.cmaf, p.cmaf);
-    r.locmaf = more(t.locmaf, p.locmaf);
-    r.payload = more(t.payload, p.payload);
-    if p.ivs {
-        r.ivs = more(t.ivs, 1);
-    }
-    if p.home != 0 {
-        r.home = more(t.home, 1);
-        r.spared = more(t.spared, p.home);
-    }
-    if !p.same & (t.differs == 0) {
-        r.differs = r.chunks;
-    }
-    r
-}
 
-// The sums of several tracks; of `differs` only whether it is 0 counts here.
-pub fn with_track(a: Tally, b: Tally) -> Tally {
-    let one = a.join;
-    let two = b.join;
-    let join = joins::with_track(one, two);
-    Tally {
-        tracks: more(a.tracks, b.tracks),
-        bad: more(a.bad, b.bad),
-        chunks: more(a.chunks, b.chunks),
-        full: more(a.full, b.full),
-        delta: more(a.delta, b.delta),
-        refused: more(a.refused, b.refused),
-        cmaf: more(a.cmaf, b.cmaf),
-        locmaf: more(a.locmaf, b.locmaf),
-        payload: more(a.payload, b.payload),
-        differs: first(a.differs, b.differs),
-        ivs: more(a.ivs, b.ivs),
-        home: more(a.home, b.home),
-        spared: more(a.spared, b.spared),
-        join,
+    pub fn is_well(&self) -> bool
+        ensures { IsTrue result ↔ ((self.now.bad ≡ 0) × (self.now.tally.differs ≡ None) × (self.now.joins.differs ≡ None)) }
+    {
+        self.bad == 0 && self.tally.differs.is_none() && self.joins.differs.is_none()
     }
 }

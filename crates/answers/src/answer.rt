@@ -1,24 +1,32 @@
-// What a chunk or an object is answered with, before it is handed out.
-ghost use Rattle.std.specs.Prelude.{◌≡◌};
-ghost use Rattle.answers.specs.Answered.{refused_with};
+// What a chunk or an object is answered with, before it is handed out and then.
+ghost use Rattle.std.specs.Prelude.{◌≡◌, ◌+◌, ◌≤◌, length};
+ghost use Rattle.std.proofs.Math.Seq.{slice};
 
 use byte_parts::Part;
 
-// The number, the front's length, and where the payload stands in what was lent.
+// The front's length, and where the payload stands in what was lent.
 #[derive(Clone, Copy)]
 pub struct Answer {
-    pub number: u64,
     pub front: u64,
     pub payload: Part,
 }
 
-// A refusal: no front, and of what was lent no byte, at its front.
-pub fn refused(number: u64) -> Answer
-    ensures { result ≡ refused_with number }
+// The front's length, and the payload as the part of the lent bytes that it is.
+#[derive(Clone, Copy)]
+pub struct Handed<'a> {
+    pub front: u64,
+    pub payload: &'a [u8],
+}
+
+// The answer of a call that was lent these bytes, as its caller gets it.
+pub fn hand_out<'a>(a: Answer, lent: &'a [u8]) -> Handed<'a>
+    requires { a.payload.at + a.payload.len ≤ length lent.now }
+    ensures front { result.front ≡ a.front }
+    ensures payload { result.payload.now ≡ slice a.payload.at (a.payload.at + a.payload.len) lent.now }
 {
-    Answer {
-        number,
-        front: 0,
-        payload: Part { at: 0, len: 0 },
+    let from = a.payload.at;
+    Handed {
+        front: a.front,
+        payload: &lent[from..from + a.payload.len],
     }
 }

@@ -1,6 +1,7 @@
 // Order, versions, flags and lengths of the boxes of a chunk.
 // Letters: `t` the track, `c` a chunk's bytes, `f` the boxes inside the `moof`.
 ghost use Rattle.std.specs.Prelude.{◌≡◌, true, ◌&&◌, ◌≤◌, length};
+ghost use Rattle.refusal.specs.Numbers.{number_of};
 ghost use Rattle.cmaf_read_shape.specs.Parts.{Inside};
 ghost use Rattle.cmaf_read_shape.specs.Top.{top_of, top_ok};
 ghost use Rattle.cmaf_read_shape.specs.Inner.{inner_of, inner_ok};
@@ -12,6 +13,7 @@ ghost use Rattle.cmaf_read_boxes.specs.Right.{outer_right, samples_right, PairsA
 use cmaf_read_shape::inner::Inner;
 use cmaf_read_shape::top::Top;
 use cmaf_read_tree::whole;
+use refusal::Refusal;
 use track::Track;
 
 // Versions, flags and lengths: of the boxes at the top.
@@ -60,15 +62,15 @@ pub fn order_ok(c: &[u8], top: Top, f: Inner) -> bool
     cmaf_read_shape::top::top_ok(c, top) & cmaf_read_shape::inner::inner_ok(moof, f)
 }
 
-// The number of a chunk whose boxes don't: just that, if they make a tree; 5 comes before 6. Boxes that stand where they must always make one, so that it is
+// Why a chunk is refused whose boxes don't: just that, if they make a tree; 5 comes before 6. Boxes that stand where they must always make one, so that it is
 // looked at for no other chunk.
-pub fn unordered(c: &[u8]) -> u64
-    ensures { result ≡ gate (whole c.now) 5 6 }
+pub fn unordered(c: &[u8]) -> Refusal
+    ensures { number_of result ≡ gate (whole c.now) 5 6 }
 {
     if whole::whole(c) {
-        return 6;
+        return Refusal::WrongBox;
     }
-    5
+    Refusal::BrokenTree
 }
 
 // How many subsamples the chunk has, if versions, flags and lengths of its boxes are right, which stand where they must. The entries of the `senc` are

@@ -1,7 +1,7 @@
 -- The numbers of a chunk, by the tests of the code in their order. Assumes nothing.
 use Prim.Native.Nat.{ℕ, ◌*◌, ◌≤◌, ◌<◌}
 use native.Mathlib.Omega.{arith}
-use mathlib.Core.Path.{◌≡◌, refl, sym, ◌∙◌, ap}
+use mathlib.Core.Path.{◌≡◌, refl, sym, ◌∙◌, ap, subst}
 use mathlib.Core.Bool.{Bool, true, false, not}
 use mathlib.Core.List.{List}
 use borrow.Author.Tests.{le-leb, lt-leb, not-false}
@@ -24,11 +24,15 @@ use Rattle.event_value.specs.Events.{event_words}
 use Rattle.locmaf_write_events.specs.Records.{list_bytes}
 use Rattle.cmaf_read_rules.specs.Rules.{rules_ok}
 use Rattle.cmaf_read_chunk.specs.declared.read.Chunk.{Chunk}
-use Rattle.std.specs.Prelude.{Some, None}
+use Rattle.std.specs.Prelude.{Some, None, Ok, Err}
 use Rattle.std.proofs.lemmas.Option.{none-some, same_Some}
+use Rattle.std.proofs.lemmas.Result.{IfOk-at_ok}
+use Rattle.refusal.specs.declared.Refusal.{Refusal}
+use Rattle.refusal.specs.declared.Refusal.TheVariants.{PastMaximum, BrokenRule}
+use Rattle.refusal.specs.Numbers.{number_of as number}
 use Rattle.cmaf_read_chunk.specs.Accepted.{top, inner, boxes, events, fields, counts_ok, maxima_ok, late_rungs, accept_rungs}
 use Rattle.cmaf_read_boxes.specs.Right.{boxes_ok}
-use Rattle.cmaf_read_chunk.specs.Chunks.{refused_with, taken_as, Listed, CountedAs, SettledAs, ReadAs}
+use Rattle.cmaf_read_chunk.specs.Chunks.{taken_as, Listed, CountedAs, SettledAs, Accepted, ReadAs}
 use Rattle.cmaf_read_chunk.proofs.EventLaws.{words-there}
 
 module _ (F : List Row) (t : Track) (c : List ℕ) where
@@ -71,19 +75,13 @@ module _ (F : List Row) (t : Track) (c : List ℕ) where
 
   -- ---- all of them
 
-  read_none : (k : ℕ) {r : Chunk} {ws x : List ℕ} → r ≡ refused_with k → (k ≡ 0 → ⊥) → k ≡ number_of (accept_rungs F t c) → ReadAs F t c r ws x
-  read_none k {r} e n h =
-      let q : r.number ≡ k = ap (λ (y : Chunk). y.number) e in
-      record { answered = q ∙ h; taken = λ z. absurd (n (sym q ∙ z)) }
+  read_none : (q : Refusal) {ws x : List ℕ} → number q ≡ number_of (accept_rungs F t c) → ReadAs F t c (Err q) ws x
+  read_none q h = record { answered = h; taken = λ k z. absurd (IfOk-at_ok (λ _. ⊥) z tt) }
 
   -- a box is wrong, or the tree is broken, which comes before it
-  pub boxes-break : {k : ℕ} {r : Chunk} {ws x : List ℕ} → boxes_ok t c ≡ false → k ≡ gate (whole c) 5 6 → r ≡ refused_with k → ReadAs F t c r ws x
+  pub boxes-break : {q : Refusal} {ws x : List ℕ} → boxes_ok t c ≡ false → number q ≡ gate (whole c) 5 6 → ReadAs F t c (Err q) ws x
   unfolding accept_rungs ladder gate
-  boxes-break {k} h q e = read_none k e (λ z. some (whole c) (sym q ∙ z)) (q ∙ ap (gate (whole c) 5) (broken _ 6 (late_rungs F t c) (λ n. n) 0 h))
-    where
-      some : (b : Bool) → ◌≡◌ {A = ℕ} (gate b 5 6) 0 → ⊥
-      some true z = omega (arith, z)
-      some false z = omega (arith, z)
+  boxes-break {q} h e = read_none q (e ∙ ap (gate (whole c) 5) (broken _ 6 (late_rungs F t c) (λ n. n) 0 h))
 
   module _ (w : whole c ≡ true) (b : boxes_ok t c ≡ true) where
     -- past the tree and the boxes
@@ -92,9 +90,9 @@ module _ (F : List Row) (t : Track) (c : List ℕ) where
     late e = passed _ 5 _ (λ n. n) 0 w (passed _ 6 _ (λ n. n) 0 b e)
 
     -- a maximum is passed
-    pub counted-break : {r : Chunk} {ws vs x : List ℕ} → CountedAs F t c None ws → r ≡ refused_with 8 → ReadAs F t c r vs x
+    pub counted-break : {ws vs x : List ℕ} → CountedAs F t c None ws → ReadAs F t c (Err PastMaximum) vs x
     unfolding late_rungs
-    counted-break h e = read_none 8 e (λ z. omega arith) (late (broken _ 8 _ (λ n. n) 0 (sym h.answered)))
+    counted-break h = read_none PastMaximum (late (broken _ 8 _ (λ n. n) 0 (sym h.answered)))
 
     -- none is
     module _ {list : ℕ} {ws : List ℕ} (h : CountedAs F t c (Some list) ws) {y : Top} {f : Inner} (et : y ≡ top_of c) (ef : f ≡ inner_of c y.moof)
@@ -104,25 +102,23 @@ module _ (F : List Row) (t : Track) (c : List ℕ) where
       rules-are = s.asked ∙ rw (ef, et, (h.listed list refl).boxes-are)
 
       -- a rule is broken
-      pub rules-break : {r : Chunk} {vs xs : List ℕ} → r ≡ refused_with 7 → not ok ≡ true → ReadAs F t c r vs xs
+      pub rules-break : {vs xs : List ℕ} → not ok ≡ true → ReadAs F t c (Err BrokenRule) vs xs
       unfolding late_rungs
-      rules-break e n =
-          read_none 7 e (λ z. omega arith)
-          (late (passed _ 8 _ (λ n. n) 0 (maxima-kept h) (broken _ 7 _ (λ n. n) 0 (failed rules-are n))))
+      rules-break n = read_none BrokenRule (late (passed _ 8 _ (λ n. n) 0 (maxima-kept h) (broken _ 7 _ (λ n. n) 0 (failed rules-are n))))
 
       -- none is
-      pub rules-keep : {r : Chunk} → r ≡ taken_as c list → not ok ≡ false → ReadAs F t c r ws x
+      pub rules-keep : {k : Chunk} → k ≡ taken_as c list → not ok ≡ false → ReadAs F t c (Ok k) ws x
       unfolding late_rungs fields
-      rules-keep {r} e n =
-          let l : r.list ≡ list = ap (λ (y : Chunk). y.list) e in
-          let m : 0 ≡ number_of (accept_rungs F t c) =
-          late (passed _ 8 _ (λ n. n) 0 (maxima-kept h) (passed _ 7 _ (λ n. n) 0 (held rules-are n) (done (λ n. n) 0))) in
+      rules-keep {k} e n =
+          let l : k.list ≡ list = ap (λ (y : Chunk). y.list) e in
+          let a : Accepted F t c k ws x =
           record {
-            answered = ap (λ (y : Chunk). y.number) e ∙ m;
-            taken = λ q.
-                record {
-                  chunk-is = e ∙ ap (taken_as c) (sym l);
-                  set_is = s.filled (not-false _ n) ∙ rw (ef, et);
-                  listed = rw l (h.listed list refl);
-                };
+            chunk-is = e ∙ ap (taken_as c) (sym l);
+            set_is = s.filled (not-false _ n) ∙ rw (ef, et);
+            listed = rw l (h.listed list refl);
+          }
+          in
+          record {
+            answered = late (passed _ 8 _ (λ n. n) 0 (maxima-kept h) (passed _ 7 _ (λ n. n) 0 (held rules-are n) (done (λ n. n) 0)));
+            taken = λ j z. subst (λ (y : Chunk). Accepted F t c y ws x) (IfOk-at_ok (λ (y : Chunk). k ≡ y) z refl) a;
           }

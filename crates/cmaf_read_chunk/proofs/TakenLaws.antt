@@ -21,7 +21,7 @@ use Rattle.cmaf_read_boxes.proofs.BoxLaws.{boxes-hold}
 
 pub taken-by : (c : List ℕ) (top : Top) (list : ℕ) {p : Prft} {b d : Part} → top ≡ top_of c
     → p ≡ prft_of c top.prft → b ≡ body_of top.styp → d ≡ body_of top.mdat
-    → record { number = 0; prft = p; events = top.events; list = list; brands = b; payload = d } ≡ taken_as c list
+    → record { prft = p; events = top.events; list = list; brands = b; payload = d } ≡ taken_as c list
 unfolding prft
 taken-by c top list et ep eb ed = rw (ep, eb, ed, et)
 

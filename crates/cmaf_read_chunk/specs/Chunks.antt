@@ -1,14 +1,15 @@
 -- What the code hands on of an accepted chunk.
 -- ==== What only mirrors the code
-use Rattle.std.specs.Prelude.{ℕ, ◌≤◌, ◌≡◌, Bool, true, List, Option, Some, is_some}
+use Rattle.std.specs.Prelude.{ℕ, ◌≤◌, ◌≡◌, Bool, true, List, Option, Some, is_some, Result, Ok}
 use Rattle.laws.specs.Ladder.{ladder}
+use Rattle.refusal.specs.declared.Refusal.{Refusal}
+use Rattle.refusal.specs.Numbers.{number_in}
 use Rattle.constants.specs.Maxima.{event_bytes_most}
 use Rattle.wire.specs.declared.form.Row.{Row}
 use Rattle.track.specs.declared.Track.{Track}
 use Rattle.cmaf_read_shape.specs.declared.top.Top.{Top}
 use Rattle.cmaf_read_shape.specs.declared.inner.Inner.{Inner}
 use Rattle.cmaf_read_shape.specs.Parts.{body_of}
-use Rattle.prft_value.specs.Prft.{absent_prft}
 use Rattle.event_value.specs.Events.{events_of}
 use Rattle.locmaf_write_events.specs.Records.{AllWords, AllIn, list_bytes}
 use Rattle.cmaf_read_rules.specs.Rules.{rules_ok}
@@ -16,23 +17,10 @@ use Rattle.cmaf_read_set.specs.Set.{chunk_set}
 use Rattle.cmaf_read_chunk.specs.declared.read.Chunk.{Chunk}
 use Rattle.cmaf_read_chunk.specs.Accepted.{top, boxes, events, prft, fields, maxima_ok, accept_rungs}
 
--- nothing but a number
-abbrev pub refused_with : ℕ → Chunk
-refused_with k =
-    record {
-      number = k;
-      prft = absent_prft;
-      events = 0;
-      list = 0;
-      brands = record { at = 0; len = 0 };
-      payload = record { at = 0; len = 0 };
-    }
-
 -- an accepted chunk
 abbrev pub taken_as : List ℕ → ℕ → Chunk
 taken_as c list =
     record {
-      number = 0;
       prft = prft c;
       events = (top c).events;
       list = list;
@@ -65,7 +53,7 @@ pub record Accepted (F : List Row) (t : Track) (c : List ℕ) (k : Chunk) (ws x 
   pub set_is : x ≡ fields t c
   pub listed : Listed F t c k.list ws
 
--- the number, and with 0 the rest
-pub record ReadAs (F : List Row) (t : Track) (c : List ℕ) (k : Chunk) (ws x : List ℕ) : Type 0 where
-  pub answered : k.number ≡ ladder (accept_rungs F t c) (λ n. n) 0
-  pub taken : k.number ≡ 0 → Accepted F t c k ws x
+-- a refusal, or the rest
+pub record ReadAs (F : List Row) (t : Track) (c : List ℕ) (r : Result Chunk Refusal) (ws x : List ℕ) : Type 0 where
+  pub answered : number_in r ≡ ladder (accept_rungs F t c) (λ n. n) 0
+  pub taken : (k : Chunk) → r ≡ Ok k → Accepted F t c k ws x

@@ -12,7 +12,7 @@ ghost use Rattle.cmaf_read_senc.specs.Entries.{subsamples};
 ghost use Rattle.cmaf_read_boxes.specs.Right.{boxes_ok};
 ghost use Rattle.cmaf_read_rules.specs.Rules.{Right};
 ghost use Rattle.cmaf_read_set.specs.Gatherable.{Gatherable};
-ghost use Rattle.cmaf_read_chunk.specs.Chunks.{refused_with, taken_as, CountedAs, SettledAs, ReadAs};
+ghost use Rattle.cmaf_read_chunk.specs.Chunks.{taken_as, CountedAs, SettledAs, ReadAs};
 
 use crate::maxima;
 use byte_parts::Part;
@@ -23,32 +23,19 @@ use cmaf_read_shape::top::Top;
 use constants::maxima::EVENT_BYTES;
 use event_value::ALL_WORDS;
 use prft_value::Prft;
+use refusal::Refusal;
 use track::Track;
 use wire::form::Form;
 
-// The number 0, 5, 6, 8 or 7, and with 0 what the chunk has beside its set and its events: the `prft`, how many events, the bytes of their records, what
-// stands in the `styp` (no bytes: no box), and the payload.
+// What a chunk has beside its set and its events: the `prft`, how many events, the bytes of their records, what stands in the `styp` (no bytes: no box),
+// and the payload.
 #[derive(Clone, Copy)]
 pub struct Chunk {
-    pub number: u64,
     pub prft: Prft,
     pub events: usize,
     pub list: usize,
     pub brands: Part,
     pub payload: Part,
-}
-
-fn refused(number: u64) -> Chunk
-    ensures { result ≡ refused_with number }
-{
-    Chunk {
-        number,
-        prft: Prft::none(),
-        events: 0,
-        list: 0,
-        brands: Part { at: 0, len: 0 },
-        payload: Part { at: 0, len: 0 },
-    }
 }
 
 fn taken(c: &[u8], top: Top, list: usize) -> Chunk
@@ -59,7 +46,6 @@ fn taken(c: &[u8], top: Top, list: usize) -> Chunk
     let prft = top.prft;
     let mdat = top.mdat;
     Chunk {
-        number: 0,
         prft: cmaf_read_prelude::prft::prft_of(c, prft),
         events: top.events,
         list,
@@ -125,7 +111,7 @@ fn read_rest(
     f: Inner,
     pairs: u64,
     words: &mut [u64],
-) -> Chunk
+) -> Result<Chunk, Refusal>
     requires iv_size_bound { (t.iv_size ≤ 16) × (whole c.now ≡ true) × (boxes_ok t c.now ≡ true) }
     requires top_value { (top ≡ top_of c.now) × (f ≡ inner_of c.now top.moof) }
     requires pairs_value { pairs ≡ subsamples t c.now f.senc }
@@ -133,17 +119,17 @@ fn read_rest(
     ensures { ReadAs (rows form) t c.now result (take events_len words.new)
         (drop events_len words.new) }
 {
-    let Some(list) = count(form, t, c, top, f, pairs, &mut words[..ALL_WORDS]) else {
-        return refused(8);
-    };
+    let list = count(form, t, c, top, f, pairs, &mut words[..ALL_WORDS]).ok_or(
+        Refusal::PastMaximum,
+    )?;
     if !settle(t, c, top, f, &mut *words) {
-        return refused(7);
+        return Err(Refusal::BrokenRule);
     }
-    taken(c, top, list)
+    Ok(taken(c, top, list))
 }
 
-// A chunk for a track. The words are those of its events and behind them those of its set, zeros before; they count only with the number 0.
-pub fn read_chunk(form: Form, t: Track, c: &[u8], words: &mut [u64]) -> Chunk
+// A chunk for a track. The words are those of its events and behind them those of its set, zeros before; they count only where nothing is refused.
+pub fn read_chunk(form: Form, t: Track, c: &[u8], words: &mut [u64]) -> Result<Chunk, Refusal>
     requires iv_size_bound { t.iv_size ≤ 16 }
     requires words_value { words.old ≡ replicate (events_len + set_len) 0 }
     ensures { ReadAs (rows form) t c.now result (take events_len words.new)
@@ -153,10 +139,8 @@ pub fn read_chunk(form: Form, t: Track, c: &[u8], words: &mut [u64]) -> Chunk
     let moof = top.moof;
     let f = cmaf_read_shape::inner::inner_of(c, moof);
     if !right::order_ok(c, top, f) {
-        return refused(right::unordered(c));
+        return Err(right::unordered(c));
     }
-    let Some(pairs) = right::pairs_in(t, c, top, f) else {
-        return refused(6);
-    };
+    let pairs = right::pairs_in(t, c, top, f).ok_or(Refusal::WrongBox)?;
     read_rest(form, t, c, top, f, pairs, words)
 }

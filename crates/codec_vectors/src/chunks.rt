@@ -1,92 +1,33 @@
 // What an encoder answers to a chunk: the number, the length of the front, that of the payload, and the front's bytes, or their sum.
 use crate::results;
-use commands::checksum;
-use printing::{hex, letter, line, number};
+use crate::results::Shown;
 use share_words::share::TABLE;
 use std::io;
 
-fn show<R: Print>(rt: &R, output: &[u8], front: usize, summed: bool) -> io::Result<()> {
-    if summed {
-        return number(rt, checksum::checksum(output, front));
-    }
-    hex(rt, output, 0, front)
-}
+// The most that may be asked for as room.
+const ROOM: u64 = 65536;
 
-// A chunk with a wish on a table: the number and the lengths are told, and the front's is handed back.
-fn ask<R: Print>(
+// A chunk with a wish for a delta or for a full object, on the first words of a table, in so much room.
+fn encode<R: Print + AllocGlobal>(
     rt: &R,
     table: &mut [u64],
     slot: u64,
-    wish: u64,
-    chunk: &[u8],
-    out: &mut [u8],
-) -> io::Result<usize> {
-    let mut number = 99;
-    let mut front = 99;
-    let payload = encoder::encode::encode(table, slot, wish, chunk, out, &mut number, &mut front);
-    results::told(rt, number, front, payload.len() as u64)?;
-    Ok(front as usize)
-}
-
-// The same with the front, into so much room.
-fn tell<R: Print>(
-    rt: &R,
-    table: &mut [u64],
-    slot: u64,
-    wish: u64,
-    chunk: &[u8],
-    out: &mut [u8],
-    summed: bool,
-) -> io::Result<()> {
-    let front = ask(rt, table, slot, wish, chunk, &mut *out)?;
-    show(rt, out, front, summed)?;
-    letter(rt, b'\n')
-}
-
-// A chunk with a wish on the first words of a table, in so much room, up to 65,536 bytes.
-fn encode<R: Print>(
-    rt: &R,
-    table: &mut [u64],
-    words: usize,
-    slot: u64,
-    wish: u64,
+    delta: bool,
     room: u64,
     chunk: &[u8],
-    summed: bool,
+    shown: Shown,
 ) -> io::Result<()> {
-    if table.len() < words {
-        return line(rt, 99);
+    if ROOM < room {
+        return results::wrong(rt);
     }
-    if 65536 < room {
-        return line(rt, 99);
-    }
-    let mut output = [0u8; 65536];
-    tell(
-        rt,
-        &mut table[..words],
-        slot,
-        wish,
-        chunk,
-        &mut output[..room as usize],
-        summed,
-    )
+    let mut output = vec![in rt.alloc(); 0u8; room as usize]?;
+    let given = encoder::encode::encode(table, slot, delta as u64, chunk, &mut output);
+    results::told(rt, given, &output, shown)
 }
 
-// A chunk of a track: always as a full object on the first slot, and with the wish for a delta on the second.
-fn both<R: Print>(rt: &R, table: &mut [u64], room: u64, chunk: &[u8]) -> io::Result<()> {
-    encode(rt, &mut *table, TABLE, 0, 0, room, chunk, true)?;
-    encode(rt, table, TABLE, 1, 1, room, chunk, true)
-}
-
-// The wish of a letter: a full object for f, and for s, where a word of the table is missing; else a delta.
-fn wish(call: u8) -> u64 {
-    if (call == b'f') | (call == b's') {
-        return 0;
-    }
-    1
-}
-
-pub fn answer<R: Print>(
+// By the letter b a chunk of a track: always as a full object on the first slot, and with the wish for a delta on the second. Else the wish of the letter: a full
+// object for f, and for s, where a word of the table is missing; else a delta.
+pub fn answer<R: Print + AllocGlobal>(
     rt: &R,
     table: &mut [u64],
     call: u8,
@@ -94,17 +35,21 @@ pub fn answer<R: Print>(
     room: u64,
     chunk: &[u8],
 ) -> io::Result<()> {
-    if call == b'b' {
-        return both(rt, table, room, chunk);
+    match call {
+        b'b' => {
+            encode(rt, &mut *table, 0, false, room, chunk, Shown::Sum)?;
+            encode(rt, table, 1, true, room, chunk, Shown::Sum)
+        }
+        b's' => encode(
+            rt,
+            results::short(table),
+            slot,
+            false,
+            room,
+            chunk,
+            Shown::Bytes,
+        ),
+        b'f' => encode(rt, table, slot, false, room, chunk, Shown::Bytes),
+        _ => encode(rt, table, slot, true, room, chunk, Shown::Bytes),
     }
-    encode(
-        rt,
-        table,
-        results::words(call),
-        slot,
-        wish(call),
-        room,
-        chunk,
-        false,
-    )
 }

@@ -4,15 +4,18 @@
 #![tactic(auto)]
 
 use std::io;
+use std::io::Read;
 
 mod results; // results.rt: what a command on a table answers
 mod chunks; // chunks.rt: what an encoder answers to a chunk
-mod input; // input.rt: the program's input
 mod objects; // objects.rt: what a receiver answers to an object
 mod parts; // parts.rt: the parts of the input, and the commands of each
 
+// The bytes of the input that are read; what comes after is left.
+const INPUT: u64 = 1048576;
+
 fn main(rt: HostRuntime) -> io::Result<()> {
-    let mut bytes = [0u8; 1048576];
-    let n = input::read_full(&mut rt.stdin(), &mut bytes)?;
-    parts::run_all(&rt, &bytes[..n])
+    let mut input = Vec::new(rt.alloc());
+    rt.stdin().take(INPUT).read_to_end(&mut input)?;
+    parts::run_all(&rt, &input)
 }

@@ -1,61 +1,58 @@
 // The parts of the input, and the commands of each.
-ghost use Rattle.std.specs.Prelude.{◌≤◌, ◌<◌, length, IfOk};
+ghost use Rattle.std.specs.Prelude.{length};
+ghost use Rattle.std.specs.Iterator.{at_most};
 
 use crate::results;
 use commands::command;
+use commands::command::Command;
 use share_words::share::TABLE;
 use slots::lawful::Side;
 use std::io;
 
-// The command at the place p, and the place behind it. One that is cut isn't answered, and none comes behind it.
-fn run<R: Print>(rt: &R, side: Side, table: &mut [u64], input: &[u8], p: usize) -> io::Result<usize>
-    requires { p < length input.now }
-    ensures { IfOk result (λ next. (p < next) × (next ≤ length input.now)) }
-{
-    let c = command::command_at(input, p);
-    let at = c.at;
-    let next = c.next;
-    if !c.whole {
-        return Ok(next);
+// The commands of some bytes, one after another, each with its own bytes. None comes behind one that is cut, nor is that one answered.
+#[derive(Drop)]
+struct Commands<'a>(&'a [u8]);
+
+impl<'a> Iterator for Commands<'a> {
+    type Item = (Command, &'a [u8]);
+
+    ghost remaining = { λ s. at_most (length s.0.now) };
+
+    fn next(&mut self) -> Option<(Command, &'a [u8])> {
+        let input = self.0;
+        if input.is_empty() {
+            return None;
+        }
+        let c = command::command_at(input, 0);
+        let at = c.at;
+        let next = c.next;
+        self.0 = &input[next..];
+        if c.whole {
+            Some((c, &input[at..next]))
+        } else {
+            None
+        }
     }
-    results::answer(rt, side, table, c.call, c.slot, c.value, &input[at..next])?;
-    Ok(next)
 }
 
-// All commands of a part, on one table.
-fn run_on<R: Print>(rt: &R, side: Side, table: &mut [u64], input: &[u8]) -> io::Result<()> {
-    let mut p = 0;
-    while p < input.len() {
-        p = run(rt, side, table, input, p)?;
+// A part: its commands on a fresh table.
+fn run_part<R: Print + AllocGlobal>(rt: &R, side: Side, part: &[u8]) -> io::Result<()> {
+    let mut table = vec![in rt.alloc(); 0u64; TABLE]?;
+    for (c, bytes) in Commands(part) {
+        results::answer(rt, side, &mut table, c.call, c.slot, c.value, bytes)?;
     }
     Ok(())
 }
 
-fn side_of(call: u8) -> Side {
-    if call == b'e' {
-        return Side::Encoder;
-    }
-    Side::Receiver
-}
-
-// The part at the place p on a fresh table, and the place behind it.
-fn run_part<R: Print>(rt: &R, input: &[u8], p: usize) -> io::Result<usize>
-    requires { p < length input.now }
-    ensures { IfOk result (λ next. (p < next) × (next ≤ length input.now)) }
-{
-    let c = command::command_at(input, p);
-    let at = c.at;
-    let next = c.next;
-    let mut table = [0u64; TABLE];
-    run_on(rt, side_of(c.call), &mut table, &input[at..next])?;
-    Ok(next)
-}
-
 // All parts of the input.
-pub fn run_all<R: Print>(rt: &R, input: &[u8]) -> io::Result<()> {
-    let mut p = 0;
-    while p < input.len() {
-        p = run_part(rt, input, p)?;
+pub fn run_all<R: Print + AllocGlobal>(rt: &R, input: &[u8]) -> io::Result<()> {
+    for (c, part) in Commands(input) {
+        let side = if c.call == b'e' {
+            Side::Encoder
+        } else {
+            Side::Receiver
+        };
+        run_part(rt, side, part)?;
     }
     Ok(())
 }

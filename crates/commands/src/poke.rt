@@ -2,7 +2,6 @@
 // Letters: `rt` what prints, `v` a number.
 ghost use Rattle.std.specs.Prelude.{◌≡◌, set};
 
-use printing::line;
 use std::io;
 
 // Puts a number into a word of the table, where the table has that word, and answers 0 in any case.
@@ -12,5 +11,5 @@ pub fn poke<R: Print>(rt: &R, table: &mut [u64], word: u64, v: u64) -> io::Resul
     if word < table.len() as u64 {
         table[word as usize] = v;
     }
-    line(rt, 0)
+    println!(rt; "0")
 }

@@ -2,12 +2,11 @@
 use Prim.Native.Nat.{ℕ, ◌≤◌, ◌<◌}
 use native.Mathlib.Omega.{arith}
 use mathlib.Core.Path.{◌≡◌, sym, ◌∙◌, ap, subst}
-use mathlib.Core.Bool.{Bool, true, false, not}
+use mathlib.Core.Bool.{Bool}
 use mathlib.Core.List.{List}
-use borrow.Author.Tests.{le-leb, lt-leb, not-false}
+use borrow.Author.Tests.{le-leb, lt-leb}
 use lib.ListN.{length, get_or}
 use lib.Seq.{length-slice}
-use Rattle.laws.proofs.GateLaws.{failed, held}
 use Rattle.laws.proofs.LadderLaws.{broken, passed, top}
 use Rattle.laws.proofs.WriteLaws.{wrote-front, wrote_as}
 use Rattle.wire.specs.declared.form.Row.{Row}
@@ -19,10 +18,10 @@ use Rattle.cmaf_read_shape.specs.Parts.{body_of, end_of}
 use Rattle.share_words.specs.Share.{accepted_at}
 use Rattle.slots.specs.Share.{track_of}
 use Rattle.slots.specs.Table.{out}
-use Rattle.std.specs.Prelude.{Some, None}
+use Rattle.std.specs.Prelude.{Some, None, Ok}
 use Rattle.answers.specs.Took.{took}
 use Rattle.answers.specs.declared.answer.Answer.{Answer}
-use Rattle.answers.specs.Answered.{answered, AnsweredAs}
+use Rattle.answers.specs.Answered.{handed, AnsweredAs}
 use Rattle.reference.specs.Kept.{kept_words}
 use Rattle.cmaf_read_chunk.specs.declared.read.Chunk.{Chunk}
 use Rattle.cmaf_read_chunk.specs.Accepted.{bytes_at, prft, payload, fields}
@@ -78,7 +77,7 @@ module _ (form : Form) (t : Track) (s c : List ℕ) (k : Chunk) (ws x : List ℕ
 
       -- there is
       pub done-is : n ≤ length output → {r : Answer} {after words : List ℕ} → WrittenAs F s c a k x output r after words
-          → AnsweredAs (on_accepted F wish c output s) c r after words
+          → AnsweredAs (on_accepted F wish c output s) c (Ok r) after words
       unfolding last_rungs kept
       done-is l {r = ans} {after} {words} g =
           let f = wrote-front (wrote_as (planned-front form p.plan) g.written) in
@@ -88,7 +87,7 @@ module _ (form : Form) (t : Track) (s c : List ℕ) (k : Chunk) (ws x : List ℕ
           let y : words ≡ kept F wish c output s = g.kept ∙ (λ i. kept_words (d i) (get_or s accepted_at 0) (r i) (v i) (part_length i) s) in
           record {
             so =
-                ap (λ (z : Answer). answered c z after words) g.answer
+                ap (λ (z : Answer). out (handed c (Ok z) after) words) g.answer
                 ∙ passed _ 9 _ _ _ (sym p.answered)
                 (passed _ 17 _ _ _ (le-leb (length (front F s c wish)) (length output) (omega (arith, long)))
                 ((λ i. out (took 0 (f.0 i) (part_bytes i) (f.1 i)) (y i)) ∙ top _ _));

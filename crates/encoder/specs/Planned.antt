@@ -95,7 +95,7 @@ pub record Sendable (F : List Row) (s c : List ℕ) (a : Plan) : Type 0 where
 
 -- what was planned was sent, and answered: the front is written, and the reference kept
 pub record WrittenAs (F : List Row) (s c : List ℕ) (a : Plan) (k : Chunk) (x output : List ℕ) (r : Answer) (after words : List ℕ) : Type 0 where
-  pub answer : r ≡ record { number = 0; front = r.front; payload = k.payload }
+  pub answer : r ≡ record { front = r.front; payload = k.payload }
   pub written : Wrote output 0 (object_of F s c a.delta) after r.front
   pub kept : words ≡ kept_words a.delta (get_or s accepted_at 0) k.prft x k.payload.len s
 

@@ -5,9 +5,8 @@ ghost use Rattle.wire.specs.declared.form.Form.TheVariants.{Rfc9000};
 ghost use Rattle.field_table.specs.Lines.{set_len};
 ghost use Rattle.share_words.specs.Share.{share_len, set_at};
 ghost use Rattle.slots.specs.Table.{out, on_table};
-ghost use Rattle.answers.specs.Took.{took};
 ghost use Rattle.answers.specs.Took as T;
-ghost use Rattle.answers.specs.Answered.{AnsweredAs};
+ghost use Rattle.answers.specs.Answered.{AnsweredAs, given};
 ghost use Rattle.cmaf_read_chunk.specs.Chunks.{ReadAs};
 ghost use Rattle.locmaf_write_block.specs.Fields.{Kept};
 ghost use Rattle.encoder.specs.Object.{object_of};
@@ -17,16 +16,17 @@ ghost use Rattle.encoder.specs.Planned.{Encodable, OnShare, Sendable, Leaves, Wr
 use crate::front;
 use crate::front::Plan;
 use answers::answer;
-use answers::answer::Answer;
+use answers::answer::{Answer, Handed};
 use cmaf_read_chunk::read::Chunk;
 use constants::maxima;
 use event_value::ALL_WORDS;
 use field_table::lines;
 use locmaf_write_block::set::KEPT;
+use refusal::Refusal;
 use share_words::share;
-use share_words::share::{SHARE, TABLE};
-use slots::lawful;
+use share_words::share::SHARE;
 use slots::lawful::Side;
+use slots::{calls, lawful};
 use track::Track;
 use wire::form::Form;
 
@@ -58,7 +58,6 @@ fn write(
     reference::keep::keep(&mut *s, a.delta, prft, sequence, x);
     reference::keep::renew(a.delta, payload.len as u64, s);
     Answer {
-        number: 0,
         front: n as u64,
         payload,
     }
@@ -75,7 +74,7 @@ fn accept(
     events: &[u64],
     x: &[u64],
     output: &mut [u8],
-) -> Answer
+) -> Result<Answer, Refusal>
     requires { Encodable (rows form) t s.old c.now k events.now x.now }
     ensures { AnsweredAs (on_accepted (rows form) wish c.now output.old s.old)
         c.now result output.new s.new }
@@ -83,37 +82,35 @@ fn accept(
     let mut kept = [0usize; KEPT];
     let follow = front::follows(t, wish, s, x);
     let Some(a) = front::choose(form, t, wish, follow, s, k, events, x, &mut kept) else {
-        return answer::refused(9);
+        return Err(Refusal::NoObject);
     };
     if output.len() < front::front_length(form, a) {
-        return answer::refused(17);
+        return Err(Refusal::NoRoom);
     }
-    write(form, t, a, c, s, k, events, x, &kept, output)
+    Ok(write(form, t, a, c, s, k, events, x, &kept, output))
 }
 
-// A chunk that was read: number first, then act. No reference has a BMDT past its maximum, so it is asked whatever the wish.
+// A chunk that was read: refused, or acted on. No reference has a BMDT past its maximum, so it is asked whatever the wish.
 fn take_read(
     form: Form,
     t: Track,
     wish: bool,
     c: &[u8],
     s: &mut [u64],
-    k: Chunk,
+    read: Result<Chunk, Refusal>,
     events: &[u64],
     x: &[u64],
     output: &mut [u8],
-) -> Answer
+) -> Result<Answer, Refusal>
     requires on_share { OnShare (rows form) t s.old c.now }
-    requires read_as { ReadAs (rows form) t c.now k events.now x.now }
+    requires read_as { ReadAs (rows form) t c.now read events.now x.now }
     requires x_len { length x.now ≡ set_len }
     ensures { AnsweredAs (on_open (rows form) wish c.now output.old s.old)
         c.now result output.new s.new }
 {
-    if k.number != 0 {
-        return answer::refused(k.number);
-    }
+    let k = read?;
     if maxima::NUMBER < x[lines::BMDT] {
-        return answer::refused(9);
+        return Err(Refusal::NoObject);
     }
     accept(form, t, wish, c, s, k, events, x, output)
 }
@@ -126,14 +123,14 @@ fn take_chunk(
     c: &[u8],
     s: &mut [u64],
     output: &mut [u8],
-) -> Answer
+) -> Result<Answer, Refusal>
     requires { OnShare (rows form) t s.old c.now }
     ensures { AnsweredAs (on_open (rows form) wish c.now output.old s.old)
         c.now result output.new s.new }
 {
     // the words of the events, and behind them those of the set: together they are cleared at once
     let mut words = [0u64; ALL_WORDS + lines::SET];
-    let k = cmaf_read_chunk::read::read_chunk(form, t, c, &mut words);
+    let read = cmaf_read_chunk::read::read_chunk(form, t, c, &mut words);
     let w = &words[..];
     take_read(
         form,
@@ -141,7 +138,7 @@ fn take_chunk(
         wish,
         c,
         s,
-        k,
+        read,
         &w[..ALL_WORDS],
         &w[ALL_WORDS..],
         output,
@@ -149,59 +146,53 @@ fn take_chunk(
 }
 
 // A chunk on a share.
-fn take_share(form: Form, wish: bool, c: &[u8], s: &mut [u64], output: &mut [u8]) -> Answer
+fn take_share(
+    form: Form,
+    wish: bool,
+    c: &[u8],
+    s: &mut [u64],
+    output: &mut [u8],
+) -> Result<Answer, Refusal>
     requires { length s.old ≡ share_len }
     ensures { AnsweredAs (encoding (rows form) wish c.now output.old s.old)
         c.now result output.new s.new }
 {
-    if !lawful::is_lawful(Side::Encoder, s) {
-        return answer::refused(18);
-    }
-    if s[share::TRACK] == 0 {
-        return answer::refused(2);
-    }
+    calls::open_in(Side::Encoder, s)?;
     let t = lawful::track_of(s);
     take_chunk(form, t, wish, c, s, output)
 }
 
 // A chunk on a table.
-fn take_table(table: &mut [u64], slot: u64, wish: bool, c: &[u8], output: &mut [u8]) -> Answer
+fn take_table(
+    table: &mut [u64],
+    slot: u64,
+    wish: bool,
+    c: &[u8],
+    output: &mut [u8],
+) -> Result<Answer, Refusal>
     ensures { AnsweredAs
         (on_table (T.refused output.old)
         (encoding (rows Rfc9000) wish c.now output.old) table.old slot)
         c.now result output.new table.new }
 {
-    if table.len() != TABLE {
-        return answer::refused(18);
-    }
-    if 7 < slot {
-        return answer::refused(1);
-    }
-    let at = share::start_of(slot);
+    let at = calls::place_in(table, slot)?;
     take_share(Form::Rfc9000, wish, c, &mut table[at..at + SHARE], output)
 }
 
-// One chunk into the front of an object: the number, the front's length, and the payload as the part of the chunk that it is. The wish 0 is for
-// a full object, any other for a delta.
+// One chunk into the front of an object: the front's length, and the payload as the part of the chunk that it is. The wish 0 is for a full object, any
+// other for a delta.
 pub fn encode<'a>(
     table: &mut [u64],
     slot: u64,
     wish: u64,
     chunk: &'a [u8],
     output: &mut [u8],
-    number: &mut u64,
-    front: &mut u64,
-) -> &'a [u8]
-    ensures { out (took number.new front.new result.now output.new)
-        table.new
+) -> Result<Handed<'a>, Refusal>
+    ensures { out (given result output.new) table.new
         ≡ on_table (T.refused output.old)
         (encoding (rows Rfc9000) (wished wish) chunk.now output.old)
         table.old slot }
 {
-    let a = take_table(table, slot, wish != 0, chunk, output);
-    *number = a.number;
-    *front = a.front;
-    let from = a.payload.at;
-    let end = from + a.payload.len;
-    &chunk[from..end]
+    let a = take_table(table, slot, wish != 0, chunk, output)?;
+    Ok(answer::hand_out(a, chunk))
 }

@@ -1,199 +1,171 @@
-// The words that the program is started with. They are read twice: first all options, and then one folder after another.
-// Letters: `rt` the runtime, `err` standard error, `o` the options, `i` which word, counted from 0.
-ghost use Rattle.inputs.specs.Counts.{IsPrefixLen};
+// The words that the program is started with. They need not be UTF-8, since a folder's name need not.
+// Letters: `rt` the runtime, `err` standard error.
+ghost use Rattle.std.specs.Prelude.{◌≡◌, IfOk};
+ghost use Rattle.inputs.specs.Arguments.{IsLawful, RunsLawfully};
 
-use crate::complaints::tell;
 use crate::numbers;
+use std::alloc::{AllocError, Global};
 use std::env::FillError;
+use std::fmt;
 use std::rt::Env;
 
-// What is asked for, where `join` is 0 without `--join`, and whether folders are named; and while the words are read, whether a number comes next, and whether that of `--join`.
-#[derive(Clone, Copy)]
+// What is asked for: a full object at every so many chunks, or at each that begins with a sync sample; the full object of each track that a second receiver starts
+// at; and the folders of the tracks, of which there are none where the bundled ones are meant.
+#[derive(Drop)]
 pub struct Options {
     pub every: u64,
-    pub join: u64,
     pub sync: bool,
-    pub folders: bool,
-    pub help: bool,
-    pub bad: bool,
-    pub waits: bool,
-    pub joins: bool,
+    pub join: Option<u64>,
+    pub folders: Vec<Vec<u8>>,
 }
 
-// What a word is.
+// What the program is to do.
+#[derive(Drop)]
+pub enum Request {
+    Run(Options),
+    Help,
+    // What is bad has been said.
+    Bad,
+}
+
+// The options behind which a number comes.
 #[derive(Clone, Copy)]
-pub enum Word {
+enum Counted {
     Every,
     Join,
-    Sync,
-    Help,
-    Count,
-    Folder,
-    Unknown,
 }
 
+impl fmt::Display for Counted {
+    fn fmt<W: fmt::Write>(&self, f: &mut fmt::Formatter<W>) -> fmt::Result {
+        match self {
+            Counted::Every => write!(f, "--every"),
+            Counted::Join => write!(f, "--join"),
+        }
+    }
+}
+
+// Of every so many chunks, if it isn't said.
 const EVERY: u64 = 8;
 
-// The bytes that a word may have, and a path.
-pub const WORD: usize = 4096;
+// The bytes that a word may have.
+const WORD: usize = 4096;
 
-fn option(word: &[u8]) -> Word {
-    match word {
-        b"--every" => Word::Every,
-        b"--join" => Word::Join,
-        b"--sync" => Word::Sync,
-        b"--help" => Word::Help,
-        _ => Word::Unknown,
+// What has been read so far, and the option whose number comes next.
+#[derive(Drop)]
+struct Reading {
+    options: Options,
+    help: bool,
+    bad: bool,
+    awaited: Option<Counted>,
+}
+
+impl Reading {
+    fn complain<E: Print, D: fmt::Display + Drop>(&mut self, err: &E, what: D, word: &[u8])
+        ensures { self.new.options ≡ self.old.options }
+    {
+        self.bad = true;
+        // What can't be said on standard error is left out, as in `files`.
+        let _ = err.print(format_args!("relay: {what}"));
+        let _ = err.write_all(word);
+        let _ = err.print("\n");
     }
-}
 
-// What a word is, where a number is waited for or not.
-pub fn kind(waits: bool, word: &[u8]) -> Word {
-    if waits {
-        return Word::Count;
-    }
-    if word.len() == 0 {
-        return Word::Unknown;
-    }
-    if word[0] == b'-' {
-        return option(word);
-    }
-    Word::Folder
-}
-
-fn complain<E: Print>(err: &E, text: &[u8], word: &[u8]) {
-    tell(err, b"relay: ");
-    tell(err, text);
-    tell(err, word);
-    tell(err, b"\n");
-}
-
-fn bad(o: Options) -> Options {
-    let mut r = o;
-    r.bad = true;
-    r.waits = false;
-    r
-}
-
-// The number of an option is no number, or is missing.
-fn no_count<E: Print>(err: &E, joins: bool, text: &[u8], word: &[u8]) {
-    if joins {
-        tell(err, b"relay: --join");
-    } else {
-        tell(err, b"relay: --every");
-    }
-    tell(err, b" takes a number from 1 on");
-    tell(err, text);
-    tell(err, word);
-    tell(err, b"\n");
-}
-
-fn count<E: Print>(err: &E, o: Options, word: &[u8]) -> Options {
-    let n = numbers::number_at(word, 0);
-    if !n.stands | (n.next != word.len()) | (n.value == 0) {
-        no_count(err, o.joins, b", and this is none: ", word);
-        return bad(o);
-    }
-    let mut r = o;
-    if o.joins {
-        r.join = n.value;
-    } else {
-        r.every = n.value;
-    }
-    r.waits = false;
-    r
-}
-
-fn folder(o: Options) -> Options {
-    let mut r = o;
-    r.folders = true;
-    r
-}
-
-fn waiting(o: Options, joins: bool) -> Options {
-    let mut r = o;
-    r.waits = true;
-    r.joins = joins;
-    r
-}
-
-// The options after a further word.
-fn take<E: Print>(err: &E, o: Options, word: &[u8]) -> Options {
-    let mut r = o;
-    let k = kind(o.waits, word);
-    match k {
-        Word::Every => return waiting(o, false),
-        Word::Join => return waiting(o, true),
-        Word::Sync => r.sync = true,
-        Word::Help => r.help = true,
-        Word::Count => return count(err, o, word),
-        Word::Folder => return folder(o),
-        Word::Unknown => {
-            complain(err, b"no option and no folder: ", word);
-            return bad(o);
+    fn count<E: Print>(&mut self, err: &E, option: Counted, word: &[u8])
+        requires { IsLawful self.old.options }
+        ensures { IsLawful self.new.options }
+    {
+        match numbers::number(word) {
+            None | Some(0) => self.complain(
+                err,
+                format_args!("{option} takes a number from 1 on, and this is none: "),
+                word,
+            ),
+            Some(n) => match option {
+                Counted::Every => self.options.every = n,
+                Counted::Join => self.options.join = Some(n),
+            },
         }
     }
-    r
-}
 
-fn take_at<R: Env, E: Print>(rt: &R, err: &E, o: Options, i: usize) -> Options {
-    let mut word = [0u8; WORD];
-    match rt.arg(i, &mut word) {
-        Ok(n) => take(err, o, &word[..n]),
-        Err(_) => {
-            complain(err, b"an argument is too long", b"");
-            bad(o)
+    // A further word.
+    fn take<E: Print>(&mut self, alloc: Global, err: &E, word: &[u8]) -> Result<(), AllocError>
+        requires { IsLawful self.old.options }
+        ensures { IsLawful self.new.options }
+    {
+        if let Some(option) = self.awaited.take() {
+            self.count(err, option, word);
+            return Ok(());
         }
-    }
-}
-
-// How many words the program was started with, its own name among them.
-pub fn how_many<R: Env>(rt: &R) -> usize {
-    let mut first = [0u8; 1];
-    for i in 0..usize::MAX {
-        if let Err(FillError::NotPresent) = rt.arg(i, &mut first) {
-            return i;
+        match word {
+            b"--every" => self.awaited = Some(Counted::Every),
+            b"--join" => self.awaited = Some(Counted::Join),
+            b"--sync" => self.options.sync = true,
+            b"--help" => self.help = true,
+            [] | [b'-', ..] => self.complain(err, "no option and no folder: ", word),
+            _ => self.options.folders.push(Vec::from_slice(alloc, word)?)?,
         }
+        Ok(())
     }
-    usize::MAX
-}
 
-// A word at the front of a buffer: its length, or 0 where it is missing or too long.
-pub fn word_at<R: Env>(rt: &R, i: usize, word: &mut [u8]) -> usize
-    ensures { IsPrefixLen result word.new }
-{
-    match rt.arg(i, word) {
-        Ok(n) => n,
-        Err(_) => 0,
+    fn done<E: Print>(mut self, err: &E) -> Request
+        requires { IsLawful self.options }
+        ensures { RunsLawfully result }
+    {
+        if let Some(option) = self.awaited {
+            self.complain(err, format_args!("{option} takes a number from 1 on"), b"");
+        }
+        if self.bad {
+            return Request::Bad;
+        }
+        if self.help {
+            return Request::Help;
+        }
+        Request::Run(self.options)
     }
-}
-
-// The options after all words of the program, its own name left out.
-fn take_all<R: Env, E: Print>(rt: &R, err: &E, before: Options) -> Options {
-    let mut o = before;
-    let n = how_many(rt);
-    for i in 1..n {
-        o = take_at(rt, err, o, i);
-    }
-    o
 }
 
 // What the program was started with.
-pub fn read_all<R: Env, E: Print>(rt: &R, err: &E) -> Options {
-    let none = Options {
-        every: EVERY,
-        join: 0,
-        sync: false,
-        folders: false,
+pub fn read<R: Env + AllocGlobal, E: Print>(rt: &R, err: &E) -> Result<Request, AllocError>
+    ensures { IfOk result (λ q. RunsLawfully q) }
+{
+    let alloc = rt.alloc();
+    let mut word = vec![in alloc; 0u8; WORD]?;
+    let mut reading = Reading {
+        options: Options {
+            every: EVERY,
+            sync: false,
+            join: None,
+            folders: Vec::new(alloc),
+        },
         help: false,
         bad: false,
-        waits: false,
-        joins: false,
+        awaited: None,
     };
-    let o = take_all(rt, err, none);
-    if o.waits {
-        no_count(err, o.joins, b"", b"");
-        return bad(o);
+    for i in 1..usize::MAX {
+        match rt.arg(i, &mut word) {
+            Ok(n) => reading.take(alloc, err, &word[..n])?,
+            Err(FillError::TooLong) => {
+                reading.awaited = None;
+                reading.complain(err, "an argument is too long", b"");
+            }
+            Err(FillError::NotPresent) => break,
+        }
     }
-    o
+    Ok(reading.done(err))
+}
+
+#[cfg(test)]
+mod tests {
+    use super::*;
+    use std::test::Fail;
+
+    // The words that a test is started with are names, which pass for folders.
+    #[test]
+    fn asks_to_run(rt: HostRuntime) -> Result<(), Fail> {
+        match read(&rt, &rt.stderr())? {
+            Request::Run(options) => assert_eq!(rt; options.every, EVERY),
+            _ => assert!(rt; false),
+        }
+        Ok(())
+    }
 }

@@ -1,85 +1,51 @@
-// A track's files, and what is wrong with them, on standard error.
-// Letters: `rt` the runtime, `err` standard error, `e` what the system answered.
-ghost use Rattle.inputs.specs.Counts.{IsPrefixLen};
+// A track's files.
+// Letters: `rt` the runtime, `err` standard error.
+ghost use Rattle.std.specs.Prelude.{◌≡◌, ◌≤◌, ◌<◌, codes, vec_len, IfErr, IfOk, MatchResult};
+ghost use Rattle.std.specs.Io.KnownBytes.{Consumes};
+ghost use Rattle.inputs.specs.Errors.{BlamesAtMost, BlamesAtMostLine, IsOfLine, SaysGoesOn};
+ghost use Rattle.inputs.specs.Files.{IsLengthOf, path_in};
+ghost use Rattle.inputs.specs.Numbers.{IsBelowLimit};
 
-use crate::arguments::WORD;
-use crate::complaints::{tell, tell_number};
+use crate::errors::{Error, Wrong};
 use crate::numbers;
-use std::io::{Cursor, Read, Write};
+use std::alloc::{AllocError, Global};
+use std::io::Read;
 use std::rt::Files;
 use std::{fs, io, str};
+use track::Asked;
 
-// Where bytes end that were put behind others, and whether there was room.
-#[derive(Clone, Copy)]
-pub struct Joined {
-    pub fits: bool,
-    pub end: usize,
-}
+pub const PARAMS: &'static str = "params.txt";
 
-// Puts bytes behind the first so many of a buffer.
-pub fn append(out: &mut [u8], at: usize, text: &[u8]) -> Joined
-    ensures { IsPrefixLen result.end out.new }
-{
-    if out.len() < at {
-        return Joined {
-            fits: false,
-            end: 0,
-        };
-    }
-    if out.len() - at < text.len() {
-        return Joined {
-            fits: false,
-            end: 0,
-        };
-    }
-    let end = at + text.len();
-    out[at..end].copy_from_slice(text);
-    Joined { fits: true, end }
-}
+pub const LINES: &'static str = "chunks.txt";
 
-// The path of a file in a folder; its length, or 0 where the path is too long for one.
-pub fn path_of(folder: &[u8], name: &[u8], path: &mut [u8]) -> usize
-    ensures { IsPrefixLen result path.new }
-{
-    let a = append(path, 0, folder);
-    let b = append(path, a.end, b"/");
-    let c = append(path, b.end, name);
-    if a.fits & b.fits & c.fits {
-        return c.end;
-    }
-    0
-}
+pub const CHUNKS: &'static str = "chunks.bin";
 
-// A sentence on what is wrong with a file: its name and the words.
-pub fn wrong<E: Print>(err: &E, folder: &[u8], name: &[u8], what: &[u8]) {
-    tell(err, b"relay: ");
-    tell(err, folder);
-    tell(err, b"/");
-    tell(err, name);
-    tell(err, b": ");
-    tell(err, what);
-    tell(err, b"\n");
-}
+// The bytes that a path may have.
+const PATH: usize = 4096;
 
-// The same of a line of it, counted from 1.
-pub fn wrong_line<E: Print>(err: &E, folder: &[u8], line: u64, what: &[u8]) {
-    tell(err, b"relay: ");
-    tell(err, folder);
-    tell(err, b"/chunks.txt: line ");
-    tell_number(err, line);
-    tell(err, b": ");
-    tell(err, what);
-    tell(err, b"\n");
-}
+// The bytes that params.txt and the list of the bundled tracks may have, those that chunks.txt may have, and those that a chunk may have.
+const SHORT: u64 = 4095;
 
-// The bytes of a file params.txt, and one more.
-const PARAMS: usize = 4096;
+const LONG: u64 = 65536;
 
-// Room for the words of an error.
-const SENTENCE: usize = 256;
+const CHUNK: u64 = 262144;
 
 // The system's number for a path with a NUL in it.
 const NO_PATH: i32 = 22;
+
+// The path of a file in a folder; no bytes where it is too long for one.
+pub fn path_of(alloc: Global, folder: &[u8], name: &[u8]) -> Result<Vec<u8>, AllocError>
+    ensures { IfOk result (λ v. v.items ≡ path_in folder.now name.now) }
+{
+    let mut path = Vec::new(alloc);
+    path.extend_from_slice(folder)?;
+    path.push(b'/')?;
+    path.extend_from_slice(name)?;
+    if path.len() > PATH {
+        path.clear();
+    }
+    Ok(path)
+}
 
 fn opened<R: Files>(rt: &R, path: &[u8]) -> io::Result<R::File> {
     if path.contains(&0) {
@@ -92,113 +58,180 @@ fn opened<R: Files>(rt: &R, path: &[u8]) -> io::Result<R::File> {
 }
 
 // The words of an error, without the system's number for it, which stands behind them.
-fn without_number(text: &[u8]) -> &[u8] {
-    let Ok(words) = str::from_utf8(text) else {
-        return text;
-    };
-    match words.split_once(" (os error ") {
-        Some((said, _)) => said.as_bytes(),
-        None => text,
+fn words_of(alloc: Global, e: io::Error) -> Result<String, AllocError> {
+    let text = format!(in alloc; "{e}")?;
+    match text.split_once(" (os error ") {
+        Some((words, _)) => String::from_str(alloc, words),
+        None => Ok(text),
     }
 }
 
-fn tell_error<E: Print>(err: &E, e: io::Error) {
-    let mut out = Cursor::new([0u8; SENTENCE]);
-    let _ = write!(out, "{e}");
-    let n = out.position() as usize;
-    let text = out.into_inner();
-    if n <= SENTENCE {
-        tell(err, without_number(&text[..n]));
-    }
-}
-
-// A file in a folder, or nothing, which has been explained.
-pub fn open_file<R: Files, E: Print>(
+// A file in a folder.
+pub fn open<R: Files + AllocGlobal>(
     rt: &R,
-    err: &E,
     folder: &[u8],
-    name: &[u8],
-) -> Option<R::File> {
-    let mut path = [0u8; WORD];
-    let n = path_of(folder, name, &mut path);
-    match opened(rt, &path[..n]) {
-        Ok(file) => Some(file),
-        Err(e) => {
-            tell(err, b"relay: ");
-            tell(err, &path[..n]);
-            tell(err, b": ");
-            tell_error(err, e);
-            tell(err, b"\n");
-            None
+    name: &'static str,
+) -> Result<R::File, Error>
+    ensures { IfErr result (λ e. BlamesAtMost name.now e) }
+{
+    let path = path_of(rt.alloc(), folder, name.as_bytes())?;
+    match opened(rt, &path) {
+        Ok(file) => Ok(file),
+        Err(e) => Err(Error::Bad(name, Wrong::Closed(words_of(rt.alloc(), e)?))),
+    }
+}
+
+// A whole file of at most so many bytes. Where a read fails the file ends.
+fn read<R: Files + AllocGlobal>(
+    rt: &R,
+    folder: &[u8],
+    name: &'static str,
+    most: u64,
+) -> Result<Vec<u8>, Error>
+    ensures ok { IfOk result (λ v. (0 < vec_len v) × (vec_len v ≤ most)) }
+    ensures err { IfErr result (λ e. BlamesAtMost name.now e) }
+{
+    let mut text = Vec::new(rt.alloc());
+    let file = open(rt, folder, name)?;
+    if let Err(e) = file.take(most.saturating_add(1)).read_to_end(&mut text) {
+        if e.kind() == io::ErrorKind::OutOfMemory {
+            return Err(Error::Failed(e));
         }
     }
+    if text.is_empty() {
+        return Err(Error::Bad(name, Wrong::Empty));
+    }
+    if text.len() as u64 > most {
+        return Err(Error::Bad(name, Wrong::TooLong));
+    }
+    Ok(text)
 }
 
-// Reads until the buffer is full, the file ends or a read fails: how many bytes were read into its front.
-pub fn read_full<F: Read>(file: &mut F, buf: &mut [u8]) -> usize
-    ensures { IsPrefixLen result buf.new }
+// The names of the bundled tracks, a line for each.
+pub fn bundled<R: Files + AllocGlobal>(rt: &R) -> Result<Vec<u8>, Error>
+    ensures ok { IfOk result (λ v. (0 < vec_len v) × (vec_len v ≤ SHORT)) }
+    ensures err { IfErr result (λ e. BlamesAtMost (codes "tracks.txt") e) }
 {
-    let mut done = 0;
-    while done < buf.len() {
-        match file.read(&mut buf[done..]) {
-            Ok(n) if n != 0 => done += n,
-            _ => return done,
+    read(rt, b"captures", "tracks.txt", SHORT)
+}
+
+// The parameters of a track.
+pub fn params<R: Files + AllocGlobal>(rt: &R, folder: &[u8]) -> Result<Asked, Error>
+    ensures ok { IfOk result (λ a. IsBelowLimit a) }
+    ensures err { IfErr result (λ e. BlamesAtMost PARAMS.now e) }
+{
+    let text = read(rt, folder, PARAMS, SHORT)?;
+    numbers::params(&text).ok_or(Error::Bad(PARAMS, Wrong::NotParams))
+}
+
+// What stands of the chunks in chunks.txt, a line for each, which begins with its length.
+pub fn lines<R: Files + AllocGlobal>(rt: &R, folder: &[u8]) -> Result<Vec<u8>, Error>
+    ensures ok { IfOk result (λ v. (0 < vec_len v) × (vec_len v ≤ LONG)) }
+    ensures err { IfErr result (λ e. BlamesAtMost LINES.now e) }
+{
+    read(rt, folder, LINES, LONG)
+}
+
+// The length of the chunk that a line of chunks.txt is for.
+fn length_of(line: &[u8], i: u64) -> Result<usize, Wrong>
+    ensures ok { IfOk result (λ n. IsLengthOf line.now n) }
+    ensures err { IfErr result (λ w. IsOfLine i w) }
+{
+    match numbers::number(numbers::first_word(line)) {
+        None => Err(Wrong::NoLength(i)),
+        Some(0) => Err(Wrong::NoBytes(i)),
+        Some(n) if n > CHUNK => Err(Wrong::LongChunk(i)),
+        Some(n) => Ok(n as usize),
+    }
+}
+
+// The next chunk of chunks.bin, for which a line of chunks.txt stands, counted from 1.
+pub fn chunk<F: Read>(alloc: Global, file: &mut F, line: &[u8], i: u64) -> Result<Vec<u8>, Error>
+    ensures length { IfOk result (λ v. IsLengthOf line.now (vec_len v)) }
+    ensures bytes { IfOk result (λ v. Consumes (F.remaining file.old) (F.remaining file.new) v.items) }
+    ensures err { IfErr result (λ e. BlamesAtMostLine LINES.now i e) }
+{
+    let length = length_of(line, i).map_err(|w| Error::Bad(LINES, w))?;
+    let mut chunk = vec![in alloc; 0u8; length]?;
+    match file.read_exact(&mut chunk) {
+        Ok(()) => Ok(chunk),
+        Err(_) => Err(Error::Bad(LINES, Wrong::CutChunk(i))),
+    }
+}
+
+// Behind the last chunk chunks.bin has to end.
+pub fn end<F: Read>(file: &mut F) -> Result<(), Error>
+    ensures { IfErr result (λ e. SaysGoesOn CHUNKS.now e) }
+{
+    match file.read(&mut [0u8; 1]) {
+        Ok(1) => Err(Error::Bad(CHUNKS, Wrong::GoesOn)),
+        _ => Ok(()),
+    }
+}
+
+// A sentence on standard error: which file is bad, and why. What can't be written there is left out: there is no other place to say it, and the verdict on standard
+// output says enough.
+pub fn tell<E: Print>(
+    alloc: Global,
+    err: &E,
+    folder: &[u8],
+    name: &'static str,
+    wrong: &Wrong,
+) -> Result<(), AllocError> {
+    let path = path_of(alloc, folder, name.as_bytes())?;
+    let _ = err.print("relay: ");
+    let _ = err.write_all(&path);
+    let _ = err.println(format_args!(": {wrong}"));
+    Ok(())
+}
+
+#[cfg(test)]
+mod tests {
+    use super::*;
+    use std::test::Fail;
+
+    #[test]
+    fn joins_paths(rt: HostRuntime) -> Result<(), Fail> {
+        let path = path_of(rt.alloc(), b"captures/a", b"params.txt")?;
+        assert_eq!(rt; path.as_slice(), b"captures/a/params.txt".as_slice());
+        let long = vec![in rt.alloc(); b'a'; PATH]?;
+        assert!(rt; path_of(rt.alloc(), &long, b"b")?.is_empty());
+        Ok(())
+    }
+
+    #[test]
+    fn cuts_chunks(rt: HostRuntime) -> Result<(), Fail> {
+        let mut file: &[u8] = b"chunk, tail";
+        let first = chunk(rt.alloc(), &mut file, b"5 sync\n", 1)?;
+        assert_eq!(rt; first.as_slice(), b"chunk".as_slice());
+        assert!(rt; matches!(end(&mut file), Err(Error::Bad(CHUNKS, Wrong::GoesOn))));
+        for (line, i) in [
+            (b"0\n".as_slice(), 2),
+            (b"262145", 3),
+            (b"9", 4),
+            (b"+1", 5),
+        ] {
+            assert!(rt; chunk(rt.alloc(), &mut file, line, i).is_err(), "at {i}");
         }
+        let mut none: &[u8] = b"";
+        end(&mut none)?;
+        Ok(())
     }
-    done
-}
 
-// A whole file into a buffer that is longer than the file may be; its length, or 0 where it is bad, which has been explained.
-pub fn read_text<R: Files, E: Print>(
-    rt: &R,
-    err: &E,
-    folder: &[u8],
-    name: &[u8],
-    buf: &mut [u8],
-) -> usize
-    ensures { IsPrefixLen result buf.new }
-{
-    let Some(mut file) = open_file(rt, err, folder, name) else {
-        return 0;
-    };
-    let n = read_full(&mut file, &mut *buf);
-    if n == 0 {
-        wrong(err, folder, name, b"nothing can be read from it");
-        return 0;
+    #[test]
+    fn reads_a_track(rt: HostRuntime) -> Result<(), Fail> {
+        fs::create_dir_all(&rt, "out/t")?;
+        fs::write(&rt, "out/t/params.txt", "1 90000 1 3000 0 0\n1 16")?;
+        fs::write(&rt, "out/t/chunks.txt", "5 sync\n")?;
+        let asked = params(&rt, b"out/t")?;
+        assert_eq!(rt; asked.timescale, 90000);
+        assert_eq!(rt; asked.iv_size, 16);
+        assert_eq!(rt; lines(&rt, b"out/t")?.as_slice(), b"5 sync\n".as_slice());
+        assert!(rt; open(&rt, b"out/t", LINES).is_ok());
+        tell(rt.alloc(), &rt.stderr(), b"out/t", LINES, &Wrong::Empty)?;
+        let missing = bundled(&rt);
+        assert!(rt; matches!(&missing, Err(Error::Bad("tracks.txt", Wrong::Closed(_)))));
+        fs::remove_dir_all(&rt, "out/t")?;
+        Ok(())
     }
-    if n == buf.len() {
-        wrong(err, folder, name, b"it is longer than such a file may be");
-        return 0;
-    }
-    n
-}
-
-// Whether the file has a further byte.
-pub fn goes_on<F: Read>(file: &mut F) -> bool {
-    let mut one = [0u8; 1];
-    read_full(file, &mut one) != 0
-}
-
-// The eight parameters of a track; false where they can't be read, which has been explained.
-pub fn params_ok<R: Files, E: Print>(
-    rt: &R,
-    err: &E,
-    folder: &[u8],
-    params: &mut [u64; 8],
-) -> bool {
-    let mut text = [0u8; PARAMS];
-    let n = read_text(rt, err, folder, b"params.txt", &mut text);
-    if n == 0 {
-        return false;
-    }
-    if !numbers::eight(&text[..n], params) {
-        wrong(
-            err,
-            folder,
-            b"params.txt",
-            b"it doesn't have eight decimal numbers and nothing else",
-        );
-        return false;
-    }
-    true
 }

@@ -1,121 +1,69 @@
-// Numbers that stand in text.
-// Letters: `b` a byte, `b` bytes, `p` a place.
-ghost use Rattle.std.specs.Prelude.{◌≤◌, ◌<◌, length};
+// Words and numbers that stand in text. It need not be UTF-8: only what is a number has to be.
+// Letters: `b` a byte.
+ghost use Rattle.std.specs.Prelude.{◌≡◌, IfSome};
+ghost use Rattle.inputs.specs.Numbers.{first_word, is_blank, IsBelowLimit, IsNumberOf};
 
-// Whether a number stands at a place, its value, and the place behind it.
-#[derive(Clone, Copy)]
-pub struct Number {
-    pub stands: bool,
-    pub value: u64,
-    pub next: usize,
-}
+use std::str;
+use track::Asked;
 
-// From here on a further digit might not fit.
-const WIDE: u64 = 1_000_000_000_000_000_000;
-
-fn is_digit(b: u8) -> bool {
-    (b'0' <= b) & (b <= b'9')
-}
-
-fn digit(b: u8) -> u64
-    ensures { result < 10 }
-{
-    (b % 16) as u64 % 10
-}
+// No number is as large as this, although some that are would fit.
+const LIMIT: u64 = 10_000_000_000_000_000_000;
 
 // Whether a byte parts words: a space, a tab or the end of a line.
-pub fn is_blank(b: u8) -> bool {
-    (b == b' ') | (b == b'\t') | (b == b'\r') | (b == b'\n')
-}
-
-// The place of the first byte from p on that is not blank.
-pub fn skip_blanks(b: &[u8], p: usize) -> usize
-    requires { p ≤ length b.now }
-    ensures { (p ≤ result) × (result ≤ length b.now) }
+fn is_blank(b: &u8) -> bool
+    ensures { result ≡ is_blank b.now }
 {
-    let mut i = p;
-    while i < b.len() {
-        if !is_blank(b[i]) {
-            return i;
-        }
-        i += 1;
-    }
-    i
+    matches!(b, b' ' | b'\t' | b'\r' | b'\n')
 }
 
-// The place of the first blank from p on, or the text's end.
-pub fn end_of_word(b: &[u8], p: usize) -> usize
-    requires { p ≤ length b.now }
-    ensures { (p ≤ result) × (result ≤ length b.now) }
+// The word that a line begins with; no bytes where it is empty or begins with a blank.
+pub fn first_word(line: &[u8]) -> &[u8]
+    ensures { result.now ≡ first_word line.now }
 {
-    let mut i = p;
-    while i < b.len() {
-        if is_blank(b[i]) {
-            return i;
-        }
-        i += 1;
-    }
-    i
+    line.split(is_blank).next().unwrap_or(b"")
 }
 
-// Whether the text ends at p, or a blank stands there.
-fn is_end(b: &[u8], p: usize) -> bool {
-    if p < b.len() {
-        return is_blank(b[p]);
-    }
-    true
-}
-
-// The decimal number at p. It has to end at a blank or with the text; a number past 19 digits is none.
-pub fn number_at(b: &[u8], p: usize) -> Number
-    requires { p ≤ length b.now }
-    ensures { (p ≤ result.next) × (result.next ≤ length b.now) }
+// The decimal number that a word is. `parse` takes a sign too.
+pub fn number(word: &[u8]) -> Option<u64>
+    ensures { IsNumberOf word.now result }
 {
-    let mut value = 0;
-    let mut i = p;
-    while i < b.len() {
-        if WIDE <= value {
-            break;
-        }
-        if !is_digit(b[i]) {
-            break;
-        }
-        value = value * 10 + digit(b[i]);
-        i += 1;
+    if !word.iter().all(|b| b.is_ascii_digit()) {
+        return None;
     }
-    let stands = (p < i) & is_end(b, i);
-    Number {
-        stands,
-        value,
-        next: i,
-    }
+    let n = str::from_utf8(word).ok()?.parse::<u64>().ok()?;
+    if n < LIMIT { Some(n) } else { None }
 }
 
-// The place behind the line that p stands in: behind its end, or the text's end.
-pub fn next_line(b: &[u8], p: usize) -> usize
-    requires { p < length b.now }
-    ensures { (p < result) × (result ≤ length b.now) }
+// The parameters of a track: eight numbers and nothing else.
+pub fn params(text: &[u8]) -> Option<Asked>
+    ensures { IfSome result (λ a. IsBelowLimit a) }
 {
-    let mut i = p;
-    while i < b.len() {
-        i += 1;
-        if b[i - 1] == b'\n' {
-            return i;
-        }
+    let mut words = text.split(is_blank).filter(|w| !w.is_empty());
+    let mut numbers = [0; 8];
+    for n in &mut numbers {
+        *n = number(words.next()?)?;
     }
-    i
-}
-
-// The eight numbers of a text that has just these, into the words; false if it has others.
-pub fn eight(b: &[u8], words: &mut [u64; 8]) -> bool {
-    let mut p = 0;
-    for k in 0..8 {
-        let n = number_at(b, skip_blanks(b, p));
-        if !n.stands {
-            return false;
-        }
-        words[k] = n.value;
-        p = n.next;
+    if words.next().is_some() {
+        return None;
     }
-    skip_blanks(b, p) == b.len()
+    let [
+        track,
+        timescale,
+        description,
+        duration,
+        size,
+        flags,
+        protection,
+        iv_size,
+    ] = numbers;
+    Some(Asked {
+        track,
+        timescale,
+        description,
+        duration,
+        size,
+        flags,
+        protection,
+        iv_size,
+    })
 }

@@ -2,8 +2,7 @@
 use std::io;
 
 pub fn usage<P: Print>(out: &P) -> io::Result<()> {
-    printing::say(
-        out,
+    out.write_all(
         b"usage: relay [--unproved] [--every N | --sync] [--join N] [FOLDER ..]
 
 Encodes the chunks of each track, receives the objects, and encodes the rebuilt chunks again.

@@ -2,7 +2,9 @@
 // over, so its length is: the payload is the tail of the object or the chunk, and none on a refusal.
 #![tactic(auto)]
 
-ghost use Rattle.std.specs.Prelude.{◌≡◌};
+ghost use Rattle.std.specs.Prelude.{◌≡◌, ℕ, List};
+ghost use Rattle.refusal.specs.Numbers.{number_in};
+ghost use Rattle.answers.specs.Answered.{given};
 ghost use Rattle.wire.specs.Form.{rows};
 ghost use Rattle.wire.specs.declared.form.Form.TheVariants.{Rfc9000};
 ghost use Rattle.slots.specs.declared.lawful.Side.TheVariants.{Encoder, Receiver};
@@ -15,7 +17,28 @@ ghost use Rattle.encoder.specs.Encode.{wished, encoding};
 ghost use Rattle.receiver.specs.Receive.{receiving};
 ghost use Rattle.locmaf.specs.Told.{told, tell};
 
+use answers::answer::Handed;
+use refusal::{Refusal, number_in};
 use slots::lawful::Side;
+
+// The number and the front's length as C gets them; and the payload's length.
+fn told_to(r: Result<Handed<'_>, Refusal>, number: &mut u64, front: &mut u64) -> u64
+    ensures { (output table : List ℕ)
+        → told number.new front.new result output table ≡ tell (out (given r.entry output) table) }
+{
+    match r {
+        Ok(h) => {
+            *number = 0;
+            *front = h.front;
+            h.payload.len() as u64
+        }
+        Err(why) => {
+            *number = why.number();
+            *front = 0;
+            0
+        }
+    }
+}
 
 // ---- the encoder
 
@@ -43,7 +66,7 @@ pub fn locmaf_encoder_open(
         ≡ on_table itself (opening Encoder (asked track timescale description duration size flags protection iv_size))
         table.old slot }
 {
-    slots::calls::open(
+    number_in(&slots::calls::open(
         Side::Encoder,
         table,
         slot,
@@ -55,21 +78,21 @@ pub fn locmaf_encoder_open(
         flags,
         protection,
         iv_size,
-    )
+    ))
 }
 
 // Closes a slot: its share becomes 0.
 pub fn locmaf_encoder_close(table: &mut [u64], slot: u64) -> u64
     ensures { out result table.new ≡ on_table itself (closing Encoder) table.old slot }
 {
-    slots::calls::close(Side::Encoder, table, slot)
+    number_in(&slots::calls::close(Side::Encoder, table, slot))
 }
 
 // Starts a group in a slot: the reference is dropped.
 pub fn locmaf_encoder_start_group(table: &mut [u64], slot: u64) -> u64
     ensures { out result table.new ≡ on_table itself (grouping Encoder) table.old slot }
 {
-    slots::calls::start_group(Side::Encoder, table, slot)
+    number_in(&slots::calls::start_group(Side::Encoder, table, slot))
 }
 
 // One chunk into the front of an object: the length of its payload. The wish 0 is for a full object, any other for a delta.
@@ -87,8 +110,8 @@ pub fn locmaf_encode(
         (encoding (rows Rfc9000) (wished wish) chunk.now output.old)
         table.old slot) }
 {
-    let payload = encoder::encode::encode(table, slot, wish, chunk, output, number, front);
-    payload.len() as u64
+    let r = encoder::encode::encode(table, slot, wish, chunk, output);
+    told_to(r, number, front)
 }
 
 // ---- the receiver
@@ -117,7 +140,7 @@ pub fn locmaf_receiver_open(
         ≡ on_table itself (opening Receiver (asked track timescale description duration size flags protection iv_size))
         table.old slot }
 {
-    slots::calls::open(
+    number_in(&slots::calls::open(
         Side::Receiver,
         table,
         slot,
@@ -129,21 +152,21 @@ pub fn locmaf_receiver_open(
         flags,
         protection,
         iv_size,
-    )
+    ))
 }
 
 // Closes a slot: its share becomes 0.
 pub fn locmaf_receiver_close(table: &mut [u64], slot: u64) -> u64
     ensures { out result table.new ≡ on_table itself (closing Receiver) table.old slot }
 {
-    slots::calls::close(Side::Receiver, table, slot)
+    number_in(&slots::calls::close(Side::Receiver, table, slot))
 }
 
 // Starts a group in a slot: the reference is dropped.
 pub fn locmaf_receiver_start_group(table: &mut [u64], slot: u64) -> u64
     ensures { out result table.new ≡ on_table itself (grouping Receiver) table.old slot }
 {
-    slots::calls::start_group(Side::Receiver, table, slot)
+    number_in(&slots::calls::start_group(Side::Receiver, table, slot))
 }
 
 // One object into the front of a chunk: the length of its payload.
@@ -160,6 +183,6 @@ pub fn locmaf_receive(
         (receiving (rows Rfc9000) object.now output.old)
         table.old slot) }
 {
-    let payload = receiver::receive::receive(table, slot, object, output, number, front);
-    payload.len() as u64
+    let r = receiver::receive::receive(table, slot, object, output);
+    told_to(r, number, front)
 }

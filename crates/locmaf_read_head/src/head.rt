@@ -5,15 +5,10 @@ ghost use Rattle.wire.specs.Form.{rows};
 ghost use Rattle.locmaf_read_head.specs.Head.{block_f, head_of};
 
 use constants::{ids, maxima};
+use refusal::Refusal;
 use wire::form::Form;
 
-// An object's head: whether it is a delta, and where its block starts and ends; or why it can't be read.
-#[derive(Clone, Copy)]
-pub enum Head {
-    Block(Place),
-    Refused(u64),
-}
-
+// An object's head: whether it is a delta, and where its block starts and ends.
 #[derive(Clone, Copy)]
 pub struct Place {
     pub delta: bool,
@@ -22,19 +17,17 @@ pub struct Place {
 }
 
 // From the block length on, which starts at the place p.
-fn block_at(form: Form, o: &[u8], p: usize, delta: bool) -> Head
+fn block_at(form: Form, o: &[u8], p: usize, delta: bool) -> Result<Place, Refusal>
     ensures { result ≡ block_f (rows form) o.now p delta }
 {
-    let Some((n, at)) = wire::varint::read(form, o, p, o.len()) else {
-        return Head::Refused(12); // the block length is cut
-    };
+    let (n, at) = wire::varint::read(form, o, p, o.len()).ok_or(Refusal::Unreadable)?;
     if ((o.len() - at) as u64) < n {
-        return Head::Refused(12); // the block ends past the object
+        return Err(Refusal::Unreadable); // the block ends past the object
     }
     if maxima::BLOCK < n {
-        return Head::Refused(15);
+        return Err(Refusal::OutOfRange);
     }
-    Head::Block(Place {
+    Ok(Place {
         delta,
         at,
         end: at + n as usize,
@@ -42,17 +35,15 @@ fn block_at(form: Form, o: &[u8], p: usize, delta: bool) -> Head
 }
 
 // The head of any bytes.
-pub fn head_of(form: Form, o: &[u8]) -> Head
+pub fn head_of(form: Form, o: &[u8]) -> Result<Place, Refusal>
     ensures { result ≡ head_of (rows form) o.now }
 {
-    let Some((id, p)) = wire::varint::read(form, o, 0, o.len()) else {
-        return Head::Refused(12); // the header id is cut
-    };
+    let (id, p) = wire::varint::read(form, o, 0, o.len()).ok_or(Refusal::Unreadable)?;
     if id == ids::FULL {
         return block_at(form, o, p, false);
     }
     if id == ids::DELTA {
         return block_at(form, o, p, true);
     }
-    Head::Refused(10)
+    Err(Refusal::OtherHeader)
 }

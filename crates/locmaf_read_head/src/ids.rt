@@ -1,11 +1,13 @@
 // Which ids may stand in an object, and the number of a block that was indexed.
 // Letters: `i` what the index came to.
 ghost use Rattle.std.specs.Prelude.{◌≡◌, length};
+ghost use Rattle.refusal.specs.Numbers.{number_in};
 ghost use Rattle.locmaf_read_index.specs.Places.{index_len};
 ghost use Rattle.locmaf_read_head.specs.Ids.{ids_ok, stands_in, index_number};
 
 use locmaf_read_index::index::Indexed;
 use locmaf_read_index::places;
+use refusal::Refusal;
 
 // Whether the ids that stand, by the index of the block, may stand together; `kept` says that the current full object had a prft.
 pub fn ids_ok(delta: bool, kept: bool, index: &[u64]) -> bool
@@ -26,13 +28,13 @@ pub fn ids_ok(delta: bool, kept: bool, index: &[u64]) -> bool
     (ntp == media) & ((ntp | !others) & here)
 }
 
-// The number of a block that was indexed, as far as the index tells it: 12 where something is cut, 13 where an id is unknown or stands twice, else 0.
-pub fn index_number(i: Indexed) -> u64
-    ensures { result ≡ index_number i }
+// Why a block that was indexed is refused, as far as the index tells it: 12 where something is cut, 13 where an id is unknown or stands twice.
+pub fn readable(i: Indexed) -> Result<(), Refusal>
+    ensures { number_in result ≡ index_number i }
 {
     match i {
-        Indexed::Cut => 12,
-        Indexed::Stray => 13,
-        Indexed::Clean => 0,
+        Indexed::Cut => Err(Refusal::Unreadable),
+        Indexed::Stray => Err(Refusal::WrongIds),
+        Indexed::Clean => Ok(()),
     }
 }

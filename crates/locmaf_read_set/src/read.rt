@@ -4,6 +4,7 @@ ghost use Rattle.std.specs.Prelude.{◌≡◌, true, ◌≤◌, ◌<◌, length,
 ghost use Rattle.std.proofs.Math.Seq.{slice};
 ghost use Rattle.constants.specs.Maxima.{samples_most};
 ghost use Rattle.laws.specs.Ladder.{ladder};
+ghost use Rattle.refusal.specs.Numbers.{number_in};
 ghost use Rattle.wire.specs.Form.{rows};
 ghost use Rattle.locmaf_read_index.specs.Places.{index_len};
 ghost use Rattle.field_table.specs.Lines.{lines, spare, line_count, set_len};
@@ -25,6 +26,7 @@ use locmaf_read_field::cells::Cell;
 use locmaf_read_index::places;
 use locmaf_read_said::against::Against;
 use locmaf_read_said::{against, deletions, said};
+use refusal::Refusal;
 use track::Track;
 use wire::form::Form;
 use wire::zigzag::Coding;
@@ -95,15 +97,15 @@ fn none_sent(index: &[u64]) -> bool
     all == 0
 }
 
-// The number of a set of n samples in which no field stands: 14 or 0.
-fn bare_number(t: Track, n: u64, index: &[u64]) -> u64
+// The rules of a set of n samples in which no field stands: 14.
+fn bare_rules(t: Track, n: u64, index: &[u64]) -> Result<(), Refusal>
     requires { length index.now ≡ index_len }
-    ensures { result ≡ ladder (bare_rungs t n index.now) (λ j. j) 0 }
+    ensures { number_in result ≡ ladder (bare_rungs t n index.now) (λ j. j) 0 }
 {
     if brands_fit(index) & rules::rules_ok(t, n, &[0u64; lines::LINES]) {
-        return 0;
+        return Ok(());
     }
-    14
+    Err(Refusal::UnlawfulSet)
 }
 
 // The field of the line with the number i, which stands: it is sent or carried on. Its length goes by m.
@@ -173,7 +175,7 @@ fn take_lines(
     }
 }
 
-// The moof fields into the words x, which are 0: the number 0, or 14 or 15. BMDT is left for later.
+// The moof fields into the words x, which are 0, or 14 or 15. BMDT is left for later.
 pub fn read_set(
     form: Form,
     t: Track,
@@ -182,22 +184,20 @@ pub fn read_set(
     index: &[u64],
     r: &[u64],
     x: &mut [u64],
-) -> u64
+) -> Result<(), Refusal>
     requires telling { Telling (rows form) o.now index.now }
     requires r_len { (length r.now ≡ set_len) × (t.iv_size ≤ 16)
         × (held ≡ true → lawful t r.now ≡ true) × (x.old ≡ replicate set_len 0) }
-    ensures { SetReadAs (rows form) t held r.now o.now index.now result
+    ensures { SetReadAs (rows form) t held r.now o.now index.now (number_in result)
         x.new }
 {
     let mut gone = [0u64; ids::IDS];
     if !deletions::mark(form, o, index, r, &mut gone) {
-        return 14;
+        return Err(Refusal::UnlawfulSet);
     }
     let a = against::base_of(t, held, r);
     let coding = a.coding;
-    let Some(n) = count_of(coding, index, a.was.count as u64) else {
-        return 15;
-    };
+    let n = count_of(coding, index, a.was.count as u64).ok_or(Refusal::OutOfRange)?;
     x[lines::COUNT] = n;
     take_fields(form, a, o, index, &gone, t, r, n, x)
 }
@@ -213,16 +213,16 @@ fn take_fields(
     r: &[u64],
     n: u64,
     x: &mut [u64],
-) -> u64
+) -> Result<(), Refusal>
     requires readable { Readable (rows form) o.now index.now gone.now t a r.now }
     requires n_le_samples_most { (n ≤ samples_most) × (count_reached t a.held r.now (says_in (rows form) o.now index.now) ≡ Some n)
         × (x.old ≡ set_words 0 n no_fields) }
-    ensures { FieldsReadAs (rows form) t a.held r.now o.now index.now result
+    ensures { FieldsReadAs (rows form) t a.held r.now o.now index.now (number_in result)
         x.new }
 {
     if n <= 1 {
         if none_sent(index) & (!a.held | none_stands(r)) {
-            return bare_number(t, n, index);
+            return bare_rules(t, n, index);
         }
     }
     take_standing(form, a, o, index, gone, t, r, n, x)
@@ -240,11 +240,11 @@ fn take_standing(
     r: &[u64],
     n: u64,
     x: &mut [u64],
-) -> u64
+) -> Result<(), Refusal>
     requires readable { Readable (rows form) o.now index.now gone.now t a r.now }
     requires n_le_samples_most { (n ≤ samples_most) × (count_reached t a.held r.now (says_in (rows form) o.now index.now) ≡ Some n)
         × (x.old ≡ set_words 0 n no_fields) }
-    ensures { FieldsReadAs (rows form) t a.held r.now o.now index.now result
+    ensures { FieldsReadAs (rows form) t a.held r.now o.now index.now (number_in result)
         x.new }
 {
     let count = n as usize;
@@ -274,17 +274,14 @@ fn finish_fields(
     b: Cell,
     c: Tally,
     x: &mut [u64],
-) -> u64
+) -> Result<(), Refusal>
     requires readable { Readable (rows form) o.now index.now gone.now t a r.now }
     requires marks_value { marks.now ≡ marks_in index.now gone.now a.held r.now }
     requires front_taken { FrontTaken t a.held r.now (says_in (rows form) o.now index.now) m e b c x.old }
-    ensures { FieldsReadAs (rows form) t a.held r.now o.now index.now result
+    ensures { FieldsReadAs (rows form) t a.held r.now o.now index.now (number_in result)
         x.new }
 {
-    let number = first_number(index, e, b, c);
-    if number != 0 {
-        return number;
-    }
+    first_rules(index, e, b, c)?;
     let k = Measure {
         count: m.count,
         ivs: m.ivs,
@@ -306,18 +303,18 @@ fn finish_fields(
     )
 }
 
-// The number that the first two rules give, or 0: the fields before id 11 came to e, id 11 to b, and its counts to c.
-fn first_number(index: &[u64], e: Cell, b: Cell, c: Tally) -> u64
+// The first two rules, 14 and 15: the fields before id 11 came to e, id 11 to b, and its counts to c.
+fn first_rules(index: &[u64], e: Cell, b: Cell, c: Tally) -> Result<(), Refusal>
     requires { length index.now ≡ index_len }
-    ensures { result ≡ ladder (first_rungs index.now e b c) (λ j. j) 0 }
+    ensures { number_in result ≡ ladder (first_rungs index.now e b c) (λ j. j) 0 }
 {
     if !(e.first & (b.first & brands_fit(index))) {
-        return 14;
+        return Err(Refusal::UnlawfulSet);
     }
     if !(b.within & (c.ok & (c.sum <= maxima::SUBSAMPLES))) {
-        return 15;
+        return Err(Refusal::OutOfRange);
     }
-    0
+    Ok(())
 }
 
 // The fields behind id 11, and the rules of the set: `second` and `within` say what the fields before came to.
@@ -334,13 +331,13 @@ fn finish_set(
     second: bool,
     within: bool,
     x: &mut [u64],
-) -> u64
+) -> Result<(), Refusal>
     requires readable { Readable (rows form) o.now index.now gone.now t a r.now }
     requires measured { (Measured m) × (length x.old ≡ set_len) }
     requires marks_value { marks.now ≡ marks_in index.now gone.now a.held r.now }
     ensures { LastReadAs t a.held r.now
         (says_in (rows form) o.now index.now) m
-        second within x.old result x.new }
+        second within x.old (number_in result) x.new }
 {
     let d = take_lines(
         form,
@@ -358,10 +355,10 @@ fn finish_set(
     );
     let rules = rules::rules_ok(t, m.count as u64, marks);
     if !(second & (d.second & rules)) {
-        return 14;
+        return Err(Refusal::UnlawfulSet);
     }
     if !(within & (d.within & lawful::same_iv_size(t, x))) {
-        return 15;
+        return Err(Refusal::OutOfRange);
     }
-    0
+    Ok(())
 }

@@ -61,7 +61,9 @@ fn same_around(a: &[u8], p: Part, b: &[u8], q: Part) -> bool
 {
     let to = p.at + p.len;
     let second_to = q.at + q.len;
-    check::same(&a[..p.at], &b[..q.at]) & check::same(&a[to..], &b[second_to..])
+    let before = a[..p.at] == b[..q.at];
+    let behind = a[to..] == b[second_to..];
+    before & behind
 }
 
 // Two chunks with fronts of that length. What stands before the number and what stands behind it is compared, which is to compare both with 0 in its place.

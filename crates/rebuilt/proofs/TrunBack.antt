@@ -23,7 +23,7 @@ use Rattle.cmaf_write_moof.specs.Moof.{offset_field, trun_row, trun_rows, trun_f
 use Rattle.cmaf_write_moof.specs.Lengths.{row_length}
 use Rattle.cmaf_write_moof.proofs.MoofLaws.{row-length}
 use Rattle.cmaf_read_shape.specs.Words.{word_of, bit_of}
-use Rattle.cmaf_read_trun.specs.Rows.{first, durations, sizes, sample_flags, offsets, columns_in, run_head, run_width, run_of, first_flags, has_column, cell}
+use Rattle.cmaf_read_trun.specs.Rows.{durations, sizes, sample_flags, offsets, columns_in, run_head, run_width, run_of, first_flags, has_column, cell}
 use Rattle.cmaf_read_shape.specs.Left.{Left}
 use Rattle.cmaf_read_shape.proofs.LeftLaws.{left-to, left-on, left-number}
 use Rattle.rebuilt.proofs.Bits.{flag_is, flag-four, TrunBits, trun-bits}

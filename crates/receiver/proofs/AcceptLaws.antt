@@ -4,6 +4,7 @@ use native.Mathlib.Omega.{arith}
 use mathlib.Core.Path.{◌≡◌, refl, sym, ◌∙◌, ap, subst}
 use mathlib.Core.Bool.{true, false}
 use mathlib.Core.List.{List, ◌++◌}
+use Rattle.std.specs.Prelude.{Ok}
 use borrow.Author.Tests.{leb-true}
 use lib.ListN.{length, get_or, take, drop}
 use lib.Seq.{slice}
@@ -87,7 +88,7 @@ module _ (F : List Row) (o s : List ℕ) (t : Track) (p : Place) (a : Judgeable 
 
       pub done-is : (output : List ℕ) (q n : ℕ) (after kept : List ℕ) → q ≡ sequence F o s → Wrote output 0 (fronted q) after n
           → kept ≡ kept_words p.delta q j.prft x (length o - p.end) s
-          → AnsweredAs (done F o output s) o (record { number = 0; front = n; payload = record { at = p.end; len = length o - p.end } }) after kept
+          → AnsweredAs (done F o output s) o (Ok (record { front = n; payload = record { at = p.end; len = length o - p.end } })) after kept
       unfolding accepted
       done-is output q n after kept u f g =
           let w : fronted q ≡ chunk F o s = ap fronted u ∙ front-is in

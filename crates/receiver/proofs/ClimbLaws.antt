@@ -6,8 +6,12 @@ use mathlib.Core.Bool.{Bool, true}
 use mathlib.Core.List.{List, ◌++◌, append_assoc}
 use borrow.Author.Rules.{part_to_end}
 use lib.ListN.{length}
+use Rattle.std.specs.Prelude.{Result, Err}
 use Rattle.laws.specs.Ladder.{Hold}
 use Rattle.laws.proofs.LadderLaws.{number_of, Numbered, all_hold, climbed-on, stopped-on}
+use Rattle.refusal.specs.declared.Refusal.{Refusal}
+use Rattle.refusal.specs.Numbers.{number_of as refusal_number}
+use Rattle.refusal.proofs.NumberLaws.{number-some}
 use Rattle.wire.specs.declared.form.Row.{Row}
 use Rattle.track.specs.declared.Track.{Track}
 use Rattle.field_table.specs.Lines.{set_len}
@@ -22,7 +26,7 @@ use Rattle.reference.proofs.OpenLaws.{reference-long}
 use Rattle.receiver.specs.declared.judge.Judged.{Judged}
 use Rattle.receiver.specs.Object.{is_delta, saying}
 use Rattle.receiver.specs.Receive.{track, reference, split_rungs, value_rungs, judge_rungs}
-use Rattle.receiver.specs.Judge.{none_judged, Judgeable, Split, SplitAs, read_rungs, BlockReadAs, JudgedAs}
+use Rattle.receiver.specs.Judge.{Judgeable, Split, SplitAs, read_rungs, BlockReadAs, JudgedAs}
 use Rattle.receiver.proofs.JudgeLaws.{iv-small, delta-good, judged-none}
 
 -- no step answers 0 where it refuses
@@ -111,13 +115,13 @@ values-last F o s = ap number_of (append_assoc (split_rungs F o s) (set_rungs (t
 
 module _ {F : List Row} {o s : List ℕ} {t : Track} {p : Place} {n : ℕ} {index ev x : List ℕ} (b : BlockReadAs F o s t p n index ev x) where
   -- a rule of the block or of its set is broken
-  pub refuses-read : (a : Judged) (ws w : List ℕ) → a ≡ none_judged n → (n ≡ 0 → ⊥) → JudgedAs (judge_rungs F o s) F o s a ws w
-  refuses-read a ws w e m =
-      judged-none F o s (judge_rungs F o s) n a ws w (ap (λ (u : Judged). u.number) e) m
-      (b.answered ∙ stopped-on (read_rungs F o s) (value_rungs F o s) (λ i. i) 0 (λ y. m (b.answered ∙ y)) ∙ values-last F o s)
+  pub refuses-read : (r : Refusal) (ws w : List ℕ) → refusal_number r ≡ n → JudgedAs (judge_rungs F o s) F o s (Err r) ws w
+  refuses-read r ws w e =
+      judged-none F o s (judge_rungs F o s) r ws w
+      (e ∙ b.answered ∙ stopped-on (read_rungs F o s) (value_rungs F o s) (λ i. i) 0 (λ y. number-some r (e ∙ b.answered ∙ y)) ∙ values-last F o s)
 
   -- none is, and the rest is the values'
-  pub judged-on : n ≡ 0 → (a : Judged) (ws w : List ℕ) → JudgedAs (value_rungs F o s) F o s a ws w → JudgedAs (judge_rungs F o s) F o s a ws w
+  pub judged-on : n ≡ 0 → (a : Result Judged Refusal) (ws w : List ℕ) → JudgedAs (value_rungs F o s) F o s a ws w → JudgedAs (judge_rungs F o s) F o s a ws w
   judged-on y a ws w h =
       let k : Hold (read_rungs F o s) = all_hold (read_rungs F o s) (read-numbered F o s) (sym b.answered ∙ y) in
       record {

@@ -1,10 +1,12 @@
 -- The values of an object and its sums, once its block is split and its set is read. Assumes nothing.
 use Prim.Native.Nat.{ℕ, ◌-◌, ◌%◌, ◌≤◌, ◌<◌}
 use native.Mathlib.Omega.{arith}
-use mathlib.Core.Path.{◌≡◌, refl, sym, ◌∙◌, ap}
+use mathlib.Core.Path.{◌≡◌, refl, sym, ◌∙◌, ap, subst}
 use mathlib.Core.Bool.{Bool, true, false, ◌&&◌}
 use mathlib.Core.List.{List}
-use Rattle.std.specs.Prelude.{Option, Some, None}
+use Rattle.std.specs.Prelude.{Option, Some, None, Ok, Err}
+use Rattle.refusal.specs.declared.Refusal.{Refusal}
+use Rattle.refusal.specs.Numbers.{number_of}
 use borrow.Author.Tests.{leb-true}
 use lib.Dec.{leb}
 use lib.ListN.{length, get_or, replicate, length-replicate, length-drop, set as store}
@@ -50,7 +52,7 @@ use Rattle.byte_parts.specs.declared.Part.{Part}
 use Rattle.receiver.specs.declared.judge.Judged.{Judged}
 use Rattle.receiver.specs.Object.{is_delta, block_end, saying, payload}
 use Rattle.receiver.specs.Receive.{track, reference, bmdt, prft, events, brands, told_set, new_set, values_ok, sums_ok, ivs_fit, value_rungs}
-use Rattle.receiver.specs.Judge.{part_in, sums_in, Judgeable, Split, JudgedAs}
+use Rattle.receiver.specs.Judge.{part_in, sums_in, Judgeable, Split, Ready, JudgedAs}
 use Rattle.locmaf_read_times.proofs.PrftFacts.{prft-says, prft-headed}
 use Rattle.reference.proofs.OpenLaws.{reference-long, expected-there, last-there, lawful-there}
 use Rattle.receiver.proofs.ShareFacts.{iv-most, iv-right, delta-lawful, kept_small}
@@ -125,9 +127,8 @@ module _ (F : List Row) (o s : List ℕ) where
   nothing e h i = passed _ _ _ _ _ e (passed _ _ _ _ _ h (passed _ _ _ _ _ i (top _ _)))
 
   -- of a refusal its number is asked alone
-  pub judged-none : (rungs : List Rung) (k : ℕ) (a : Judged) (ws x : List ℕ) → a.number ≡ k → (k ≡ 0 → ⊥) → k ≡ ladder rungs (λ i. i) 0
-      → JudgedAs rungs F o s a ws x
-  judged-none rungs k a ws x e n h = record { answered = e ∙ h; ready = λ z. absurd (n (sym e ∙ z)) }
+  pub judged-none : (rungs : List Rung) (r : Refusal) (ws x : List ℕ) → number_of r ≡ ladder rungs (λ i. i) 0 → JudgedAs rungs F o s (Err r) ws x
+  judged-none rungs r ws x h = record { answered = h; ready = λ j e. let z : ◌≡◌ {A = ℕ} 0 1 = cc in absurd (omega (arith, z)) }
 
 -- ---- what is lent
 
@@ -346,15 +347,17 @@ module _ {F : List Row} {o s : List ℕ} {t : Track} {p : Place} {index ev : Lis
               brands = branded;
             }
 
-        -- the number is 0, and all is ready
+        -- no rule is broken, and all is ready
         pub accepts : values_ok F o s ≡ true → ivs_fit F o s ≡ true → {z : List ℕ} → z ≡ new_set F o s
-            → JudgedAs (value_rungs F o s) F o s (record { number = 0; prft = r.prft; events = get_or index (many_at 25) 0; brands = q }) ws z
-        accepts fit ivs e =
+            → JudgedAs (value_rungs F o s) F o s (Ok (record { prft = r.prft; events = get_or index (many_at 25) 0; brands = q })) ws z
+        accepts fit ivs {z} e =
             record {
               answered = nothing F o s fit sums ivs;
               ready =
-                  λ _.
-                  record {
+                  λ j h.
+                  let same : record { prft = r.prft; events = get_or index (many_at 25) 0; brands = q } ≡ j = cc in
+                  subst (λ (a : Judged). Ready F o s a ws z) same
+                  (record {
                     words = e;
                     time = ap (λ (u : Told). u.prft) prft-is;
                     list = boxes-are ok read;
@@ -362,5 +365,5 @@ module _ {F : List Row} {o s : List ℕ} {t : Track} {p : Place} {index ev : Lis
                     named = brands-are.named;
                     good = rw e new.good;
                     writable = rw e writable;
-                  };
+                  });
             }

@@ -4,10 +4,15 @@ use native.Mathlib.Omega.{arith}
 use mathlib.Core.Path.{◌≡◌, refl, sym, ◌∙◌, ap}
 use mathlib.Core.Bool.{Bool, true, false, not, ◌&&◌, ◌||◌}
 use mathlib.Core.List.{List, ◌∷◌, ◌++◌}
+use Rattle.std.specs.Prelude.{Ok, Err}
 use lib.Dec.{eqb}
 use lib.ListN.{length, get_or}
 use Rattle.laws.specs.Ladder.{◌else◌, ladder}
 use Rattle.laws.proofs.LadderLaws.{broken, passed, Numbered, all_hold, climbed-on, stopped-on}
+use Rattle.refusal.specs.declared.Refusal.{Refusal}
+use Rattle.refusal.specs.declared.Refusal.TheVariants.{NotOpen, NoReference, UnlawfulTable}
+use Rattle.refusal.specs.Numbers.{number_of}
+use Rattle.refusal.proofs.NumberLaws.{number-some}
 use Rattle.wire.specs.declared.form.Row.{Row}
 use Rattle.track.specs.declared.Track.{Track}
 use Rattle.track.specs.Track.{lawful as lawful_track}
@@ -18,7 +23,6 @@ use Rattle.slots.specs.Table.{Out}
 use Rattle.slots.proofs.CallLaws.{shut, ajar}
 use Rattle.locmaf_read_set.specs.Read.{set_rungs, field_rungs}
 use Rattle.locmaf_read_head.specs.declared.head.Place.{Place}
-use Rattle.locmaf_read_head.specs.declared.head.Head.TheVariants.{Block, Refused}
 use Rattle.locmaf_read_head.specs.Head.{head_of}
 use Rattle.answers.specs.Took.{Took}
 use Rattle.reference.proofs.OpenLaws.{opened-facts}
@@ -42,24 +46,24 @@ some-held false e h = refl
 module _ (F : List Row) (o s : List ℕ) where
   -- ---- before its block is read
 
-  pub opened-unlawful : lawful Receiver s ≡ false → OpenedAs F o s (Refused 18)
+  pub opened-unlawful : lawful Receiver s ≡ false → OpenedAs F o s (Err UnlawfulTable)
   unfolding receiving receive_rungs
   opened-unlawful h output = broken _ 18 _ _ _ h
 
   module _ (h : lawful Receiver s ≡ true) where
-    pub opened-closed : get_or s track_at 0 ≡ 0 → OpenedAs F o s (Refused 2)
+    pub opened-closed : get_or s track_at 0 ≡ 0 → OpenedAs F o s (Err NotOpen)
     unfolding receiving receive_rungs
     opened-closed e output = passed _ 18 _ _ _ h (broken _ 2 _ _ _ (shut s e))
 
     module _ (e : get_or s track_at 0 ≡ 0 → ⊥) where
-      pub opened-headless : (k : ℕ) → head_of F o ≡ Refused k → OpenedAs F o s (Refused k)
+      pub opened-headless : (r : Refusal) → head_of F o ≡ Err r → OpenedAs F o s (Err r)
       unfolding receiving receive_rungs
-      opened-headless k q output =
-          let z = head-stopped F o k q in
+      opened-headless r q output =
+          let z = head-stopped F o r q in
           passed _ 18 _ _ _ h (passed _ 2 _ _ _ (ajar s e)
-          (ap (refusing output s) (sym z.number) ∙ stopped-on (head_rungs F o) _ (refusing output s) _ (λ u. z.some (sym z.number ∙ u))))
+          (ap (refusing output s) (sym z) ∙ stopped-on (head_rungs F o) _ (refusing output s) _ (λ u. number-some r (sym z ∙ u))))
 
-      module _ (p : Place) (q : head_of F o ≡ Block p) where
+      module _ (p : Place) (q : head_of F o ≡ Ok p) where
         kind-is : p.delta ≡ is_delta F o
         kind-is = ap (λ (z : Place). z.delta) (head_opened F o p q).place
 
@@ -80,10 +84,10 @@ module _ (F : List Row) (o s : List ℕ) where
             passed _ 18 _ _ _ h (passed _ 2 _ _ _ (ajar s e)
             (d ∙ climbed-on (head_rungs F o) _ (refusing output s) (done F o output s) (head_opened F o p q).hold))
 
-        pub opened-unheld : p.delta && eqb (get_or s held_at 0) 0 ≡ true → OpenedAs F o s (Refused 11)
+        pub opened-unheld : p.delta && eqb (get_or s held_at 0) 0 ≡ true → OpenedAs F o s (Err NoReference)
         opened-unheld k output = climbs-head output (broken _ 11 _ _ _ (held-false k))
 
-        pub opened-held : p.delta && eqb (get_or s held_at 0) 0 ≡ false → length s ≡ share_len → OpenedAs F o s (Block p)
+        pub opened-held : p.delta && eqb (get_or s held_at 0) 0 ≡ false → length s ≡ share_len → OpenedAs F o s (Ok p)
         opened-held k l =
             let z = head_opened F o p q in
             record {
@@ -119,13 +123,13 @@ module _ (F : List Row) (o s : List ℕ) where
       let r21 : ◌≡◌ {A = ℕ} 21 0 → ⊥ = λ z. omega arith in
       (r12, (r13, (r14, (r15, (r14, (r15, (r14, (r15, (r15, (r16, (r21, tt)))))))))))
 
-  module _ (output : List ℕ) (j : Judged) (ws x : List ℕ) (h : JudgedAs (judge_rungs F o s) F o s j ws x) where
-    pub judged-stops : (j.number ≡ 0 → ⊥) → refusing output s j.number ≡ taken F o output s
-    judged-stops n =
+  module _ (output : List ℕ) where
+    pub judged-stops : (r : Refusal) (ws x : List ℕ) → JudgedAs (judge_rungs F o s) F o s (Err r) ws x → refusing output s (number_of r) ≡ taken F o output s
+    judged-stops r ws x h =
         ap (refusing output s) h.answered
-        ∙ stopped-on (judge_rungs F o s) (room_rungs F o output s) (refusing output s) (done F o output s) (λ z. n (h.answered ∙ z))
+        ∙ stopped-on (judge_rungs F o s) (room_rungs F o output s) (refusing output s) (done F o output s) (λ z. number-some r (h.answered ∙ z))
 
-    pub judged-climbs : j.number ≡ 0 → written F o output s ≡ taken F o output s
-    judged-climbs e =
+    pub judged-climbs : (j : Judged) (ws x : List ℕ) → JudgedAs (judge_rungs F o s) F o s (Ok j) ws x → written F o output s ≡ taken F o output s
+    judged-climbs j ws x h =
         climbed-on (judge_rungs F o s) (room_rungs F o output s) (refusing output s) (done F o output s)
-        (all_hold (judge_rungs F o s) numbered (sym h.answered ∙ e))
+        (all_hold (judge_rungs F o s) numbered (sym h.answered))

@@ -1,9 +1,11 @@
 -- What the code works out of an object before it acts.
 -- ==== What only mirrors the code
-use Rattle.std.specs.Prelude.{ℕ, ◌+◌, ◌-◌, ◌≤◌, ◌<◌, ◌≡◌, Bool, true, false, cond, not, ◌&&◌, ◌||◌, List, ◌++◌, eqb, leb, length, get_or, replicate, drop, set}
+use Rattle.std.specs.Prelude.{ℕ, ◌+◌, ◌-◌, ◌≤◌, ◌<◌, ◌≡◌, Bool, true, false, cond, not, ◌&&◌, ◌||◌, List, ◌++◌, eqb, leb, length, get_or, replicate, drop, set, Result, Ok}
 use Rattle.std.proofs.Math.Seq.{slice}
 use Rattle.laws.specs.Ladder.{Rung, ladder, Hold}
 use Rattle.laws.specs.Tests.{◌and◌}
+use Rattle.refusal.specs.declared.Refusal.{Refusal}
+use Rattle.refusal.specs.Numbers.{number_in}
 use Rattle.constants.specs.Maxima.{block_most, number_most, payload_most, brand_bytes_most, events_most, event_bytes_most}
 use Rattle.wire.specs.declared.form.Row.{Row}
 use Rattle.track.specs.declared.Track.{Track}
@@ -16,7 +18,6 @@ use Rattle.slots.specs.declared.lawful.Side.TheVariants.{Receiver}
 use Rattle.share_words.specs.Share.{share_len, last_at, set_at}
 use Rattle.slots.specs.Share.{is_open, lawful}
 use Rattle.locmaf_read_index.specs.Held.{Tells}
-use Rattle.prft_value.specs.Prft.{absent_prft}
 use Rattle.event_value.specs.Events.{events_len, events_of, EventsFit}
 use Rattle.locmaf_read_index.specs.Places.{stands_at, number_at}
 use Rattle.locmaf_read_set.specs.Read.{set_rungs, new_words}
@@ -54,10 +55,6 @@ pub record ValuesTold (t : Track) (delta : Bool) (payload events : ℕ) (s index
 -- whether sizes and protected sums agree, by the words of the set
 abbrev pub sums_in : Track → List ℕ → ℕ → Bool
 sums_in t x payload = sizes_ok t x payload and protected_ok t x payload
-
--- nothing but a number
-abbrev pub none_judged : ℕ → Judged
-none_judged k = record { number = k; prft = absent_prft; events = 0; brands = record { at = 0; len = 0 } }
 
 -- an object whose head was read, and the share that it is received on
 pub record Judgeable (F : List Row) (o s : List ℕ) (t : Track) (p : Place) : Type 0 where
@@ -145,18 +142,18 @@ pub record Roomy (F : List Row) (o s : List ℕ) (t : Track) (p : Place) (j : Ju
   pub needed : need ≡ length (chunk F o s)
   pub room : need ≤ length output
 
-pub record JudgedAs (rungs : List Rung) (F : List Row) (o s : List ℕ) (j : Judged) (ws x : List ℕ) : Type 0 where
-  pub answered : j.number ≡ ladder rungs (λ k. k) 0
-  pub ready : j.number ≡ 0 → Ready F o s j ws x
+pub record JudgedAs (rungs : List Rung) (F : List Row) (o s : List ℕ) (r : Result Judged Refusal) (ws x : List ℕ) : Type 0 where
+  pub answered : number_in r ≡ ladder rungs (λ k. k) 0
+  pub ready : (j : Judged) → r ≡ Ok j → Ready F o s j ws x
 
 -- from the split of the block on, and from the values of what isn't a moof field on
-abbrev pub AllJudged : List Row → List ℕ → List ℕ → Judged → List ℕ → List ℕ → Type 0
-AllJudged F o s j ws x = JudgedAs (judge_rungs F o s) F o s j ws x
+abbrev pub AllJudged : List Row → List ℕ → List ℕ → Result Judged Refusal → List ℕ → List ℕ → Type 0
+AllJudged F o s r ws x = JudgedAs (judge_rungs F o s) F o s r ws x
 
-abbrev pub ValuesJudged : List Row → List ℕ → List ℕ → Judged → List ℕ → List ℕ → Type 0
-ValuesJudged F o s j ws x = JudgedAs (value_rungs F o s) F o s j ws x
+abbrev pub ValuesJudged : List Row → List ℕ → List ℕ → Result Judged Refusal → List ℕ → List ℕ → Type 0
+ValuesJudged F o s r ws x = JudgedAs (value_rungs F o s) F o s r ws x
 
 -- an object whose head was read, and of which every rule but that of room was asked
-pub record Decided (F : List Row) (o s : List ℕ) (t : Track) (p : Place) (j : Judged) (ws x : List ℕ) : Type 0 where
+pub record Decided (F : List Row) (o s : List ℕ) (t : Track) (p : Place) (r : Result Judged Refusal) (ws x : List ℕ) : Type 0 where
   pub head : Judgeable F o s t p
-  pub judged : AllJudged F o s j ws x
+  pub judged : AllJudged F o s r ws x

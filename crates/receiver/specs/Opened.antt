@@ -1,10 +1,10 @@
 -- What is known of an object before its block is read.
 -- ==== What only mirrors the code
-use Rattle.std.specs.Prelude.{ℕ, ◌≡◌, List}
+use Rattle.std.specs.Prelude.{ℕ, ◌≡◌, List, Result, Ok, Err}
+use Rattle.refusal.specs.declared.Refusal.{Refusal}
+use Rattle.refusal.specs.Numbers.{number_of}
 use Rattle.wire.specs.declared.form.Row.{Row}
 use Rattle.locmaf_read_head.specs.declared.head.Place.{Place}
-use Rattle.locmaf_read_head.specs.declared.head.Head.{Head}
-use Rattle.locmaf_read_head.specs.declared.head.Head.TheVariants.{Block, Refused}
 use Rattle.receiver.specs.Receive.{track, refusing, taken, receiving}
 use Rattle.receiver.specs.Judge.{Judgeable}
 
@@ -14,6 +14,6 @@ pub record Opened (F : List Row) (o s : List ℕ) (p : Place) : Type 0 where
   pub goes_on : (output : List ℕ) → taken F o output s ≡ receiving F o output s
 
 -- or one does
-abbrev pub OpenedAs : List Row → List ℕ → List ℕ → Head → Type 0
-OpenedAs F o s (Block p) = Opened F o s p
-OpenedAs F o s (Refused k) = (output : List ℕ) → refusing output s k ≡ receiving F o output s
+abbrev pub OpenedAs : List Row → List ℕ → List ℕ → Result Place Refusal → Type 0
+OpenedAs F o s (Ok p) = Opened F o s p
+OpenedAs F o s (Err r) = (output : List ℕ) → refusing output s (number_of r) ≡ receiving F o output s

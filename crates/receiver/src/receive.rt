@@ -1,25 +1,27 @@
 // The call: one object.
-ghost use Rattle.std.specs.Prelude.{◌≡◌, List, ℕ, length};
+ghost use Rattle.std.specs.Prelude.{◌≡◌, List, ℕ, length, Ok};
 ghost use Rattle.wire.specs.declared.form.Row.{Row};
 ghost use Rattle.wire.specs.Form.{rows};
 ghost use Rattle.wire.specs.declared.form.Form.TheVariants.{Rfc9000};
+ghost use Rattle.refusal.specs.Numbers.{number_of};
 ghost use Rattle.share_words.specs.Share.{share_len};
 ghost use Rattle.slots.specs.Table.{out, on_table};
-ghost use Rattle.answers.specs.Took.{took, refused};
-ghost use Rattle.answers.specs.Answered.{AnsweredAs};
+ghost use Rattle.answers.specs.Took.{refused};
+ghost use Rattle.answers.specs.Answered.{AnsweredAs, given};
 ghost use Rattle.receiver.specs.Receive.{refusing, done, written, taken, receiving};
 ghost use Rattle.receiver.specs.Judge.{Judgeable, Decided, Acceptable, Roomy};
 ghost use Rattle.receiver.specs.Opened.{OpenedAs};
 
 use crate::judge;
 use crate::judge::Judged;
-use answers::answer::Answer;
+use answers::answer::{Answer, Handed};
 use answers::{answer, room};
 use byte_parts::Part;
 use cmaf_write_front::front::{front_length, put_front};
 use event_value::ALL_WORDS;
 use field_table::lines;
-use locmaf_read_head::head::{Head, Place};
+use locmaf_read_head::head::Place;
+use refusal::Refusal;
 use share_words::share;
 use share_words::share::SHARE;
 use slots::lawful;
@@ -27,14 +29,14 @@ use slots::lawful::Side;
 use track::Track;
 use wire::form::Form;
 
-// A refusal: 12 to 16 and 21 drop the reference, every other number changes nothing. Whatever the output holds, it stays.
-fn refuse(s: &mut [u64], number: u64) -> Answer
+// A refusal: 12 to 16 and 21 drop the reference, every other changes nothing. Whatever the output holds, it stays.
+fn refuse(s: &mut [u64], r: Refusal) -> Result<Answer, Refusal>
     requires { length s.old ≡ share_len }
     ensures { (o output : List ℕ)
-        → AnsweredAs (refusing output s.old number) o result output s.new }
+        → AnsweredAs (refusing output s.old (number_of r)) o result output s.new }
 {
-    answers::refusals::leave(number, s);
-    answer::refused(number)
+    answers::refusals::leave(r, s);
+    Err(r)
 }
 
 // The front into the output, and the reference into the share. As in `judge_values`, no form is asked for.
@@ -55,7 +57,7 @@ fn write(
         → Roomy F o.now s.old t p j list.now x.now names.now need
         output.old
         → AnsweredAs (done F o.now output.old s.old)
-        o.now result output.new s.new }
+        o.now (Ok result) output.new s.new }
 {
     let prft = j.prft;
     let end = p.end;
@@ -77,7 +79,6 @@ fn write(
     reference::keep::keep(&mut *s, p.delta, prft, count, x);
     reference::keep::renew(p.delta, payload, s);
     Answer {
-        number: 0,
         front: n as u64,
         payload: Part {
             at: end,
@@ -96,7 +97,7 @@ fn accept(
     list: &[u64],
     x: &[u64],
     output: &mut [u8],
-) -> Answer
+) -> Result<Answer, Refusal>
     requires { (F : List Row) × Acceptable F o.now s.old t p j list.now x.now }
     ensures { (F : List Row)
         → Acceptable F o.now s.old t p j list.now x.now
@@ -109,37 +110,43 @@ fn accept(
     let names = &o[from..to];
     let need = front_length(t, x, prft, list, j.events, names);
     if !room::has_room(need, output.len()) {
-        return refuse(s, 17);
+        return refuse(s, Refusal::NoRoom);
     }
-    write(t, p, o, s, j, list, x, names, need, output)
+    Ok(write(t, p, o, s, j, list, x, names, need, output))
 }
 
-// An object that was judged: number first, then act.
+// An object that was judged: refused, or acted on.
 fn take_judged(
     t: Track,
     p: Place,
     o: &[u8],
     s: &mut [u64],
-    j: Judged,
+    judged: Result<Judged, Refusal>,
     list: &[u64],
     x: &[u64],
     output: &mut [u8],
-) -> Answer
-    requires { (F : List Row) × Decided F o.now s.old t p j list.now x.now }
+) -> Result<Answer, Refusal>
+    requires { (F : List Row) × Decided F o.now s.old t p judged list.now x.now }
     ensures { (F : List Row)
-        → Decided F o.now s.old t p j list.now x.now
+        → Decided F o.now s.old t p judged list.now x.now
         → AnsweredAs (taken F o.now output.old s.old)
         o.now result output.new s.new }
 {
-    let k = j.number;
-    if k != 0 {
-        return refuse(s, k);
+    match judged {
+        Err(r) => refuse(s, r),
+        Ok(j) => accept(t, p, o, s, j, list, x, output),
     }
-    accept(t, p, o, s, j, list, x, output)
 }
 
 // An object with its head read, on an open share.
-fn take_block(form: Form, t: Track, p: Place, o: &[u8], s: &mut [u64], output: &mut [u8]) -> Answer
+fn take_block(
+    form: Form,
+    t: Track,
+    p: Place,
+    o: &[u8],
+    s: &mut [u64],
+    output: &mut [u8],
+) -> Result<Answer, Refusal>
     requires { Judgeable (rows form) o.now s.old t p }
     ensures { AnsweredAs (taken (rows form) o.now output.old s.old)
         o.now result output.new s.new }
@@ -152,94 +159,65 @@ fn take_block(form: Form, t: Track, p: Place, o: &[u8], s: &mut [u64], output: &
 }
 
 // All that is asked before the block is read: the share, the head, and whether there is a reference for a delta.
-fn opened(form: Form, o: &[u8], s: &[u64]) -> Head
+fn opened(form: Form, o: &[u8], s: &[u64]) -> Result<Place, Refusal>
     requires { length s.now ≡ share_len }
     ensures { OpenedAs (rows form) o.now s.now result }
 {
     if !lawful::is_lawful(Side::Receiver, s) {
-        return Head::Refused(18);
+        return Err(Refusal::UnlawfulTable);
     }
     if s[share::TRACK] == 0 {
-        return Head::Refused(2);
+        return Err(Refusal::NotOpen);
     }
-    let h = locmaf_read_head::head::head_of(form, o);
-    match h {
-        Head::Refused(k) => Head::Refused(k),
-        Head::Block(p) => {
-            if p.delta & (s[share::HELD] == 0) {
-                return Head::Refused(11);
-            }
-            Head::Block(p)
-        }
+    let p = locmaf_read_head::head::head_of(form, o)?;
+    if p.delta & (s[share::HELD] == 0) {
+        return Err(Refusal::NoReference);
     }
+    Ok(p)
 }
 
 // An object on a share: what comes before the block first, then the block.
-fn take_share(form: Form, o: &[u8], s: &mut [u64], output: &mut [u8]) -> Answer
+fn take_share(form: Form, o: &[u8], s: &mut [u64], output: &mut [u8]) -> Result<Answer, Refusal>
     requires { length s.old ≡ share_len }
     ensures { AnsweredAs (receiving (rows form) o.now output.old s.old)
         o.now result output.new s.new }
 {
-    let h = opened(form, o, s);
-    match h {
-        Head::Refused(k) => refuse(s, k),
-        Head::Block(p) => {
+    match opened(form, o, s) {
+        Err(r) => refuse(s, r),
+        Ok(p) => {
             let t = lawful::track_of(s);
             take_block(form, t, p, o, s, output)
         }
     }
 }
 
-// The answer handed out, and the payload as a part of the object.
+// An object on a share, with the payload handed out as the part of the object that it is.
 fn take_object<'a>(
     form: Form,
     o: &'a [u8],
     s: &mut [u64],
     output: &mut [u8],
-    number: &mut u64,
-    front: &mut u64,
-) -> &'a [u8]
+) -> Result<Handed<'a>, Refusal>
     requires { length s.old ≡ share_len }
-    ensures { out (took number.new front.new result.now output.new) s.new
+    ensures { out (given result output.new) s.new
         ≡ receiving (rows form) o.now output.old s.old }
 {
-    let a = take_share(form, o, s, output);
-    *number = a.number;
-    *front = a.front;
-    let from = a.payload.at;
-    let end = from + a.payload.len;
-    &o[from..end]
+    let a = take_share(form, o, s, output)?;
+    Ok(answer::hand_out(a, o))
 }
 
-// One object into the front of a chunk: the number, the front's length, and the payload as the part of the object that it is.
+// One object into the front of a chunk: the front's length, and the payload as the part of the object that it is.
 pub fn receive<'a>(
     table: &mut [u64],
     slot: u64,
     object: &'a [u8],
     output: &mut [u8],
-    number: &mut u64,
-    front: &mut u64,
-) -> &'a [u8]
-    ensures { out (took number.new front.new result.now output.new)
-        table.new
+) -> Result<Handed<'a>, Refusal>
+    ensures { out (given result output.new) table.new
         ≡ on_table (refused output.old)
         (receiving (rows Rfc9000) object.now output.old)
         table.old slot }
 {
-    let at = match slots::calls::place_in(table, slot) {
-        Ok(at) => at,
-        Err(k) => {
-            *number = k;
-            *front = 0;
-            return &object[..0];
-        }
-    };
-    take_object(
-        Form::Rfc9000,
-        object,
-        &mut table[at..at + SHARE],
-        output,
-        number,
-        front,
-    )
+    let at = slots::calls::place_in(table, slot)?;
+    take_object(Form::Rfc9000, object, &mut table[at..at + SHARE], output)
 }

@@ -1,78 +1,60 @@
 // The two calls on a slot of a table, with the payload put behind the front that is written.
-ghost use Rattle.inputs.specs.Counts.{IsPrefixLen};
+use answers::answer::Handed;
+use refusal::Refusal;
+use std::alloc::{AllocError, Global};
 
-use inputs::files;
-
-// The slots. 0 of each table is the track's. 1 of the encoder's is for an encoder that sees only what was rebuilt, 1 of the receiver's for a receiver that
-// starts later.
-pub const FIRST: u64 = 0;
-
-pub const SECOND: u64 = 1;
-
-// The number of a call, and with 0 how many bytes its output has, front and payload, and how many of them are the front.
-#[derive(Clone, Copy)]
-pub struct Whole {
-    pub number: u64,
+// What a call made: front and payload, and how many of these bytes are the front.
+#[derive(Drop)]
+pub struct Made {
+    pub bytes: Vec<u8>,
     pub front: u64,
-    pub end: usize,
 }
 
-// The payload behind the front in the output.
-fn put_together(number: u64, front: u64, payload: &[u8], output: &mut [u8]) -> Whole
-    ensures { IsPrefixLen result.end output.new }
-{
-    let end = output.len();
-    if (number != 0) | ((end as u64) < front) {
-        return Whole {
-            number,
-            front: 0,
-            end: 0,
-        };
-    }
-    let j = files::append(output, front as usize, payload);
-    if !j.fits {
-        return Whole {
-            number: 17,
-            front: 0,
-            end: 0,
-        };
-    }
-    Whole {
-        number,
-        front,
-        end: j.end,
+// What a call answers: what it made, or the number of the rule that was broken.
+pub type Answer = Result<Made, u64>;
+
+// No front is as long as this.
+const FRONT: usize = 16384;
+
+// The payload behind the front.
+fn put_together(
+    given: Result<Handed<'_>, Refusal>,
+    mut bytes: Vec<u8>,
+) -> Result<Answer, AllocError> {
+    match given {
+        Ok(h) => {
+            bytes.truncate(h.front as usize);
+            bytes.extend_from_slice(h.payload)?;
+            Ok(Ok(Made {
+                bytes,
+                front: h.front,
+            }))
+        }
+        Err(why) => Ok(Err(why.number())),
     }
 }
 
-pub fn encoded(table: &mut [u64], slot: u64, wish: u64, chunk: &[u8], object: &mut [u8]) -> Whole
-    ensures { IsPrefixLen result.end object.new }
-{
-    let mut number = 0;
-    let mut front = 0;
-    let payload = encoder::encode::encode(
-        table,
-        slot,
-        wish,
-        chunk,
-        &mut *object,
-        &mut number,
-        &mut front,
-    );
-    put_together(number, front, payload, object)
+// A chunk as an object, with the wish for a delta or for a full object.
+pub fn encode(
+    alloc: Global,
+    table: &mut [u64],
+    slot: u64,
+    delta: bool,
+    chunk: &[u8],
+) -> Result<Answer, AllocError> {
+    let mut bytes = vec![in alloc; 0u8; chunk.len().saturating_add(FRONT)]?;
+    let given = encoder::encode::encode(table, slot, delta as u64, chunk, &mut bytes);
+    put_together(given, bytes)
 }
 
-pub fn received(table: &mut [u64], slot: u64, object: &[u8], chunk: &mut [u8]) -> Whole
-    ensures { IsPrefixLen result.end chunk.new }
-{
-    let mut number = 0;
-    let mut front = 0;
-    let payload = receiver::receive::receive(
-        table,
-        slot,
-        object,
-        &mut *chunk,
-        &mut number,
-        &mut front,
-    );
-    put_together(number, front, payload, chunk)
+// An object as a chunk.
+pub fn receive(
+    alloc: Global,
+    table: &mut [u64],
+    slot: u64,
+    object: &[u8],
+) -> Result<Answer, AllocError> {
+    let mut bytes = vec![in alloc; 0u8; object.len().saturating_add(FRONT)]?;
+    let given = receiver::receive::receive(table, slot, object, &mut bytes);
+    put_together(given, bytes)
 }

@@ -1,4 +1,5 @@
 // Whether a chunk begins with a sync sample.
+// Letters: `a` the track's parameters.
 use cmaf_read_chunk::read;
 use field_table::lines;
 use track::Asked;
@@ -23,29 +24,15 @@ fn first_flags(words: &[u64; WORDS], usual: u64) -> u64 {
     usual
 }
 
-fn asked(params: &[u64; 8]) -> Asked {
-    Asked {
-        track: params[0],
-        timescale: params[1],
-        description: params[2],
-        duration: params[3],
-        size: params[4],
-        flags: params[5],
-        protection: params[6],
-        iv_size: params[7],
-    }
-}
-
 // Whether the chunk is accepted on a track and its first sample's non_sync is 0.
-pub fn begins_sync(params: &[u64; 8], chunk: &[u8]) -> bool {
-    let a = asked(params);
+pub fn begins_sync(a: Asked, chunk: &[u8]) -> bool {
     if !track::is_lawful(a) {
         return false;
     }
     let t = track::narrowed(a);
     let mut words = [0u64; WORDS];
     let c = read::read_chunk(Form::Rfc9000, t, chunk, &mut words);
-    if (c.number != 0) | (words[FROM + lines::COUNT] == 0) {
+    if c.is_err() | (words[FROM + lines::COUNT] == 0) {
         return false;
     }
     first_flags(&words, a.flags) % 2 == 0

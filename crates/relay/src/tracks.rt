@@ -1,84 +1,133 @@
-// One track after another: those that the program was started with, or the bundled ones.
-// Letters: `rt` the runtime, `err` standard error, `o` the options.
-ghost use Rattle.std.specs.Prelude.{◌≤◌, length};
-
-use crate::folder;
-use accounts::tally;
-use accounts::tally::Tally;
-use inputs::arguments::{Options, WORD};
-use inputs::{arguments, files, folders, numbers};
+// One track after another, those that the program was started with or the bundled ones, and the chunks of each.
+// Letters: `rt` the runtime, `err` standard error.
+use crate::tables::Tables;
+use crate::{join, passage, sync};
+use accounts::report;
+use accounts::tally::{Total, Track};
+use inputs::arguments::Options;
+use inputs::errors::Error;
+use inputs::{files, numbers};
+use std::alloc::Global;
 use std::io;
-use std::rt::{Env, Files};
+use std::rt::Files;
+use track::Asked;
 
-// The bytes of captures/tracks.txt, and one more.
-const TRACKS: usize = 4096;
+// Whether a delta is wished for the chunk behind so many.
+fn wishes_delta(options: &Options, before: u64, params: Asked, chunk: &[u8]) -> bool {
+    if options.sync {
+        return !sync::begins_sync(params, chunk);
+    }
+    options.every != 0 && before % options.every != 0
+}
 
-// The track that a word of the program names, if it is a folder.
-fn run_word<R: Env + Files + Print, E: Print>(
+// A chunk of a track: its way, its line, and the sums with it. A second receiver gets its object too, where one was asked for and there is an object.
+fn send<R: Print>(
+    rt: &R,
+    alloc: Global,
+    options: &Options,
+    params: Asked,
+    chunk: &[u8],
+    tables: &mut Tables,
+    track: &mut Track,
+) -> io::Result<()> {
+    let delta = wishes_delta(options, track.tally.chunks, params, chunk);
+    let passage = passage::pass(alloc, tables, delta, chunk)?;
+    let passed = match &passage {
+        Ok(p) => Ok(p.sent),
+        Err(number) => Err(*number),
+    };
+    track.tally.count(&passed);
+    report::chunk(rt, track.tally.chunks, &passed)?;
+    if let (Some(at), Ok(p)) = (options.join, &passage) {
+        join::follow(alloc, &mut track.join, at, track.tally.chunks, p, tables)?;
+    }
+    Ok(())
+}
+
+// A track, whose lines have been printed where all its files are good.
+fn go_through<R: Files + Print + AllocGlobal>(
+    rt: &R,
+    options: &Options,
+    folder: &[u8],
+) -> Result<Track, Error> {
+    let params = files::params(rt, folder)?;
+    let lines = files::lines(rt, folder)?;
+    let mut chunks = files::open(rt, folder, files::CHUNKS)?;
+    let mut tables = Tables::open(rt.alloc(), params)?;
+    report::head(rt, folder, &params)?;
+    let mut track = Track::default();
+    for line in lines.split_inclusive(|b| *b == b'\n') {
+        let i = track.tally.chunks.saturating_add(1);
+        let chunk = files::chunk(rt.alloc(), &mut chunks, line, i)?;
+        send(
+            rt,
+            rt.alloc(),
+            options,
+            params,
+            &chunk,
+            &mut tables,
+            &mut track,
+        )?;
+    }
+    files::end(&mut chunks)?;
+    report::totals(rt, &track.tally)?;
+    if let Some(at) = options.join {
+        report::joined(rt, at, &track.join)?;
+    }
+    Ok(track)
+}
+
+// A track in the total: its sums, or that it is left out for a bad file, which is explained.
+fn add<R: AllocGlobal, E: Print>(
     rt: &R,
     err: &E,
-    o: Options,
-    i: usize,
-) -> io::Result<Tally> {
-    let mut path = [0u8; WORD];
-    let f = folders::given(rt, i, &mut path);
-    if !f.folder {
-        return Ok(tally::nothing());
+    total: &mut Total,
+    folder: &[u8],
+    track: Result<Track, Error>,
+) -> io::Result<()> {
+    match track {
+        Ok(t) => total.add(&t),
+        Err(Error::Bad(name, wrong)) => {
+            files::tell(rt.alloc(), err, folder, name, &wrong)?;
+            total.leave_out();
+        }
+        Err(Error::Failed(e)) => return Err(e),
     }
-    let n = f.length;
-    folder::run(rt, err, o, &path[..n])
+    Ok(())
 }
 
-// The tracks whose folders the program was started with.
-pub fn given<R: Env + Files + Print, E: Print>(rt: &R, err: &E, o: Options) -> io::Result<Tally> {
-    let mut t = tally::nothing();
-    let n = arguments::how_many(rt);
-    for i in 1..n {
-        t = tally::with_track(t, run_word(rt, err, o, i)?);
-    }
-    Ok(t)
-}
-
-// The bundled track that is named at p; nothing where the line is empty.
-fn run_line<R: Files + Print, E: Print>(
+// The tracks that captures/tracks.txt names, a line each; an empty line names none.
+fn bundled<R: Files + Print + AllocGlobal, E: Print>(
     rt: &R,
     err: &E,
-    o: Options,
-    text: &[u8],
-    p: usize,
-) -> io::Result<Tally>
-    requires { p ≤ length text.now }
-{
-    let mut path = [0u8; WORD];
-    let f = folders::bundled(text, p, &mut path);
-    if !f.folder {
-        return Ok(tally::nothing());
+    options: &Options,
+    total: &mut Total,
+) -> io::Result<()> {
+    let lines = match files::bundled(rt) {
+        Ok(lines) => lines,
+        Err(e) => return add(rt, err, total, b"captures", Err(e)),
+    };
+    for line in lines.split_inclusive(|b| *b == b'\n') {
+        let name = numbers::first_word(line);
+        if !name.is_empty() {
+            let folder = files::path_of(rt.alloc(), b"captures", name)?;
+            add(rt, err, total, &folder, go_through(rt, options, &folder))?;
+        }
     }
-    let n = f.length;
-    folder::run(rt, err, o, &path[..n])
+    Ok(())
 }
 
-fn run_lines<R: Files + Print, E: Print>(
+pub fn run<R: Files + Print + AllocGlobal, E: Print>(
     rt: &R,
     err: &E,
-    o: Options,
-    text: &[u8],
-) -> io::Result<Tally> {
-    let mut t = tally::nothing();
-    let mut p = 0;
-    while p < text.len() {
-        t = tally::with_track(t, run_line(rt, err, o, text, p)?);
-        p = numbers::next_line(text, p);
+    options: &Options,
+) -> io::Result<Total> {
+    let mut total = Total::default();
+    if options.folders.is_empty() {
+        bundled(rt, err, options, &mut total)?;
     }
-    Ok(t)
-}
-
-// The tracks that captures/tracks.txt names.
-pub fn bundled<R: Files + Print, E: Print>(rt: &R, err: &E, o: Options) -> io::Result<Tally> {
-    let mut text = [0u8; TRACKS];
-    let n = files::read_text(rt, err, b"captures", b"tracks.txt", &mut text);
-    if n == 0 {
-        return Ok(tally::spoiled());
+    for folder in &options.folders {
+        add(rt, err, &mut total, folder, go_through(rt, options, folder))?;
     }
-    run_lines(rt, err, o, &text[..n])
+    Ok(total)
 }

@@ -1,7 +1,7 @@
 // Calls on the table, and what is printed of them.
 // Letters: `t` a table, `k` a number of the table of answers, `v` a number.
-use crate::text::{item, start};
-use printing::marked;
+use crate::text::{item, pair, start};
+use refusal::number_in;
 use share_words::share::{SHARE, TABLE};
 use slots::lawful::Side;
 use std::io;
@@ -29,7 +29,7 @@ pub fn ask(
         return 99;
     }
     let table = &mut t[..words];
-    match call {
+    let answer = match call {
         b'c' => slots::calls::close(side, table, slot),
         b'g' => slots::calls::start_group(side, table, slot),
         _ => slots::calls::open(
@@ -45,18 +45,15 @@ pub fn ask(
             pick(k, 6, v, scheme),
             pick(k, 7, v, 0),
         ),
-    }
+    };
+    number_in(&answer)
 }
 
 // The words that are not 0, up to the end of a slot's share.
 fn left<R: Print>(rt: &R, t: &[u64; WORDS], slot: u64) -> io::Result<()> {
-    for i in 0..WORDS {
-        let v = t[i];
-        if v != 0 {
-            if (i / SHARE) as u64 <= slot {
-                marked(rt, b' ', i as u64)?;
-                marked(rt, b'=', v)?;
-            }
+    for (i, v) in t.iter().enumerate() {
+        if *v != 0 && (i / SHARE) as u64 <= slot {
+            pair(rt, i as u64, *v)?;
         }
     }
     Ok(())
@@ -74,7 +71,7 @@ fn turn<R: Print>(
 ) -> io::Result<()> {
     let flags = if call == b'b' { 32 } else { 31 };
     let r = ask(side, t, words, call, slot, 0, 5, flags);
-    item(rt, call, r)?;
+    item(rt, call as char, r)?;
     if r == 0 {
         left(rt, t, slot)?;
     }
@@ -91,9 +88,9 @@ pub fn turns<R: Print>(
     slot: u64,
 ) -> io::Result<()> {
     start(rt, side, slot)?;
-    for i in 0..8 {
-        turn(rt, side, t, words, calls[i], slot)?;
+    for call in calls {
+        turn(rt, side, t, words, *call, slot)?;
     }
-    item(rt, b'w', words as u64)?;
+    item(rt, 'w', words as u64)?;
     left(rt, t, slot)
 }

@@ -1,7 +1,6 @@
 // Shares of which one word is damaged: at which words a value may stand.
 use crate::calls::{WORDS, ask, turns};
-use crate::text::{item, start};
-use printing::marked;
+use crate::text::{item, pair, start};
 use share_words::share::{EXPECTED, SHARE, TABLE};
 use slots::lawful::Side;
 use std::io;
@@ -51,7 +50,7 @@ fn moved(side: Side, t: &mut [u64; WORDS], at: usize, v: u64) -> u64 {
     if at < TABLE {
         let time = at / SHARE * SHARE + EXPECTED;
         let old = t[time];
-        t[time] = std::num::wrapping_add_u64(old, std::num::wrapping_sub_u64(v, t[at]));
+        t[time] = old.wrapping_add(v.wrapping_sub(t[at]));
         let r = damaged(side, t, at, v);
         t[time] = old;
         return r;
@@ -59,9 +58,19 @@ fn moved(side: Side, t: &mut [u64; WORDS], at: usize, v: u64) -> u64 {
     99
 }
 
-// The answers where each word in turn is v, a line for each share: 18 at first, and every other number at the word from which on it is given. By the
-// letter m what is expected moves with the word.
-fn sweep<R: Print>(rt: &R, side: Side, t: &mut [u64; WORDS], letter: u8, v: u64) -> io::Result<()> {
+// How a value is put into a word: alone, or so that the BMDT that is expected moves with it.
+#[derive(Clone, Copy, PartialEq, Eq)]
+enum Put {
+    Alone,
+    Moved,
+}
+
+// The answers where each word in turn is v, a line for each share: 18 at first, and every other number at the word from which on it is given.
+fn sweep<R: Print>(rt: &R, side: Side, t: &mut [u64; WORDS], put: Put, v: u64) -> io::Result<()> {
+    let letter = match put {
+        Put::Alone => 'v',
+        Put::Moved => 'm',
+    };
     let mut was = 18;
     for at in 0..TABLE {
         let i = (at % SHARE) as u64;
@@ -70,14 +79,12 @@ fn sweep<R: Print>(rt: &R, side: Side, t: &mut [u64; WORDS], letter: u8, v: u64)
             item(rt, letter, v)?;
             was = 18;
         }
-        let r = if letter == b'm' {
-            moved(side, t, at, v)
-        } else {
-            damaged(side, t, at, v)
+        let r = match put {
+            Put::Alone => damaged(side, t, at, v),
+            Put::Moved => moved(side, t, at, v),
         };
         if r != was {
-            marked(rt, b' ', i)?;
-            marked(rt, b'=', r)?;
+            pair(rt, i, r)?;
         }
         was = r;
     }
@@ -88,9 +95,9 @@ fn sweep<R: Print>(rt: &R, side: Side, t: &mut [u64; WORDS], letter: u8, v: u64)
 pub fn print<R: Print>(rt: &R, side: Side) -> io::Result<()> {
     let mut t = [0u64; WORDS];
     crate::shares::table(side, &mut t);
-    for k in 0..23 {
-        sweep(rt, side, &mut t, b'v', VALUES[k])?;
-        sweep(rt, side, &mut t, b'm', VALUES[k])?;
+    for v in VALUES {
+        sweep(rt, side, &mut t, Put::Alone, v)?;
+        sweep(rt, side, &mut t, Put::Moved, v)?;
     }
     for slot in 0u64..8 {
         turns(rt, side, &mut t, TABLE, b"bggcgobg", slot)?;

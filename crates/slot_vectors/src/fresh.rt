@@ -1,8 +1,7 @@
 // Calls on a fresh table: on each slot, on tables of a wrong length, beside an unlawful share, and with each parameter at its bounds and past
 // them.
 use crate::calls::{WORDS, ask, turns};
-use crate::text::{item, start};
-use printing::marked;
+use crate::text::{item, pair, start};
 use share_words::share::TABLE;
 use slots::lawful::Side;
 use std::io;
@@ -37,14 +36,11 @@ fn on_slot<R: Print>(rt: &R, side: Side, words: usize, slot: u64, v: u64) -> io:
 // Opens with a scheme of protection, whose parameter k has each of ten values.
 fn opens<R: Print>(rt: &R, side: Side, scheme: u64, k: u64) -> io::Result<()> {
     start(rt, side, 5)?;
-    item(rt, b's', scheme)?;
-    item(rt, b'p', k)?;
-    let values = [0, 1, 7, 8, 16, 31, 32, 0xffff_ffff, 0x1_0000_0000, TOP];
-    for j in 0..10 {
+    item(rt, 's', scheme)?;
+    item(rt, 'p', k)?;
+    for v in [0, 1, 7, 8, 16, 31, 32, 0xffff_ffff, 0x1_0000_0000, TOP] {
         let mut t = [0u64; WORDS];
-        let v = values[j];
-        marked(rt, b' ', v)?;
-        marked(rt, b'=', ask(side, &mut t, TABLE, b'o', 5, scheme, k, v))?;
+        pair(rt, v, ask(side, &mut t, TABLE, b'o', 5, scheme, k, v))?;
     }
     Ok(())
 }

@@ -16,5 +16,5 @@ fn main(rt: HostRuntime) -> io::Result<()> {
     fresh::print(&rt, Side::Receiver)?;
     damage::print(&rt, Side::Encoder)?;
     damage::print(&rt, Side::Receiver)?;
-    printing::letter(&rt, b'\n')
+    println!(&rt)
 }

@@ -226,13 +226,10 @@ fn store(t: &mut [u64; WORDS], eight: u64, run: u64) {
     let share = run % 100;
     if share / 8 == eight {
         let from = (share % 8) as usize * SHARE + counted_from(run / 100 % 10);
-        let mut i = from + (run / 1000 % 1000) as usize;
-        let last = i + (run / 1_000_000 % 1000) as usize;
-        while i < last {
-            if i < WORDS {
-                t[i] = run / 1_000_000_000;
-            }
-            i += 1;
+        let first = from + (run / 1000 % 1000) as usize;
+        let last = first + (run / 1_000_000 % 1000) as usize;
+        if let Some(words) = t.get_mut(first..last) {
+            words.fill(run / 1_000_000_000);
         }
     }
 }
@@ -243,7 +240,7 @@ pub fn table(side: Side, t: &mut [u64; WORDS]) {
         Side::Encoder => 0,
         Side::Receiver => 1,
     };
-    for k in 0..RUNS {
-        store(t, eight, SHARES[k]);
+    for run in SHARES {
+        store(t, eight, run);
     }
 }

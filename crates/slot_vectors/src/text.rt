@@ -1,20 +1,22 @@
 // How lines begin, and what stands in them.
 // Letters: `v` a number.
-use printing::{letter, marked};
 use slots::lawful::Side;
 use std::io;
 
 // A number behind a space and a letter.
-pub fn item<R: Print>(rt: &R, mark: u8, v: u64) -> io::Result<()> {
-    letter(rt, b' ')?;
-    marked(rt, mark, v)
+pub fn item<R: Print>(rt: &R, mark: char, v: u64) -> io::Result<()> {
+    print!(rt; " {mark}{v}")
+}
+
+// An answer or a word behind what it belongs to.
+pub fn pair<R: Print>(rt: &R, of: u64, v: u64) -> io::Result<()> {
+    print!(rt; " {of}={v}")
 }
 
 // A new line begins with whose table it is, and the slot.
 pub fn start<R: Print>(rt: &R, side: Side, slot: u64) -> io::Result<()> {
-    letter(rt, b'\n')?;
     match side {
-        Side::Encoder => marked(rt, b'e', slot),
-        Side::Receiver => marked(rt, b'r', slot),
+        Side::Encoder => print!(rt; "\ne{slot}"),
+        Side::Receiver => print!(rt; "\nr{slot}"),
     }
 }

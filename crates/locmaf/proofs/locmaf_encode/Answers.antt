@@ -1,7 +1,7 @@
 -- `locmaf::locmaf_encode` meets its contract: the encoder's equation, with the payload's length.
-use mathlib.Core.Path.{ap}
+use mathlib.Core.Path.{◌∙◌, ap}
 use Rattle.locmaf.specs.Told.{tell}
 use Rattle.locmaf.proofs.locmaf_encode.Goals as goal
 
 pub returns : goal.returns
-returns c = ap tell c.encode-payload.ensures
+returns c = c.told_to.ensures _ _ ∙ ap tell c.encode-r.ensures

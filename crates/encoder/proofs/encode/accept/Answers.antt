@@ -1,5 +1,6 @@
 -- `encoder::encode::accept` meets its contract, by the laws of `proofs/WriteLaws.antt`.
 use mathlib.Core.Path.{refl}
+use Rattle.refusal.specs.declared.Refusal.TheVariants.{NoObject, NoRoom}
 use Rattle.encoder.proofs.GivenLaws.{behind}
 use Rattle.encoder.proofs.FrontLaws.{planned-sendable}
 use Rattle.answers.proofs.AnsweredLaws.{refused_as}
@@ -15,7 +16,7 @@ choose-requires c = record { read_of_one = (c.args.c.now, c.requires); leaves = 
 pub returns-in_default : goal.returns-in_default
 returns-in_default c =
     let a = c.args in
-    refused_as a.c.now a.output.now a.s.now 9 c.refused.ensures
+    refused_as NoObject
     (unfit a.form _ _ _ _ _ _ c.requires a.wish a.output.now (rw c.in_default.is at (c.choose.ensures.0 _ c.requires)))
 
 pub front_length-requires : goal.front_length-requires
@@ -24,7 +25,7 @@ front_length-requires c = (rw c.in-Some.is at (c.choose.ensures.0 _ c.requires))
 pub returns-then-output-front_length : goal.returns-then-output-front_length
 returns-then-output-front_length c =
     let a = c.args in
-    refused_as a.c.now a.output.now a.s.now 17 c.refused-then-output-front_length.ensures
+    refused_as NoRoom
     (short a.form _ _ _ _ _ _ c.requires a.wish a.output.now _ (rw c.in-Some.is at (c.choose.ensures.0 _ c.requires)) _
     c.front_length.ensures c.if-output-front_length.true)
 

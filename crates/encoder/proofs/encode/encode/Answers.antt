@@ -1,16 +1,15 @@
 -- `encoder::encode::encode` meets its contract: what the table is answered with, handed out; the payload as the part of the chunk that is lent.
+use Rattle.std.proofs.lemmas.Result.{err_from_is_err_and}
 use Rattle.answers.proofs.AnsweredLaws.{handed_out}
-use borrow.Author.Rules.{rules}
 use Rattle.encoder.proofs.encode.encode.Goals as goal
 
-pub overflow_add-end : goal.overflow_add-end
-overflow_add-end c = search rules
+pub returns-in_err-a : goal.returns-in_err-a
+returns-in_err-a c =
+    let p = err_from_is_err_and c.from_residual.result c.from_residual.ensures.1 in
+    rw (p.1, p.2) c.in_err-a.ensures.so
 
-pub slice_bounds-result-start : goal.slice_bounds-result-start
-slice_bounds-result-start c = search rules
-
-pub slice_bounds-result-end : goal.slice_bounds-result-end
-slice_bounds-result-end c = search rules
+pub hand_out-requires : goal.hand_out-requires
+hand_out-requires c = c.in_ok-a.ensures.inside
 
 pub returns : goal.returns
-returns c = handed_out c.take_table-a.ensures
+returns c = handed_out _ c.hand_out.result c.in_ok-a.ensures c.hand_out.ensures.front c.hand_out.ensures.payload

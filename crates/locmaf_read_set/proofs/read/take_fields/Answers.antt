@@ -11,15 +11,15 @@ none_sent-requires c = c.requires.readable.marked.words
 pub none_stands-requires : goal.none_stands-requires
 none_stands-requires c = c.requires.readable.words
 
-pub bare_number-requires : goal.bare_number-requires
-bare_number-requires c = c.requires.readable.marked.words
+pub bare_rules-requires : goal.bare_rules-requires
+bare_rules-requires c = c.requires.readable.marked.words
 
 -- no field is sent, and none stood
 pub returns-then-none_sent-a : goal.returns-then-none_sent-a
 returns-then-none_sent-a c =
     let p = c.requires in
     let q = both_of _ _ c.if-none_sent-a.true in
-    bare-read _ _ _ _ _ _ _ p.readable _ p.n_le_samples_most.1 (sym c.none_sent.ensures ∙ q.0) (rw c.none_stands.ensures at q.1) _ p.n_le_samples_most.2 _ c.bare_number.ensures
+    bare-read _ _ _ _ _ _ _ p.readable _ p.n_le_samples_most.1 (sym c.none_sent.ensures ∙ q.0) (rw c.none_stands.ensures at q.1) _ p.n_le_samples_most.2 _ c.bare_rules.ensures
 
 pub take_standing-requires : goal.take_standing-requires
 take_standing-requires c = record { readable = c.requires.readable; n_le_samples_most = c.requires.n_le_samples_most }

@@ -3,19 +3,19 @@ use Rattle.answers.proofs.AnsweredLaws.{answered-on}
 use Rattle.receiver.proofs.ReceiveLaws.{judged-stops, judged-climbs}
 use Rattle.receiver.proofs.receive.take_judged.Goals as goal
 
-pub returns-then-k-ne0 : goal.returns-then-k-ne0
-returns-then-k-ne0 c =
+pub returns-in-Err : goal.returns-in-Err
+returns-in-Err c =
     let output = c.args.output.now in
-    λ F d. answered-on (c.refuse.ensures _ output) (judged-stops _ _ _ output _ _ _ d.judged c.if-k-ne0.true)
+    λ F d. answered-on (c.refuse.ensures _ output) (judged-stops _ _ _ output _ _ _ (rw c.in-Err.is at d.judged))
 
 pub accept-requires : goal.accept-requires
 accept-requires c =
     let h = c.requires in
-    (h.0, record { head = h.1.head; ready = h.1.judged.ready c.if-k-ne0.false })
+    (h.0, record { head = h.1.head; ready = h.1.judged.ready _ c.in-Ok.is })
 
-pub returns : goal.returns
-returns c =
+pub returns-in-Ok : goal.returns-in-Ok
+returns-in-Ok c =
     let output = c.args.output.now in
     λ F d.
-    answered-on (c.accept.ensures F (record { head = d.head; ready = d.judged.ready c.if-k-ne0.false }))
-    (judged-climbs _ _ _ output _ _ _ d.judged c.if-k-ne0.false)
+    answered-on (c.accept.ensures F (record { head = d.head; ready = d.judged.ready _ c.in-Ok.is }))
+    (judged-climbs _ _ _ output _ _ _ (rw c.in-Ok.is at d.judged))

@@ -9,24 +9,24 @@ use Rattle.receiver.proofs.receive.take_share.Goals as goal
 pub track_of-t-requires : goal.track_of-t-requires
 track_of-t-requires c =
     let a = c.args in
-    let z = subst (OpenedAs (rows a.form) a.o.now a.s.now) c.in-Block.is c.opened-h.ensures in
+    let z = subst (OpenedAs (rows a.form) a.o.now a.s.now) c.in-Ok.is c.opened.ensures in
     (c.requires, track-lawful (rows a.form) a.o.now a.s.now z.judgeable)
 
 pub take_block-requires : goal.take_block-requires
 take_block-requires c =
     let a = c.args in
-    let z = subst (OpenedAs (rows a.form) a.o.now a.s.now) c.in-Block.is c.opened-h.ensures in
+    let z = subst (OpenedAs (rows a.form) a.o.now a.s.now) c.in-Ok.is c.opened.ensures in
     let e = c.track_of-t.ensures in
     rw e z.judgeable
 
-pub returns-in-Refused : goal.returns-in-Refused
-returns-in-Refused c =
+pub returns-in-Err : goal.returns-in-Err
+returns-in-Err c =
     let a = c.args in
-    let z = subst (OpenedAs (rows a.form) a.o.now a.s.now) c.in-Refused.is c.opened-h.ensures in
+    let z = subst (OpenedAs (rows a.form) a.o.now a.s.now) c.in-Err.is c.opened.ensures in
     answered-on (c.refuse.ensures _ a.output.now) (z a.output.now)
 
-pub returns-in-Block : goal.returns-in-Block
-returns-in-Block c =
+pub returns-in-Ok : goal.returns-in-Ok
+returns-in-Ok c =
     let a = c.args in
-    let z = subst (OpenedAs (rows a.form) a.o.now a.s.now) c.in-Block.is c.opened-h.ensures in
+    let z = subst (OpenedAs (rows a.form) a.o.now a.s.now) c.in-Ok.is c.opened.ensures in
     answered-on c.take_block.ensures (z.goes_on a.output.now)

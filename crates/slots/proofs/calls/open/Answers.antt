@@ -2,11 +2,15 @@
 use Rattle.slots.specs.Share.{asked}
 use Rattle.slots.specs.Table.{itself}
 use Rattle.slots.specs.Calls.{opening}
+use Rattle.std.proofs.lemmas.Result.{err_from_is_err_and}
 use Rattle.slots.proofs.TableLaws.{no-place, on-place}
 use Rattle.slots.proofs.calls.open.Goals as goal
 
-pub returns-in-Err : goal.returns-in-Err
-returns-in-Err c = let a = c.args in no-place itself (opening a.side (asked a.track a.timescale a.description a.duration a.size a.flags a.protection a.iv_size)) a.table.now a.slot c.in-Err.ensures.place
+pub returns-in_err-at : goal.returns-in_err-at
+returns-in_err-at c =
+    let a = c.args in
+    let p = err_from_is_err_and c.from_residual.result c.from_residual.ensures.1 in
+    rw (p.1, p.2) (no-place itself (opening a.side (asked a.track a.timescale a.description a.duration a.size a.flags a.protection a.iv_size)) a.table.now a.slot c.in_err-at.ensures.place)
 
 pub returns : goal.returns
-returns c = let a = c.args in on-place itself (opening a.side (asked a.track a.timescale a.description a.duration a.size a.flags a.protection a.iv_size)) a.table.now a.slot c.in-Ok.ensures.place _ _ c.open_share.ensures
+returns c = let a = c.args in on-place itself (opening a.side (asked a.track a.timescale a.description a.duration a.size a.flags a.protection a.iv_size)) a.table.now a.slot c.in_ok-at.ensures.place _ _ c.open_share.ensures
