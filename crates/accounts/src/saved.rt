@@ -15,7 +15,7 @@ pub struct Saved {
 const MOST: u64 = 0x4_0000_0000_0000;
 
 // The part in tenths of a percent of the whole, rounded to the nearest.
-fn tenths(part: u64, whole: u64) -> u64
+pub fn tenths(part: u64, whole: u64) -> u64
     ensures none { whole ≡ 0 → result ≡ 0 }
     ensures nearest { 0 < whole → IsNearest result (1000 * min part MOST) (min whole MOST) }
 {

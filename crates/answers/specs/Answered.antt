@@ -1,6 +1,6 @@
 -- What a chunk or an object is answered with, as the code hands it up.
 -- ==== What only mirrors the code
-use Rattle.std.specs.Prelude.{ℕ, ◌+◌, ◌≤◌, ◌≡◌, List, length, Result, Ok, Err}
+use Rattle.std.specs.Prelude.{ℕ, ◌+◌, ◌≤◌, ◌≡◌, List, [], length, Result, Ok, Err}
 use Rattle.std.proofs.Math.Seq.{slice}
 use Rattle.refusal.specs.declared.Refusal.{Refusal}
 use Rattle.refusal.specs.Numbers.{number_of}
@@ -22,6 +22,11 @@ end_of (Err r) = 0
 pub record AnsweredAs (is : Out Took) (lent : List ℕ) (a : Result Answer Refusal) (output s : List ℕ) : Type 0 where
   pub so : out (handed lent a output) s ≡ is
   pub inside : end_of a ≤ length lent
+
+-- what a call hands back of the lent bytes
+abbrev pub payload_in : Result Handed Refusal → List ℕ
+payload_in (Ok h) = h.payload.now
+payload_in (Err r) = []
 
 -- what a call hands out, beside what it leaves in the output
 abbrev pub given : Result Handed Refusal → List ℕ → Took

@@ -1,8 +1,10 @@
 // What a chunk or an object is answered with, before it is handed out and then.
 ghost use Rattle.std.specs.Prelude.{◌≡◌, ◌+◌, ◌≤◌, length};
 ghost use Rattle.std.proofs.Math.Seq.{slice};
+ghost use Rattle.answers.specs.Answered.{payload_in};
 
 use byte_parts::Part;
+use refusal::Refusal;
 
 // The front's length, and where the payload stands in what was lent.
 #[derive(Clone, Copy)]
@@ -28,5 +30,15 @@ pub fn hand_out<'a>(a: Answer, lent: &'a [u8]) -> Handed<'a>
     Handed {
         front: a.front,
         payload: &lent[from..from + a.payload.len],
+    }
+}
+
+// What a call hands back of the bytes that it was lent: the payload, or on a refusal no byte at their front.
+pub fn payload_of<'a>(given: &Result<Handed<'a>, Refusal>, lent: &'a [u8]) -> &'a [u8]
+    ensures { result.now ≡ payload_in given.now }
+{
+    match given {
+        Ok(h) => h.payload,
+        Err(_) => &lent[..0],
     }
 }

@@ -1,27 +1,24 @@
 // What a refused object leaves of its share.
 // Letters: `s` the words of a share.
 ghost use Rattle.std.specs.Prelude.{◌≡◌, length};
-ghost use Rattle.refusal.specs.Numbers.{number_of};
 ghost use Rattle.share_words.specs.Share.{share_len};
 ghost use Rattle.answers.specs.Refusals.{dropped_by, after_refusal};
 
-use refusal::Refusal;
 use share_words::share;
 
 // 12 to 16 and 21 drop the reference: what the object was read against can't be told any more.
-fn drops(r: Refusal) -> bool
-    ensures { result ≡ dropped_by (number_of r) }
+fn drops(number: u64) -> bool
+    ensures { result ≡ dropped_by number }
 {
-    let number = r.number();
     ((12 <= number) & (number <= 16)) | (number == 21)
 }
 
-// The share after a refusal; every other than these changes nothing.
-pub fn leave(r: Refusal, s: &mut [u64])
+// The share after a refusal with the number; every other number changes nothing.
+pub fn leave(number: u64, s: &mut [u64])
     requires { length s.old ≡ share_len }
-    ensures { s.new ≡ after_refusal (number_of r) s.old }
+    ensures { s.new ≡ after_refusal number s.old }
 {
-    if drops(r) {
+    if drops(number) {
         share::drop_reference(s);
     }
 }

@@ -1,5 +1,5 @@
 -- Laws of boxes and of runs of 32-bit words. Assumes nothing.
-use Prim.Native.Nat.{ℕ, ◌+◌, ◌*◌, ◌/◌, ◌^◌, ◌≤◌, ◌<◌}
+use Prim.Native.Nat.{ℕ, ◌+◌, ◌*◌, ◌/◌, ◌^◌, ◌<◌}
 use native.Mathlib.Numerals.{add-one}
 use native.Mathlib.Omega.{arith}
 use mathlib.Core.Path.{◌≡◌, refl, sym, ◌∙◌, ap}
@@ -9,19 +9,12 @@ use lib.Seq.{take-suc}
 use Rattle.laws.specs.Bytes.{be}
 use Rattle.laws.specs.Writes.{Wrote}
 use Rattle.laws.proofs.BytesLaws.{length-be, be-split}
-use borrow.Rule.Slice.PartMut.{put_mid}
-use Rattle.laws.proofs.StoreLaws.{put-whole}
-use Rattle.laws.proofs.WriteLaws.{then, wrote_as, wrote-sets}
+use Rattle.laws.proofs.WriteLaws.{then, wrote_as}
 use Rattle.boxes.specs.Box.{words, box, full_box}
 
 -- the high half of a number, and then the low one
 pub halves : {l m n : List ℕ} {at p q : ℕ} (k v : ℕ) → Wrote l at (be k (v / 256 ^ k)) m p → Wrote m p (be k v) n q → Wrote l at (be (k + k) v) n q
 halves k v p q = wrote_as (sym (be-split k k v)) (then p q)
-
--- a part that was lent, and holds just what is to be written
-pub wrote-part : (l : List ℕ) (at k : ℕ) (vs : List ℕ) {ys : List ℕ} → ys ≡ vs → k ≡ length vs → at + length vs ≤ length l
-    → Wrote l at vs (put_mid at k l ys) (at + length vs)
-wrote-part l at k vs e n h = rw (e, put-whole at k l vs n h) (wrote-sets l at vs h)
 
 -- ---- words
 

@@ -55,7 +55,11 @@ pub fn put_bytes(out: &mut [u8], at: usize, src: &[u8]) -> usize
     requires { at + length src.now ≤ length out.old }
     ensures { Wrote out.old at src.now out.new result }
 {
-    let end = at + src.len();
-    out[at..end].copy_from_slice(src);
-    end
+    // Counted, as `copy` of `word_spans`: a slice's own copy asks the host for memmove.
+    let mut p = at;
+    for i in 0..src.len() {
+        out[p] = src[i];
+        p += 1;
+    }
+    p
 }

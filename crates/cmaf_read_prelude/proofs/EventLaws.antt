@@ -5,8 +5,8 @@ use native.Mathlib.Omega.{arith}
 use mathlib.Core.Path.{◌≡◌, refl, sym, ◌∙◌, ap, ap₂, subst}
 use mathlib.Core.Bool.{true}
 use mathlib.Core.List.{List, [], ◌∷◌, ◌++◌, append_assoc}
-use lib.ListN.{length, get_or, drop, length-append, length-drop}
-use lib.Seq.{sets, sets-eq, length-sets, get_or-drop, drop-drop, drop_at}
+use lib.ListN.{length, get_or, set, drop, length-append, length-drop, length-set, drop_of_length-le}
+use lib.Seq.{sets, sets-eq, length-sets, drop-cons, get_or-drop, drop-drop, drop_at}
 use Rattle.laws.specs.Bytes.{Bytes}
 use Rattle.laws.specs.Tests.{no_zero}
 use Rattle.laws.proofs.StoreLaws.{sets-append}
@@ -21,6 +21,33 @@ use Rattle.cmaf_read_prelude.specs.Emsg.{zero_from, scheme_at, scheme_end, value
 use Rattle.cmaf_read_prelude.proofs.NumberLaws.{number_lt}
 use Rattle.cmaf_read_prelude.proofs.ZeroLaws.{zero-text}
 use Rattle.cmaf_read_prelude.proofs.EmsgLaws.{Strings, strings, scheme-is, value-is, emsg-inside, emsgs-step}
+
+-- ---- words that are stored one after another
+
+-- the words before the one with the number i are stored in m
+pub record Storing (l : List ℕ) (at : ℕ) (ws m : List ℕ) (i : ℕ) : Type 0 where
+  pub high : i ≤ length ws
+  pub room : at + length ws ≤ length m
+  pub same : length m ≡ length l
+  pub rest : sets m (at + i) (drop i ws) ≡ sets l at ws
+
+module _ (l : List ℕ) (at : ℕ) (ws : List ℕ) where
+  pub storing-start : at + length ws ≤ length l → Storing l at ws l 0
+  storing-start h = record { high = omega arith; room = h; same = refl; rest = rw add-zero }
+
+  module _ (m : List ℕ) (i : ℕ) (h : Storing l at ws m i) where
+    -- one word more
+    pub storing-next : i < length ws → Storing l at ws (set m (at + i) (get_or ws i 0)) (i + 1)
+    storing-next lt =
+        let e : at + (i + 1) ≡ suc (at + i) = omega arith in
+        let f : i + 1 ≡ suc i = omega arith in
+        let n : length (set m (at + i) (get_or ws i 0)) ≡ length m = length-set m (at + i) (get_or ws i 0) in
+        let run : sets (set m (at + i) (get_or ws i 0)) (at + (i + 1)) (drop (i + 1) ws) ≡ sets m (at + i) (drop i ws) = rw (e, f, drop-cons ws i 0 lt) in
+        record { high = omega arith; room = omega (arith, n, h.room); same = n ∙ h.same; rest = run ∙ h.rest }
+
+    -- none is left
+    pub storing-end : length ws ≤ i → m ≡ sets l at ws
+    storing-end le = rw (drop_of_length-le ws le) at h.rest
 
 -- ---- the words of one event
 

@@ -62,8 +62,10 @@ fn store(out: &mut [u64], at: usize, words: &[u64])
     ensures out_after { out.new ≡ sets out.old at words.now }
     ensures out_len_unchanged { length out.new ≡ length out.old }
 {
-    let end = at + words.len();
-    out[at..end].copy_from_slice(words);
+    // Counted, as `copy` of `word_spans`: a slice's own copy asks the host for memmove.
+    for i in 0..words.len() {
+        out[at + i] = words[i];
+    }
 }
 
 // Keeps an event in the ten words from the place on, in the order of their places: where its texts stand and how long they are, and its numbers as

@@ -99,13 +99,14 @@ pub record WrittenAs (F : List Row) (s c : List ℕ) (a : Plan) (k : Chunk) (x o
   pub written : Wrote output 0 (object_of F s c a.delta) after r.front
   pub kept : words ≡ kept_words a.delta (get_or s accepted_at 0) k.prft x k.payload.len s
 
--- the plan: 0 and the kind of object with its block's length, or 9
+-- the plan of an object: its kind, and its block's length
 pub record Planned (F : List Row) (s c : List ℕ) (wish : Bool) (a : Plan) : Type 0 where
   pub kind : a.delta ≡ gives_delta F s c wish
   pub all-fit : is_some (block_items F s c a.delta) ≡ true
   pub block : a.block ≡ length (bytes_of F (block_items F s c a.delta))
   pub small : a.block ≤ weight_most
 
+-- a plan, or none: 9
 pub record PlannedAs (F : List Row) (s c : List ℕ) (wish : Bool) (o : Option Plan) : Type 0 where
   pub answered : is_some o ≡ fits_ok F s c wish
   pub plan : IfSome o (Planned F s c wish)

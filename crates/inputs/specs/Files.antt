@@ -3,9 +3,9 @@ use Rattle.std.specs.Prelude.{ℕ, ◌≡◌, ◌≤◌, List, [], ◌∷◌, �
 use Rattle.std.specs.Str.Parse.{IsNumeral, digits_value}
 use Rattle.inputs.specs.Numbers.{first_word}
 
--- the path of a file in a folder, with a slash between; no bytes where it would have more than 4096
-abbrev pub path_in : List ℕ → List ℕ → List ℕ
-path_in folder name = let path = folder ++ (47 ∷ name) in if nat_le (length path) 4096 then path else []
+-- the path of a file in a folder, with a slash between; no bytes where it would have more than so many
+abbrev pub path_in : ℕ → List ℕ → List ℕ → List ℕ
+path_in most folder name = let path = folder ++ (47 ∷ name) in if nat_le (length path) most then path else []
 
 -- the line's first word is the number n, and a chunk may have so many bytes
 abbrev pub IsLengthOf : List ℕ → ℕ → Type 0

@@ -1,11 +1,12 @@
 // A track's files.
 // Letters: `rt` the runtime, `err` standard error.
-ghost use Rattle.std.specs.Prelude.{◌≡◌, ◌≤◌, ◌<◌, codes, vec_len, IfErr, IfOk, MatchResult};
+ghost use Rattle.std.specs.Prelude.{◌≡◌, ◌≤◌, ◌<◌, codes, length, vec_len, IfErr, IfOk, MatchResult};
 ghost use Rattle.std.specs.Io.KnownBytes.{Consumes};
 ghost use Rattle.inputs.specs.Errors.{BlamesAtMost, BlamesAtMostLine, IsOfLine, SaysGoesOn};
 ghost use Rattle.inputs.specs.Files.{IsLengthOf, path_in};
 ghost use Rattle.inputs.specs.Numbers.{IsBelowLimit};
 
+use crate::arguments::WORD;
 use crate::errors::{Error, Wrong};
 use crate::numbers;
 use std::alloc::{AllocError, Global};
@@ -20,9 +21,6 @@ pub const LINES: &'static str = "chunks.txt";
 
 pub const CHUNKS: &'static str = "chunks.bin";
 
-// The bytes that a path may have.
-const PATH: usize = 4096;
-
 // The bytes that params.txt and the list of the bundled tracks may have, those that chunks.txt may have, and those that a chunk may have.
 const SHORT: u64 = 4095;
 
@@ -33,18 +31,20 @@ const CHUNK: u64 = 262144;
 // The system's number for a path with a NUL in it.
 const NO_PATH: i32 = 22;
 
-// The path of a file in a folder; no bytes where it is too long for one.
-pub fn path_of(alloc: Global, folder: &[u8], name: &[u8]) -> Result<Vec<u8>, AllocError>
-    ensures { IfOk result (λ v. v.items ≡ path_in folder.now name.now) }
+// The path of a file in a folder, put into the room that is lent for it; no bytes where it is too long for that.
+pub fn path_of<'a>(folder: &[u8], name: &[u8], room: &'a mut [u8]) -> &'a [u8]
+    ensures { result.now ≡ path_in (length room.old) folder.now name.now }
 {
-    let mut path = Vec::new(alloc);
-    path.extend_from_slice(folder)?;
-    path.push(b'/')?;
-    path.extend_from_slice(name)?;
-    if path.len() > PATH {
-        path.clear();
+    let slash = folder.len();
+    let end = slash.saturating_add(1).saturating_add(name.len());
+    if room.len() < end {
+        return &room[..0];
     }
-    Ok(path)
+    let path = &mut room[..end];
+    path[..slash].copy_from_slice(folder);
+    path[slash] = b'/';
+    path[slash + 1..].copy_from_slice(name);
+    path
 }
 
 fn opened<R: Files>(rt: &R, path: &[u8]) -> io::Result<R::File> {
@@ -74,8 +74,8 @@ pub fn open<R: Files + AllocGlobal>(
 ) -> Result<R::File, Error>
     ensures { IfErr result (λ e. BlamesAtMost name.now e) }
 {
-    let path = path_of(rt.alloc(), folder, name.as_bytes())?;
-    match opened(rt, &path) {
+    let mut room = [0u8; WORD];
+    match opened(rt, path_of(folder, name.as_bytes(), &mut room)) {
         Ok(file) => Ok(file),
         Err(e) => Err(Error::Bad(name, Wrong::Closed(words_of(rt.alloc(), e)?))),
     }
@@ -145,15 +145,23 @@ fn length_of(line: &[u8], i: u64) -> Result<usize, Wrong>
     }
 }
 
-// The next chunk of chunks.bin, for which a line of chunks.txt stands, counted from 1.
-pub fn chunk<F: Read>(alloc: Global, file: &mut F, line: &[u8], i: u64) -> Result<Vec<u8>, Error>
-    ensures length { IfOk result (λ v. IsLengthOf line.now (vec_len v)) }
-    ensures bytes { IfOk result (λ v. Consumes (F.remaining file.old) (F.remaining file.new) v.items) }
+// The next chunk of chunks.bin, for which a line of chunks.txt stands, counted from 1: in the room that is lent for it, which grows where it is too small.
+pub fn chunk<'a, F: Read>(
+    file: &mut F,
+    line: &[u8],
+    i: u64,
+    room: &'a mut Vec<u8>,
+) -> Result<&'a [u8], Error>
+    ensures length { IfOk result (λ v. IsLengthOf line.now (length v.now)) }
+    ensures bytes { IfOk result (λ v. Consumes (F.remaining file.old) (F.remaining file.new) v.now) }
     ensures err { IfErr result (λ e. BlamesAtMostLine LINES.now i e) }
 {
     let length = length_of(line, i).map_err(|w| Error::Bad(LINES, w))?;
-    let mut chunk = vec![in alloc; 0u8; length]?;
-    match file.read_exact(&mut chunk) {
+    if room.len() < length {
+        room.resize(length, 0)?;
+    }
+    let chunk = &mut room[..length];
+    match file.read_exact(chunk) {
         Ok(()) => Ok(chunk),
         Err(_) => Err(Error::Bad(LINES, Wrong::CutChunk(i))),
     }
@@ -171,18 +179,11 @@ pub fn end<F: Read>(file: &mut F) -> Result<(), Error>
 
 // A sentence on standard error: which file is bad, and why. What can't be written there is left out: there is no other place to say it, and the verdict on standard
 // output says enough.
-pub fn tell<E: Print>(
-    alloc: Global,
-    err: &E,
-    folder: &[u8],
-    name: &'static str,
-    wrong: &Wrong,
-) -> Result<(), AllocError> {
-    let path = path_of(alloc, folder, name.as_bytes())?;
+pub fn tell<E: Print>(err: &E, folder: &[u8], name: &'static str, wrong: &Wrong) {
+    let mut room = [0u8; WORD];
     let _ = err.print("relay: ");
-    let _ = err.write_all(&path);
+    let _ = err.write_all(path_of(folder, name.as_bytes(), &mut room));
     let _ = err.println(format_args!(": {wrong}"));
-    Ok(())
 }
 
 #[cfg(test)]
@@ -192,18 +193,23 @@ mod tests {
 
     #[test]
     fn joins_paths(rt: HostRuntime) -> Result<(), Fail> {
-        let path = path_of(rt.alloc(), b"captures/a", b"params.txt")?;
-        assert_eq!(rt; path.as_slice(), b"captures/a/params.txt".as_slice());
-        let long = vec![in rt.alloc(); b'a'; PATH]?;
-        assert!(rt; path_of(rt.alloc(), &long, b"b")?.is_empty());
+        let mut room = [0u8; WORD];
+        let path = path_of(b"captures/a", b"params.txt", &mut room);
+        assert_eq!(rt; path, b"captures/a/params.txt".as_slice());
+        let long = vec![in rt.alloc(); b'a'; WORD]?;
+        assert!(rt; path_of(&long, b"b", &mut room).is_empty());
+        let mut three = [0u8; 3];
+        assert_eq!(rt; path_of(b"a", b"b", &mut three), b"a/b".as_slice());
+        assert!(rt; path_of(b"a", b"bc", &mut three).is_empty());
         Ok(())
     }
 
     #[test]
     fn cuts_chunks(rt: HostRuntime) -> Result<(), Fail> {
         let mut file: &[u8] = b"chunk, tail";
-        let first = chunk(rt.alloc(), &mut file, b"5 sync\n", 1)?;
-        assert_eq!(rt; first.as_slice(), b"chunk".as_slice());
+        let mut room = Vec::new(rt.alloc());
+        let first = chunk(&mut file, b"5 sync\n", 1, &mut room)?;
+        assert_eq!(rt; first, b"chunk".as_slice());
         assert!(rt; matches!(end(&mut file), Err(Error::Bad(CHUNKS, Wrong::GoesOn))));
         for (line, i) in [
             (b"0\n".as_slice(), 2),
@@ -211,7 +217,7 @@ mod tests {
             (b"9", 4),
             (b"+1", 5),
         ] {
-            assert!(rt; chunk(rt.alloc(), &mut file, line, i).is_err(), "at {i}");
+            assert!(rt; chunk(&mut file, line, i, &mut room).is_err(), "at {i}");
         }
         let mut none: &[u8] = b"";
         end(&mut none)?;
@@ -228,7 +234,7 @@ mod tests {
         assert_eq!(rt; asked.iv_size, 16);
         assert_eq!(rt; lines(&rt, b"out/t")?.as_slice(), b"5 sync\n".as_slice());
         assert!(rt; open(&rt, b"out/t", LINES).is_ok());
-        tell(rt.alloc(), &rt.stderr(), b"out/t", LINES, &Wrong::Empty)?;
+        tell(&rt.stderr(), b"out/t", LINES, &Wrong::Empty);
         let missing = bundled(&rt);
         assert!(rt; matches!(&missing, Err(Error::Bad("tracks.txt", Wrong::Closed(_)))));
         fs::remove_dir_all(&rt, "out/t")?;

@@ -10,17 +10,24 @@ use track::Asked;
 const LIMIT: u64 = 10_000_000_000_000_000_000;
 
 // Whether a byte parts words: a space, a tab or the end of a line.
-fn is_blank(b: &u8) -> bool
-    ensures { result ≡ is_blank b.now }
+pub fn is_blank(b: u8) -> bool
+    ensures { result ≡ is_blank b }
 {
     matches!(b, b' ' | b'\t' | b'\r' | b'\n')
+}
+
+// The same of a byte as it stands in text.
+fn parts_words(b: &u8) -> bool
+    ensures { result ≡ is_blank b.now }
+{
+    is_blank(*b)
 }
 
 // The word that a line begins with; no bytes where it is empty or begins with a blank.
 pub fn first_word(line: &[u8]) -> &[u8]
     ensures { result.now ≡ first_word line.now }
 {
-    line.split(is_blank).next().unwrap_or(b"")
+    line.split(parts_words).next().unwrap_or(b"")
 }
 
 // The decimal number that a word is. `parse` takes a sign too.
@@ -38,7 +45,7 @@ pub fn number(word: &[u8]) -> Option<u64>
 pub fn params(text: &[u8]) -> Option<Asked>
     ensures { IfSome result (λ a. IsBelowLimit a) }
 {
-    let mut words = text.split(is_blank).filter(|w| !w.is_empty());
+    let mut words = text.split(parts_words).filter(|w| !w.is_empty());
     let mut numbers = [0; 8];
     for n in &mut numbers {
         *n = number(words.next()?)?;

@@ -17,27 +17,27 @@ ghost use Rattle.encoder.specs.Encode.{wished, encoding};
 ghost use Rattle.receiver.specs.Receive.{receiving};
 ghost use Rattle.locmaf.specs.Told.{told, tell};
 
+use answers::answer;
 use answers::answer::Handed;
 use refusal::{Refusal, number_in};
 use slots::lawful::Side;
 
-// The number and the front's length as C gets them; and the payload's length.
-fn told_to(r: Result<Handed<'_>, Refusal>, number: &mut u64, front: &mut u64) -> u64
+// The number and the front's length as C gets them; and the length of the part of the lent bytes that is handed back.
+fn told_to<'a>(
+    r: Result<Handed<'a>, Refusal>,
+    lent: &'a [u8],
+    number: &mut u64,
+    front: &mut u64,
+) -> u64
     ensures { (output table : List ℕ)
         → told number.new front.new result output table ≡ tell (out (given r.entry output) table) }
 {
-    match r {
-        Ok(h) => {
-            *number = 0;
-            *front = h.front;
-            h.payload.len() as u64
-        }
-        Err(why) => {
-            *number = why.number();
-            *front = 0;
-            0
-        }
-    }
+    *number = number_in(&r);
+    *front = match r {
+        Ok(h) => h.front,
+        Err(_) => 0,
+    };
+    answer::payload_of(&r, lent).len() as u64
 }
 
 // ---- the encoder
@@ -111,7 +111,7 @@ pub fn locmaf_encode(
         table.old slot) }
 {
     let r = encoder::encode::encode(table, slot, wish, chunk, output);
-    told_to(r, number, front)
+    told_to(r, chunk, number, front)
 }
 
 // ---- the receiver
@@ -184,5 +184,5 @@ pub fn locmaf_receive(
         table.old slot) }
 {
     let r = receiver::receive::receive(table, slot, object, output);
-    told_to(r, number, front)
+    told_to(r, object, number, front)
 }

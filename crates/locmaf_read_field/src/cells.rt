@@ -30,7 +30,7 @@ pub struct Cell {
     pub within: bool,
 }
 
-fn well() -> Cell
+pub fn well() -> Cell
     ensures { result ≡ right }
 {
     Cell {

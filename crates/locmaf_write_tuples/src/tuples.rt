@@ -16,6 +16,9 @@ use wire::zigzag::Coding;
 // A weight is what a part of an object takes: its bytes, if each of its numbers fits. Everything is weighed before anything is written, since one
 // number too wide decides between a delta, a full object and a refusal.
 
+// What has a number too wide has no weight.
+const TOO_WIDE: Option<usize> = None;
+
 // Two parts, neither of which is long.
 pub fn both(a: Option<usize>, b: Option<usize>) -> Option<usize>
     requires { (unwrap_or a 0 ≤ weight_most) × (unwrap_or b 0 ≤ weight_most) }
@@ -34,7 +37,9 @@ pub fn number_size(form: Form, stands: bool, id: u64, c: Option<u64>) -> Option<
     if !stands {
         return Some(0);
     }
-    let z = c?;
+    let Some(z) = c else {
+        return TOO_WIDE;
+    };
     Some(wire::varint::size(form, id) + wire::varint::size(form, z))
 }
 
@@ -91,7 +96,9 @@ pub fn run_size(
     ensures { WeighedAs (rows form) (run_item (rows form) coding id base old.now new.now)
         (pair_most + 8 * length new.now) result }
 {
-    let n = runs::measure(form, coding, new, old, base)?;
+    let Some(n) = runs::measure(form, coding, new, old, base) else {
+        return TOO_WIDE;
+    };
     Some(body_size(form, id, n))
 }
 

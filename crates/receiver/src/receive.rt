@@ -35,7 +35,7 @@ fn refuse(s: &mut [u64], r: Refusal) -> Result<Answer, Refusal>
     ensures { (o output : List ℕ)
         → AnsweredAs (refusing output s.old (number_of r)) o result output s.new }
 {
-    answers::refusals::leave(r, s);
+    answers::refusals::leave(r.number(), s);
     Err(r)
 }
 

@@ -7,7 +7,7 @@ use crate::passage::Passage;
 use crate::tables::{SECOND, Tables};
 use accounts::joins::Join;
 use share_words::share::{HELD, SHARE};
-use std::alloc::{AllocError, Global};
+use std::alloc::AllocError;
 
 // Whether the first two slots of a table keep the same reference: all words of their shares behind the parameters and the count.
 fn same_reference(table: &[u64]) -> bool {
@@ -16,13 +16,13 @@ fn same_reference(table: &[u64]) -> bool {
 
 // Whether two receivers made the same of an object but for the number in the `mfhd`, and by how much the second one's is less. Of an object that both refuse there
 // is no chunk.
-fn compared(first: &Answer, second: &Answer) -> (bool, Option<u64>) {
+fn compared(first: Answer<'_>, second: Answer<'_>) -> (bool, Option<u64>) {
     match (first, second) {
         (Ok(a), Ok(b)) => {
             if a.front != b.front || a.bytes.len() != b.bytes.len() {
                 return (false, None);
             }
-            let c = mfhd_numbers::compare(a.front, &a.bytes, &b.bytes);
+            let c = mfhd_numbers::compare(a.front, a.bytes, b.bytes);
             (c.same, Some(c.less))
         }
         (Err(a), Err(b)) => (a == b, None),
@@ -32,19 +32,19 @@ fn compared(first: &Answer, second: &Answer) -> (bool, Option<u64>) {
 
 // After a chunk that became an object: the second receiver, in another slot of its table, gets it too, if it has started or starts now, at full object `at`.
 pub fn follow(
-    alloc: Global,
     j: &mut Join,
     at: u64,
     chunk: u64,
-    first: &Passage,
+    first: Passage<'_>,
     tables: &mut Tables,
+    other: &mut Vec<u8>,
 ) -> Result<(), AllocError> {
     if first.rebuilt.is_ok() && !first.sent.delta {
         j.count_full(at, chunk);
     }
     if j.chunk.is_some() {
-        let second = calls::receive(alloc, &mut tables.receiver, SECOND, &first.object)?;
-        let (same, less) = compared(&first.rebuilt, &second);
+        let second = calls::receive(&mut tables.receiver, SECOND, first.object, other)?;
+        let (same, less) = compared(first.rebuilt, second);
         j.count_object(chunk, same && same_reference(&tables.receiver), less);
     }
     Ok(())

@@ -19,9 +19,9 @@ use std::io;
 
 fn main(rt: HostRuntime) -> io::Result<()> {
     let err = rt.stderr();
-    match arguments::read(&rt, &err)? {
+    match arguments::read(&rt, &err) {
         Request::Run(options) => {
-            let total = tracks::run(&rt, &err, &options)?;
+            let total = tracks::run(&rt, &err, options)?;
             report::all(&rt, options.join, &total)
         }
         Request::Help => usage::usage(&rt),

@@ -70,7 +70,7 @@ pub fn drop_reference(s: &mut [u64])
     requires { length s.old ≡ share_len }
     ensures { s.new ≡ dropped s.old }
 {
-    s[HELD..].fill(0);
+    s[HELD..SHARE].fill(0);
 }
 
 // The whole share becomes 0.
@@ -78,5 +78,5 @@ pub fn wipe(s: &mut [u64])
     requires { length s.old ≡ share_len }
     ensures { s.new ≡ fresh }
 {
-    s.fill(0);
+    s[TRACK..SHARE].fill(0);
 }

@@ -1,3 +1,3 @@
 pub mod ScanLaws
 pub mod TotalLaws
-pub mod CopyLaws
+pub mod CopyLoop

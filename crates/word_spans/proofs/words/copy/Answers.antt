@@ -1,7 +1,11 @@
--- `word_spans::words::copy` meets its contract: the part of the words that it lends is all written.
-use native.Mathlib.Omega.{arith}
-use Rattle.word_spans.proofs.CopyLaws.{copied}
+use Rattle.word_spans.proofs.CopyLoop.{start, next, end}
 use Rattle.word_spans.proofs.words.copy.Goals as goal
 
+pub loop-i-init : goal.loop-i-init
+loop-i-init c = start _ _ _ _ _ c.requires
+
+pub loop-i-preserved : goal.loop-i-preserved
+loop-i-preserved c = next _ _ _ _ _ _ _ c.loop-i.invariant c.loop-i-test.true
+
 pub returns : goal.returns
-returns c = copied c.args.r.now c.args.from c.args.n _ _ _ c.copy_from_slice.ensures.after (omega arith) c.requires
+returns c = end _ _ _ _ _ _ _ c.loop-i.invariant c.loop-i-test.false
